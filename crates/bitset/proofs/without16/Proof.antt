@@ -1,0 +1,22 @@
+-- `bitset::without16` is `without`: past the width there is no member to take. Assumes nothing.
+use borrow.Author.Needs.{needs}
+use native.Mathlib.Omega.{arith}
+use mathlib.Core.Path.{sym}
+use Rattle.bitset.proofs.Words.{without-code, without-past}
+use Rattle.bitset.proofs.without16.Statement.{statement}
+use Rattle.bitset.proofs.without16.Tie as tie
+
+returns : tie.Need-returns
+returns c = sym (without-past 16 _ _ (omega arith) (omega arith))
+
+cast-result : tie.Need-cast-result
+cast-result c = search needs
+
+shl-result : tie.Need-shl-result
+shl-result c = search needs
+
+returns-2 : tie.Need-returns-2
+returns-2 c = without-code 16 _ _ (omega arith) (omega arith)
+
+pub without16-spec : {M : Type 1} → statement M
+without16-spec = tie.close (tie.spec returns cast-result shl-result returns-2)

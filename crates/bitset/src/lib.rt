@@ -1,0 +1,94 @@
+// Sets of small numbers, each held as one unsigned integer: member `i` is bit `i`.
+//
+// Each function equals the operation of the same name in specs/Sets, which is free of the width. `has`, `without`,
+// `contains`, `join` and `minus` take any arguments; `with` alone has a `requires`, since a set of w bits has no
+// place for a member past it. Assumes nothing.
+ghost use mathlib.Core.Path.{_≡_};
+ghost use Prim.Native.Nat.{_<_};
+ghost use Rattle.bitset.specs.Sets.{has, with, without, contains, join, minus};
+
+// Whether `i` is a member; no number past the width is.
+pub fn has16(s: u16, i: u32) -> bool
+    ensures { λ r. ⌜ r ≡ has s i ⌝ }
+{
+    if 16 <= i {
+        return false;
+    }
+    (s >> i) & 1 == 1
+}
+
+pub fn has64(s: u64, i: u32) -> bool
+    ensures { λ r. ⌜ r ≡ has s i ⌝ }
+{
+    if 64 <= i {
+        return false;
+    }
+    (s >> i) & 1 == 1
+}
+
+// `s` and the member `i`.
+pub fn with16(s: u16, i: u32) -> u16
+    requires { ⌜ i < 16 ⌝ }
+    ensures { λ r. ⌜ r ≡ with s i ⌝ }
+{
+    s | (1 << i)
+}
+
+pub fn with64(s: u64, i: u32) -> u64
+    requires { ⌜ i < 64 ⌝ }
+    ensures { λ r. ⌜ r ≡ with s i ⌝ }
+{
+    s | (1 << i)
+}
+
+// `s` less the member `i`; a number past the width was none.
+pub fn without16(s: u16, i: u32) -> u16
+    ensures { λ r. ⌜ r ≡ without s i ⌝ }
+{
+    if 16 <= i {
+        return s;
+    }
+    s & !(1 << i)
+}
+
+pub fn without64(s: u64, i: u32) -> u64
+    ensures { λ r. ⌜ r ≡ without s i ⌝ }
+{
+    if 64 <= i {
+        return s;
+    }
+    s & !(1 << i)
+}
+
+// Whether each member of `b` is one of `a`.
+pub fn contains8(a: u8, b: u8) -> bool
+    ensures { λ r. ⌜ r ≡ contains a b ⌝ }
+{
+    a & b == b
+}
+
+pub fn contains16(a: u16, b: u16) -> bool
+    ensures { λ r. ⌜ r ≡ contains a b ⌝ }
+{
+    a & b == b
+}
+
+pub fn contains64(a: u64, b: u64) -> bool
+    ensures { λ r. ⌜ r ≡ contains a b ⌝ }
+{
+    a & b == b
+}
+
+// The members of either.
+pub fn join8(s: u8, m: u8) -> u8
+    ensures { λ r. ⌜ r ≡ join s m ⌝ }
+{
+    s | m
+}
+
+// The members of `s` that are none of `m`.
+pub fn minus8(s: u8, m: u8) -> u8
+    ensures { λ r. ⌜ r ≡ minus s m ⌝ }
+{
+    s & !m
+}

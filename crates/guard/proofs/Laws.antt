@@ -1,0 +1,2 @@
+-- One file a subject, named after the file of specs/ whose definitions it speaks of.
+pub mod Morning

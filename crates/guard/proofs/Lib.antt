@@ -1,0 +1,3 @@
+-- Laws of the definitions in specs/, and what the code and the theorems rest on.
+pub mod Compute
+pub mod Laws

@@ -1,0 +1,147 @@
+-- Numbers handed back, by who brings them on: the condition of each. 1 and 2 stand in Step, 17 is the request program's.
+use Prim.Native.Nat.{ℕ}
+use mathlib.Core.Bool.{Bool, not}
+use mathlib.Core.List.{[], _∷_}
+use lib.Dec.{ltb, eqb}
+use Rattle.bitset.specs.Tests.{every, either, some}
+use Rattle.guard.specs.Level.{entityCount, sessionLevel, roleLevel, entityLevel, keeperOf}
+use Rattle.guard.specs.Label.{label, dominates, sameLabel}
+use Rattle.guard.specs.Tables.{userAt, sessionAt, roleAt, entityAt, container, read, write, execute, own, holds, isReading, isWriting, lists, hasRight, isChild}
+use Rattle.guard.specs.Chain.{parentOf, reaches}
+use Rattle.guard.specs.declared.Label.{Label}
+use Rattle.guard.specs.declared.Tables.{Tables}
+use Rattle.guard.specs.declared.Request.{Request}
+
+-- the label asked for
+abbrev pub labelOf : Request → Label
+labelOf q = label (q .level) (q .cats)
+
+module _ (t : Tables) (q : Request) where
+  -- ---- The host program
+  -- 3 login: the seat is live.
+  abbrev pub seatLive : Bool
+  seatLive = sessionAt t (q .seat) .live
+
+  -- 4 login: the user's ceiling is below the seat's level, or the clearance does not dominate the label.
+  unfoldable pub pastUser : Bool
+  pastUser =
+      either (ltb (userAt t (q .user) .ceiling) (sessionLevel (q .seat)))
+      (not (dominates (userAt t (q .user) .clearance) (labelOf q)))
+
+  -- ---- The acting seat
+  -- 5 it is not live.
+  abbrev pub seatDead : Bool
+  seatDead = not (sessionAt t (q .seat) .live)
+
+  -- 9 the parent is no container.
+  abbrev pub parentNoContainer : Bool
+  parentNoContainer = not (eqb (entityAt t (q .parent) .kind) container)
+
+  -- 10 integrity. openr: e's level is below x's.
+  abbrev pub entityBelowSeat : Bool
+  entityBelowSeat = ltb (entityLevel (q .entity)) (sessionLevel (q .seat))
+
+  -- openw: x's is below e's.
+  abbrev pub seatBelowEntity : Bool
+  seatBelowEntity = ltb (sessionLevel (q .seat)) (entityLevel (q .entity))
+
+  abbrev pub roleBelowEntity : Bool
+  roleBelowEntity = ltb (roleLevel (q .role)) (entityLevel (q .entity))
+
+  -- create: e and parent differ in level, or the role is below e.
+  unfoldable pub createBelow : Bool
+  createBelow = either (not (eqb (entityLevel (q .entity)) (entityLevel (q .parent)))) roleBelowEntity
+
+  -- grant, revoke: x or the role is below e.
+  unfoldable pub grantBelow : Bool
+  grantBelow = either seatBelowEntity roleBelowEntity
+
+  -- list, unlist, make, unmake: x is below the role.
+  abbrev pub seatBelowRole : Bool
+  seatBelowRole = ltb (sessionLevel (q .seat)) (roleLevel (q .role))
+
+  -- 11 confidentiality. openr: x's label does not dominate e's.
+  abbrev pub labelBelowEntity : Bool
+  labelBelowEntity = not (dominates (sessionAt t (q .seat) .label) (entityAt t (q .entity) .label))
+
+  -- openw: the two differ.
+  abbrev pub labelOther : Bool
+  labelOther = not (sameLabel (sessionAt t (q .seat) .label) (entityAt t (q .entity) .label))
+
+  -- create: the new label does not dominate the parent's.
+  abbrev pub labelBelowParent : Bool
+  labelBelowParent = not (dominates (labelOf q) (entityAt t (q .parent) .label))
+
+  -- 12 take: x's user is not listed.
+  abbrev pub userUnlisted : Bool
+  userUnlisted = not (lists t (q .role) (sessionAt t (q .seat) .user))
+
+  -- create: x does not hold the role.
+  abbrev pub roleNotHeld : Bool
+  roleNotHeld = not (holds t (q .seat) (q .role))
+
+  -- list, unlist, make, unmake: x does not hold the keeper of the role's level.
+  abbrev pub keeperNotHeld : Bool
+  keeperNotHeld = not (holds t (q .seat) (keeperOf (roleLevel (q .role))))
+
+  -- 13 openr, openw: x lacks read or write on e, or does not reach e.
+  unfoldable pub cannotOpen : ℕ → Bool
+  cannotOpen right = either (not (hasRight t (q .seat) right (q .entity))) (not (reaches t (q .seat) (q .entity)))
+
+  -- create, delete, rename: x has not the parent open for writing, or lacks execute on it.
+  unfoldable pub cannotChange : ℕ → Bool
+  cannotChange parent = either (not (isWriting t (q .seat) parent)) (not (hasRight t (q .seat) execute parent))
+
+  -- grant, revoke: x lacks own on e.
+  abbrev pub notOwned : Bool
+  notOwned = not (hasRight t (q .seat) own (q .entity))
+
+  -- 16 it is so already: held, open in the way asked for, listed.
+  abbrev pub roleHeld : Bool
+  roleHeld = holds t (q .seat) (q .role)
+
+  abbrev pub openForReading : Bool
+  openForReading = isReading t (q .seat) (q .entity)
+
+  abbrev pub openForWriting : Bool
+  openForWriting = isWriting t (q .seat) (q .entity)
+
+  abbrev pub userListed : Bool
+  userListed = lists t (q .role) (q .user)
+
+  -- For drop, close, unlist: there is nothing to end. (drop: roleNotHeld)
+  unfoldable pub notOpen : Bool
+  notOpen = not (either (isReading t (q .seat) (q .entity)) (isWriting t (q .seat) (q .entity)))
+
+  abbrev pub userNotListed : Bool
+  userNotListed = not (lists t (q .role) (q .user))
+
+  -- ---- Anyone who acted earlier
+  -- 7 the entity, parent or role named is not live (for create, the parent or the role).
+  abbrev pub entityDead : Bool
+  entityDead = not (entityAt t (q .entity) .live)
+
+  abbrev pub parentDead : Bool
+  parentDead = not (entityAt t (q .parent) .live)
+
+  abbrev pub roleDead : Bool
+  roleDead = not (roleAt t (q .role) .live)
+
+  -- 8 the number to be made is live.
+  abbrev pub entityLive : Bool
+  entityLive = entityAt t (q .entity) .live
+
+  abbrev pub roleLive : Bool
+  roleLive = roleAt t (q .role) .live
+
+  -- 14 a child of that parent has the name, the entity itself included.
+  unfoldable pub nameTaken : ℕ → Bool
+  nameTaken parent = some entityCount (λ f. every (isChild t parent f ∷ eqb (entityAt t f .name) (q .name) ∷ []))
+
+  -- 15 the entity has children.
+  unfoldable pub hasChildren : Bool
+  hasChildren = some entityCount (λ f. isChild t (q .entity) f)
+
+  -- the parent in the entity's record, for delete and rename
+  abbrev pub recordedParent : ℕ
+  recordedParent = parentOf t (q .entity)

@@ -1,0 +1,45 @@
+-- Fresh tables, and the answer of the build.
+use Prim.Native.Nat.{ℕ, zero, suc, _^_}
+use mathlib.Core.Bool.{Bool, true, cond}
+use mathlib.Core.List.{List, [], _∷_, _++_}
+use lib.ListN.{replicate, set}
+use Rattle.bitset.specs.Sets.{with}
+use Rattle.guard.specs.Level.{userCount, sessionCount, roleCount, entityCount, roleLevel, rootOf, isRoot, isKeeper}
+use Rattle.guard.specs.Label.{noLabel}
+use Rattle.guard.specs.Tables.{noUser, noSession, noRights, noRole, noEntity, container, allRights}
+use Rattle.guard.specs.Sound.{usersInRange}
+use Rattle.guard.specs.declared.User.{User}
+use Rattle.guard.specs.declared.Role.{Role}
+use Rattle.guard.specs.declared.Entity.{Entity}
+use Rattle.guard.specs.declared.Tables.{Tables}
+use Rattle.guard.specs.declared.Outcome.{Outcome}
+
+-- f at each number below n, in order
+unfoldable pub tabulate : {A : Type 0} → ℕ → (ℕ → A) → List A
+tabulate zero f = []
+tabulate (suc n) f = tabulate n f ++ (f n ∷ [])
+
+-- only roots and keepers live, each keeper having rights 15 on the root of its level and listing user 0 alone
+unfoldable pub freshRole : ℕ → Role
+freshRole r =
+    cond (isKeeper r) (record { live = true; users = with 0 0; rights = set noRights (rootOf (roleLevel r)) allRights }) noRole
+
+unfoldable pub freshEntity : ℕ → Entity
+freshEntity e =
+    cond (isRoot e) (record { live = true; kind = container; parent = e; name = 0; label = noLabel }) noEntity
+
+-- Fresh tables are built from sixteen user records: no live seat, only roots and keepers live
+unfoldable pub fresh : List User → Tables
+fresh us =
+    record {
+      users = us;
+      sessions = replicate sessionCount noSession;
+      roles = tabulate roleCount freshRole;
+      entities = tabulate entityCount freshEntity;
+    }
+
+-- A number past its range gives answer 2, with fresh tables over sixteen users of ceiling 0 and clearance 0/0.
+unfoldable pub build : List User → Outcome
+build us =
+    cond (usersInRange us) (record { tables = fresh us; answer = 0 })
+    (record { tables = fresh (replicate userCount noUser); answer = 2 })

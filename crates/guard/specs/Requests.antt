@@ -1,0 +1,281 @@
+-- The sixteen requests. x is the acting seat. The numbers are the refusals that apply.
+use Prim.Native.Nat.{ℕ}
+use mathlib.Core.Bool.{Bool, true}
+use mathlib.Core.List.{List, [], _∷_}
+use lib.Dec.{leb, ltb}
+use lib.ListN.{getD}
+use Rattle.bitset.specs.Tests.{every, either}
+use Rattle.guard.specs.Level.{userCount, sessionCount, roleCount, entityCount, isRoot, isKeeper}
+use Rattle.guard.specs.Label.{labelInRange}
+use Rattle.guard.specs.Tables.{noSession, noRights, noRole, noEntity, container, read, write, own, allRights}
+use Rattle.guard.specs.Sound.{topName}
+use Rattle.guard.specs.Edits.{atSession, atRole, atEntity, eachSession, eachRole, takeRole, dropRole, openReading, openWriting, closeBoth, addRights, removeRights, clearRights, listUser, unlistUser, renameTo}
+use Rattle.guard.specs.Refusals.{Refusal, _when_}
+use Rattle.guard.specs.Conditions.{labelOf, seatLive, pastUser, seatDead, parentNoContainer, entityBelowSeat, seatBelowEntity, createBelow, grantBelow, seatBelowRole, labelBelowEntity, labelOther, labelBelowParent, userUnlisted, roleNotHeld, keeperNotHeld, cannotOpen, cannotChange, notOwned, roleHeld, openForReading, openForWriting, userListed, notOpen, userNotListed, entityDead, parentDead, roleDead, entityLive, roleLive, nameTaken, hasChildren, recordedParent}
+use Rattle.guard.specs.declared.Session.{Session}
+use Rattle.guard.specs.declared.Role.{Role}
+use Rattle.guard.specs.declared.Entity.{Entity}
+use Rattle.guard.specs.declared.Tables.{Tables}
+use Rattle.guard.specs.declared.Request.{Request}
+
+-- the fields of a request
+pub data Field : Type 0 where
+  seat user role entity parent kind name label rights : Field
+
+-- 2 a number is out of range; name 0, rights 0 .. count as such.
+unfoldable pub fieldInRange : Request → Field → Bool
+fieldInRange q seat = ltb (q .seat) sessionCount
+fieldInRange q user = ltb (q .user) userCount
+fieldInRange q role = ltb (q .role) roleCount
+fieldInRange q entity = ltb (q .entity) entityCount
+fieldInRange q parent = ltb (q .parent) entityCount
+fieldInRange q kind = leb (q .kind) container
+fieldInRange q name = every (leb 1 (q .name) ∷ leb (q .name) topName ∷ [])
+fieldInRange q label = labelInRange (labelOf q)
+fieldInRange q rights = every (leb 1 (q .rights) ∷ leb (q .rights) allRights ∷ [])
+
+-- What the paper says of one request: the fields that it uses, the refusals that apply after 1 and 2, and what it does.
+-- Refusals read the tables; what is done is a matter of the request alone.
+pub record Rule : Type 0 where
+  pub uses : List Field
+  pub refusals : Tables → Request → List Refusal
+  pub effect : Request → Tables → Tables
+
+-- login (seat, user, label): 3, 4. The seat becomes live with nothing held or open.
+unfoldable pub loggedIn : Request → Session
+loggedIn q = record { live = true; user = q .user; label = labelOf q; roles = 0; reading = 0; writing = 0 }
+
+unfoldable pub login : Rule
+login =
+    record {
+      uses = seat ∷ user ∷ label ∷ [];
+      refusals = λ t q. 3 when seatLive t q ∷ 4 when pastUser t q ∷ [];
+      effect = λ q. atSession (q .seat) (λ old. loggedIn q);
+    }
+
+-- logout (x): the seat becomes empty.
+unfoldable pub logout : Rule
+logout =
+    record {
+      uses = seat ∷ [];
+      refusals = λ t q. 5 when seatDead t q ∷ [];
+      effect = λ q. atSession (q .seat) (λ old. noSession);
+    }
+
+-- take (x, role): 7, 12, 16.
+unfoldable pub take : Rule
+take =
+    record {
+      uses = seat ∷ role ∷ [];
+      refusals = λ t q. 5 when seatDead t q ∷ 7 when roleDead t q ∷ 12 when userUnlisted t q ∷ 16 when roleHeld t q ∷ [];
+      effect = λ q. atSession (q .seat) (takeRole (q .role));
+    }
+
+-- drop (x, role): 7, 16.
+unfoldable pub drop : Rule
+drop =
+    record {
+      uses = seat ∷ role ∷ [];
+      refusals = λ t q. 5 when seatDead t q ∷ 7 when roleDead t q ∷ 16 when roleNotHeld t q ∷ [];
+      effect = λ q. atSession (q .seat) (dropRole (q .role));
+    }
+
+-- openr, openw (x, e): 7, 10, 11, 13, 16.
+unfoldable pub openr : Rule
+openr =
+    record {
+      uses = seat ∷ entity ∷ [];
+      refusals = λ t q.
+          5 when seatDead t q
+          ∷ 7 when entityDead t q
+          ∷ 10 when entityBelowSeat t q
+          ∷ 11 when labelBelowEntity t q
+          ∷ 13 when cannotOpen t q read
+          ∷ 16 when openForReading t q
+          ∷ [];
+      effect = λ q. atSession (q .seat) (openReading (q .entity));
+    }
+
+unfoldable pub openw : Rule
+openw =
+    record {
+      uses = seat ∷ entity ∷ [];
+      refusals = λ t q.
+          5 when seatDead t q
+          ∷ 7 when entityDead t q
+          ∷ 10 when seatBelowEntity t q
+          ∷ 11 when labelOther t q
+          ∷ 13 when cannotOpen t q write
+          ∷ 16 when openForWriting t q
+          ∷ [];
+      effect = λ q. atSession (q .seat) (openWriting (q .entity));
+    }
+
+-- close (x, e) ends both: 7, 16.
+unfoldable pub close : Rule
+close =
+    record {
+      uses = seat ∷ entity ∷ [];
+      refusals = λ t q. 5 when seatDead t q ∷ 7 when entityDead t q ∷ 16 when notOpen t q ∷ [];
+      effect = λ q. atSession (q .seat) (closeBoth (q .entity));
+    }
+
+-- create (x, e, kind, parent, name, label, role): 7, 8, 9, 10, 11, 12, 13, 14. The role gains own on e and nobody gains
+-- anything else.
+unfoldable pub created : Request → Entity
+created q = record { live = true; kind = q .kind; parent = q .parent; name = q .name; label = labelOf q }
+
+unfoldable pub create : Rule
+create =
+    record {
+      uses = seat ∷ entity ∷ kind ∷ parent ∷ name ∷ label ∷ role ∷ [];
+      refusals = λ t q.
+          5 when seatDead t q
+          ∷ 7 when either (parentDead t q) (roleDead t q)
+          ∷ 8 when entityLive t q
+          ∷ 9 when parentNoContainer t q
+          ∷ 10 when createBelow t q
+          ∷ 11 when labelBelowParent t q
+          ∷ 12 when roleNotHeld t q
+          ∷ 13 when cannotChange t q (q .parent)
+          ∷ 14 when nameTaken t q (q .parent)
+          ∷ [];
+      effect = λ q t. atRole (q .role) (addRights (q .entity) own) (atEntity (q .entity) (λ old. created q) t);
+    }
+
+-- delete (x, e): 6, 7, 13, 15. Its record becomes empty; all rights on e and all opens of it go.
+unfoldable pub delete : Rule
+delete =
+    record {
+      uses = seat ∷ entity ∷ [];
+      refusals = λ t q.
+          5 when seatDead t q
+          ∷ 6 when isRoot (q .entity)
+          ∷ 7 when entityDead t q
+          ∷ 13 when cannotChange t q (recordedParent t q)
+          ∷ 15 when hasChildren t q
+          ∷ [];
+      effect = λ q t.
+          eachSession (closeBoth (q .entity)) (eachRole (clearRights (q .entity)) (atEntity (q .entity) (λ old. noEntity) t));
+    }
+
+-- rename (x, e, name): 6, 7, 13, 14.
+unfoldable pub rename : Rule
+rename =
+    record {
+      uses = seat ∷ entity ∷ name ∷ [];
+      refusals = λ t q.
+          5 when seatDead t q
+          ∷ 6 when isRoot (q .entity)
+          ∷ 7 when entityDead t q
+          ∷ 13 when cannotChange t q (recordedParent t q)
+          ∷ 14 when nameTaken t q (recordedParent t q)
+          ∷ [];
+      effect = λ q. atEntity (q .entity) (renameTo (q .name));
+    }
+
+-- grant, revoke (x, role, e, rights): 7, 10, 13. The named rights are added or taken away; those already so stay so.
+unfoldable pub grant : Rule
+grant =
+    record {
+      uses = seat ∷ role ∷ entity ∷ rights ∷ [];
+      refusals = λ t q.
+          5 when seatDead t q
+          ∷ 7 when either (entityDead t q) (roleDead t q)
+          ∷ 10 when grantBelow t q
+          ∷ 13 when notOwned t q
+          ∷ [];
+      effect = λ q. atRole (q .role) (addRights (q .entity) (q .rights));
+    }
+
+unfoldable pub revoke : Rule
+revoke =
+    record {
+      uses = grant .uses;
+      refusals = grant .refusals;
+      effect = λ q. atRole (q .role) (removeRights (q .entity) (q .rights));
+    }
+
+-- list, unlist (x, role, user): 7, 10, 12, 16. Seats that hold the role keep it.
+unfoldable pub list : Rule
+list =
+    record {
+      uses = seat ∷ role ∷ user ∷ [];
+      refusals = λ t q.
+          5 when seatDead t q
+          ∷ 7 when roleDead t q
+          ∷ 10 when seatBelowRole t q
+          ∷ 12 when keeperNotHeld t q
+          ∷ 16 when userListed t q
+          ∷ [];
+      effect = λ q. atRole (q .role) (listUser (q .user));
+    }
+
+unfoldable pub unlist : Rule
+unlist =
+    record {
+      uses = seat ∷ role ∷ user ∷ [];
+      refusals = λ t q.
+          5 when seatDead t q
+          ∷ 7 when roleDead t q
+          ∷ 10 when seatBelowRole t q
+          ∷ 12 when keeperNotHeld t q
+          ∷ 16 when userNotListed t q
+          ∷ [];
+      effect = λ q. atRole (q .role) (unlistUser (q .user));
+    }
+
+-- make (x, role): 8, 10, 12. The role starts empty.
+unfoldable pub madeRole : Role
+madeRole = record { live = true; users = 0; rights = noRights }
+
+unfoldable pub make : Rule
+make =
+    record {
+      uses = seat ∷ role ∷ [];
+      refusals = λ t q. 5 when seatDead t q ∷ 8 when roleLive t q ∷ 10 when seatBelowRole t q ∷ 12 when keeperNotHeld t q ∷ [];
+      effect = λ q. atRole (q .role) (λ old. madeRole);
+    }
+
+-- unmake (x, role): 6, 7, 10, 12. Its list, its rights and every holding of it go.
+unfoldable pub unmake : Rule
+unmake =
+    record {
+      uses = seat ∷ role ∷ [];
+      refusals = λ t q.
+          5 when seatDead t q
+          ∷ 6 when isKeeper (q .role)
+          ∷ 7 when roleDead t q
+          ∷ 10 when seatBelowRole t q
+          ∷ 12 when keeperNotHeld t q
+          ∷ [];
+      effect = λ q t. eachSession (dropRole (q .role)) (atRole (q .role) (λ old. noRole) t);
+    }
+
+-- 2 .. a request of none of the sixteen kinds count[s] as such. One of unknown kind names only its seat.
+unfoldable pub unknown : Rule
+unknown = record { uses = seat ∷ []; refusals = λ t q. 2 when true ∷ []; effect = λ q t. t }
+
+-- The request's number: 0 to 15 in the order in which the paper lists the sixteen.
+unfoldable pub rules : List Rule
+rules =
+    login
+    ∷ logout
+    ∷ take
+    ∷ drop
+    ∷ openr
+    ∷ openw
+    ∷ close
+    ∷ create
+    ∷ delete
+    ∷ rename
+    ∷ grant
+    ∷ revoke
+    ∷ list
+    ∷ unlist
+    ∷ make
+    ∷ unmake
+    ∷ []
+
+unfoldable pub ruleOf : Request → Rule
+ruleOf q = getD rules (q .call) unknown

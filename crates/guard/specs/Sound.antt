@@ -1,0 +1,172 @@
+-- Tables are sound when all of this holds.
+use Prim.Native.Nat.{ℕ, _^_}
+use mathlib.Core.Bool.{Bool, not}
+use mathlib.Core.List.{List, [], _∷_}
+use lib.Dec.{leb, ltb, eqb}
+use lib.ListN.{length, getD}
+use Rattle.bitset.specs.Tests.{every, implies, all}
+use Rattle.guard.specs.Level.{userCount, sessionCount, roleCount, entityCount, topLevel, sessionLevel, roleLevel, entityLevel, isRoot, isKeeper}
+use Rattle.guard.specs.Label.{labelInRange, dominates, sameLabel, noLabel}
+use Rattle.guard.specs.Tables.{noUser, sessionAt, roleAt, entityAt, container, allRights, holds, isReading, isWriting, rightsOn, isChild}
+use Rattle.guard.specs.Chain.{endsAtRoot}
+use Rattle.guard.specs.declared.User.{User}
+use Rattle.guard.specs.declared.Session.{Session}
+use Rattle.guard.specs.declared.Role.{Role}
+use Rattle.guard.specs.declared.Entity.{Entity}
+use Rattle.guard.specs.declared.Tables.{Tables}
+
+-- ---- Every field is in range, ..
+unfoldable pub userInRange : User → Bool
+userInRange u = every (leb (u .ceiling) topLevel ∷ labelInRange (u .clearance) ∷ [])
+
+unfoldable pub sessionInRange : Session → Bool
+sessionInRange s =
+    every
+    (ltb (s .user) userCount
+    ∷ labelInRange (s .label)
+    ∷ ltb (s .roles) (2 ^ roleCount)
+    ∷ ltb (s .reading) (2 ^ entityCount)
+    ∷ ltb (s .writing) (2 ^ entityCount)
+    ∷ [])
+
+unfoldable pub roleInRange : Role → Bool
+roleInRange r =
+    every
+    (ltb (r .users) (2 ^ userCount)
+    ∷ eqb (length (r .rights)) entityCount
+    ∷ all entityCount (λ e. leb (getD (r .rights) e 0) allRights)
+    ∷ [])
+
+-- name (1 to 65,535): 0 for roots and for what is not live
+abbrev pub topName : ℕ
+topName = 65535
+
+unfoldable pub entityInRange : Entity → Bool
+entityInRange e =
+    every (leb (e .kind) container ∷ ltb (e .parent) entityCount ∷ leb (e .name) topName ∷ labelInRange (e .label) ∷ [])
+
+unfoldable pub usersInRange : List User → Bool
+usersInRange us = every (eqb (length us) userCount ∷ all userCount (λ u. userInRange (getD us u noUser)) ∷ [])
+
+-- a list longer or shorter than the tables hold is out of range too
+unfoldable pub fieldsInRange : Tables → Bool
+fieldsInRange t =
+    every
+    (usersInRange (t .users)
+    ∷ eqb (length (t .sessions)) sessionCount
+    ∷ all sessionCount (λ s. sessionInRange (sessionAt t s))
+    ∷ eqb (length (t .roles)) roleCount
+    ∷ all roleCount (λ r. roleInRange (roleAt t r))
+    ∷ eqb (length (t .entities)) entityCount
+    ∷ all entityCount (λ e. entityInRange (entityAt t e))
+    ∷ [])
+
+-- .. and roots and keepers are as said: the roots are live containers, label 0/0 (grade/categories), name 0, each its
+-- own parent; the keepers are always live.
+unfoldable pub isRootRecord : ℕ → Entity → Bool
+isRootRecord e r =
+    every (r .live ∷ eqb (r .kind) container ∷ sameLabel (r .label) noLabel ∷ eqb (r .name) 0 ∷ eqb (r .parent) e ∷ [])
+
+unfoldable pub rootsAsSaid : Tables → Bool
+rootsAsSaid t = all entityCount (λ e. implies (isRoot e) (isRootRecord e (entityAt t e)))
+
+unfoldable pub keepersAsSaid : Tables → Bool
+keepersAsSaid t = all roleCount (λ r. implies (isKeeper r) (roleAt t r .live))
+
+-- ---- A live entity that is no root has a name from 1, a live container of its own level as parent, a label that
+-- dominates its parent's, a name no sibling has, and a chain of parents that ends at the root.
+unfoldable pub hasOwnName : Tables → ℕ → Bool
+hasOwnName t e =
+    all entityCount
+    (λ f. implies (every (isChild t (entityAt t e .parent) f ∷ not (eqb f e) ∷ []))
+    (not (eqb (entityAt t f .name) (entityAt t e .name))))
+
+unfoldable pub isPlaced : Tables → ℕ → Bool
+isPlaced t e =
+    let p = entityAt t e .parent in
+    every
+    (leb 1 (entityAt t e .name)
+    ∷ entityAt t p .live
+    ∷ eqb (entityAt t p .kind) container
+    ∷ eqb (entityLevel p) (entityLevel e)
+    ∷ dominates (entityAt t e .label) (entityAt t p .label)
+    ∷ hasOwnName t e
+    ∷ endsAtRoot t e
+    ∷ [])
+
+unfoldable pub entitiesPlaced : Tables → Bool
+entitiesPlaced t =
+    all entityCount (λ e. implies (every (entityAt t e .live ∷ not (isRoot e) ∷ [])) (isPlaced t e))
+
+-- ---- A seat, role or entity that is not live has every field zero or empty.
+unfoldable pub isEmptySession : Session → Bool
+isEmptySession s =
+    every
+    (eqb (s .user) 0
+    ∷ sameLabel (s .label) noLabel
+    ∷ eqb (s .roles) 0
+    ∷ eqb (s .reading) 0
+    ∷ eqb (s .writing) 0
+    ∷ [])
+
+unfoldable pub isEmptyRole : Role → Bool
+isEmptyRole r = every (eqb (r .users) 0 ∷ all entityCount (λ e. eqb (getD (r .rights) e 0) 0) ∷ [])
+
+unfoldable pub isEmptyEntity : Entity → Bool
+isEmptyEntity e =
+    every (eqb (e .kind) 0 ∷ eqb (e .parent) 0 ∷ eqb (e .name) 0 ∷ sameLabel (e .label) noLabel ∷ [])
+
+unfoldable pub deadAreEmpty : Tables → Bool
+deadAreEmpty t =
+    every
+    (all sessionCount (λ s. implies (not (sessionAt t s .live)) (isEmptySession (sessionAt t s)))
+    ∷ all roleCount (λ r. implies (not (roleAt t r .live)) (isEmptyRole (roleAt t r)))
+    ∷ all entityCount (λ e. implies (not (entityAt t e .live)) (isEmptyEntity (entityAt t e)))
+    ∷ [])
+
+-- Nobody has rights on a dead entity or has it open, and nobody holds a dead role.
+unfoldable pub deadAreUnused : Tables → Bool
+deadAreUnused t =
+    every
+    (all roleCount (λ r. all entityCount (λ e. implies (not (entityAt t e .live)) (eqb (rightsOn t r e) 0)))
+    ∷ all sessionCount (λ s. all entityCount (λ e. implies (not (entityAt t e .live)) (not (isReading t s e))))
+    ∷ all sessionCount (λ s. all entityCount (λ e. implies (not (entityAt t e .live)) (not (isWriting t s e))))
+    ∷ all sessionCount (λ s. all roleCount (λ r. implies (not (roleAt t r .live)) (not (holds t s r))))
+    ∷ [])
+
+-- ---- A role has rights only on entities of its own level or below.
+unfoldable pub rightsWithin : Tables → Bool
+rightsWithin t =
+    all roleCount
+    (λ r. all entityCount (λ e. implies (not (eqb (rightsOn t r e) 0)) (leb (entityLevel e) (roleLevel r))))
+
+-- ---- An entity open for reading has at least the seat's level, and the seat's label dominates its label.
+unfoldable pub readingWithin : Tables → Bool
+readingWithin t =
+    all sessionCount
+    (λ s. all entityCount
+    (λ e. implies (isReading t s e)
+    (every (leb (sessionLevel s) (entityLevel e) ∷ dominates (sessionAt t s .label) (entityAt t e .label) ∷ []))))
+
+-- ---- An entity open for writing has at most the seat's level, and the labels are equal.
+unfoldable pub writingWithin : Tables → Bool
+writingWithin t =
+    all sessionCount
+    (λ s. all entityCount
+    (λ e. implies (isWriting t s e)
+    (every (leb (entityLevel e) (sessionLevel s) ∷ sameLabel (sessionAt t s .label) (entityAt t e .label) ∷ []))))
+
+-- Tables are sound when all of this holds.
+unfoldable pub sound : Tables → Bool
+sound t =
+    every
+    (fieldsInRange t
+    ∷ rootsAsSaid t
+    ∷ keepersAsSaid t
+    ∷ entitiesPlaced t
+    ∷ deadAreEmpty t
+    ∷ deadAreUnused t
+    ∷ rightsWithin t
+    ∷ readingWithin t
+    ∷ writingWithin t
+    ∷ [])

@@ -1,0 +1,94 @@
+-- The tables: their records, and what the paper says by "has a right".
+use Prim.Native.Nat.{ℕ}
+use mathlib.Core.Bool.{Bool, false, not}
+use mathlib.Core.List.{List, [], _∷_}
+use lib.Dec.{leb, eqb}
+use lib.ListN.{getD, replicate}
+use Rattle.bitset.specs.Tests.{every, some}
+use Rattle.bitset.specs.Sets.{has, contains}
+use Rattle.guard.specs.Level.{roleCount, entityCount, roleLevel, entityLevel, isRoot}
+use Rattle.guard.specs.Label.{noLabel}
+use Rattle.guard.specs.declared.Label.{Label}
+use Rattle.guard.specs.declared.User.{User}
+use Rattle.guard.specs.declared.Session.{Session}
+use Rattle.guard.specs.declared.Role.{Role}
+use Rattle.guard.specs.declared.Entity.{Entity}
+use Rattle.guard.specs.declared.Tables.{Tables}
+
+-- ---- the records with every field zero or empty
+abbrev pub noUser : User
+noUser = record { ceiling = 0; clearance = noLabel }
+
+abbrev pub noSession : Session
+noSession = record { live = false; user = 0; label = noLabel; roles = 0; reading = 0; writing = 0 }
+
+abbrev pub noRights : List ℕ
+noRights = replicate entityCount 0
+
+abbrev pub noRole : Role
+noRole = record { live = false; users = 0; rights = noRights }
+
+abbrev pub noEntity : Entity
+noEntity = record { live = false; kind = 0; parent = 0; name = 0; label = noLabel }
+
+-- ---- the record at a number. Past the end stands what the machine's read of an array has there; every number is
+-- tested before it is used, so no answer rests on it.
+abbrev pub userAt : Tables → ℕ → User
+userAt t u = getD (t .users) u noUser
+
+-- Seat: live or not, user, label, roles held, entities open for reading, entities open for writing.
+abbrev pub sessionAt : Tables → ℕ → Session
+sessionAt t s = getD (t .sessions) s noSession
+
+-- Role: live or not, users listed, and for each entity a set of rights.
+abbrev pub roleAt : Tables → ℕ → Role
+roleAt t r = getD (t .roles) r (record { live = false; users = 0; rights = [] })
+
+-- Entity: live or not, kind, parent, name, label.
+abbrev pub entityAt : Tables → ℕ → Entity
+entityAt t e = getD (t .entities) e noEntity
+
+-- kind (0 object, 1 container)
+abbrev pub container : ℕ
+container = 1
+
+-- rights: read 1, write 2, execute 4, own 8, added up (0 to 15)
+abbrev pub read : ℕ
+read = 1
+
+abbrev pub write : ℕ
+write = 2
+
+abbrev pub execute : ℕ
+execute = 4
+
+abbrev pub own : ℕ
+own = 8
+
+abbrev pub allRights : ℕ
+allRights = 15
+
+-- ---- what the records say
+abbrev pub holds : Tables → ℕ → ℕ → Bool
+holds t s r = has (sessionAt t s .roles) r
+
+abbrev pub isReading : Tables → ℕ → ℕ → Bool
+isReading t s e = has (sessionAt t s .reading) e
+
+abbrev pub isWriting : Tables → ℕ → ℕ → Bool
+isWriting t s e = has (sessionAt t s .writing) e
+
+abbrev pub lists : Tables → ℕ → ℕ → Bool
+lists t r u = has (roleAt t r .users) u
+
+abbrev pub rightsOn : Tables → ℕ → ℕ → ℕ
+rightsOn t r e = getD (roleAt t r .rights) e 0
+
+-- "x has a right on e" means that a role held by x, of at least e's level, has it.
+unfoldable pub hasRight : Tables → ℕ → ℕ → ℕ → Bool
+hasRight t x right e =
+    some roleCount (λ r. every (leb (entityLevel e) (roleLevel r) ∷ holds t x r ∷ contains (rightsOn t r e) right ∷ []))
+
+-- f is a child of p. A root is nobody's child.
+unfoldable pub isChild : Tables → ℕ → ℕ → Bool
+isChild t p f = every (entityAt t f .live ∷ not (isRoot f) ∷ eqb (entityAt t f .parent) p ∷ [])

@@ -1,0 +1,74 @@
+// The access guard of a shared timing bench: its tables, by value.
+//
+// The records below hold document 01's tables, and a request as a host hands it in. What they mean, which tables are
+// sound, what each request answers and how it changes the tables is said by the definitions in specs/, in the paper's
+// order. Sets are bit sets: member `i` is bit `i` (crate `bitset`). No record holds an enum or a reference.
+
+// Label: a confidentiality grade, 0 to 3, and a set of eight categories.
+pub struct Label {
+    pub cats: u8,
+    pub grade: u8,
+}
+
+// User: the highest level that its sessions may have, 0 to 3, and its clearance.
+pub struct User {
+    pub ceiling: u8,
+    pub clearance: Label,
+}
+
+// Session (the paper's seat): whose it is, the roles that it holds, the entities that it has open for reading and for
+// writing.
+pub struct Session {
+    pub live: bool,
+    pub user: u8,
+    pub label: Label,
+    pub roles: u16,
+    pub reading: u64,
+    pub writing: u64,
+}
+
+// Role: the users that it lists, and for each entity a set of rights: read 1, write 2, execute 4, own 8.
+pub struct Role {
+    pub live: bool,
+    pub users: u16,
+    pub rights: [u8; 64],
+}
+
+// Entity: an object (kind 0) or a container (kind 1), with the number of its parent, its name and its label.
+pub struct Entity {
+    pub live: bool,
+    pub kind: u8,
+    pub parent: u8,
+    pub name: u16,
+    pub label: Label,
+}
+
+pub struct Tables {
+    pub users: [User; 16],
+    pub sessions: [Session; 16],
+    pub roles: [Role; 16],
+    pub entities: [Entity; 64],
+}
+
+// One request, in fields wide enough for every number that a host may pass. `call` is the request's number: 0 to 15 in
+// the order in which document 01 lists the sixteen. `level` and `cats` are the label asked for, grade and categories.
+// A field that the request does not use may hold anything.
+pub struct Request {
+    pub call: u32,
+    pub seat: u32,
+    pub user: u32,
+    pub role: u32,
+    pub entity: u32,
+    pub parent: u32,
+    pub kind: u32,
+    pub name: u32,
+    pub level: u32,
+    pub cats: u32,
+    pub rights: u32,
+}
+
+// What a request hands back: the tables after it, and its answer: 0 done, or the number of the refusal.
+pub struct Outcome {
+    pub tables: Tables,
+    pub answer: u8,
+}
