@@ -20,10 +20,14 @@ use Rattle.guard.specs.declared.Request.{Request}
 
 -- the fields of a request
 pub data Field : Type 0 where
-  seat user role entity parent kind name label rights : Field
+  call seat user role entity parent kind name label rights : Field
 
--- 2 a number is out of range; name 0, rights 0 .. count as such.
+-- 2 a number is out of range; name 0, rights 0 and a request of none of the sixteen kinds count as such.
+abbrev pub requestCount : ℕ
+requestCount = 16
+
 unfoldable pub fieldInRange : Request → Field → Bool
+fieldInRange q call = ltb (q .call) requestCount
 fieldInRange q seat = ltb (q .seat) sessionCount
 fieldInRange q user = ltb (q .user) userCount
 fieldInRange q role = ltb (q .role) roleCount
@@ -252,9 +256,9 @@ unmake =
       effect = λ q t. eachSession (dropRole (q .role)) (atRole (q .role) (λ old. noRole) t);
     }
 
--- 2 .. a request of none of the sixteen kinds count[s] as such. One of unknown kind names only its seat.
+-- A request of none of the sixteen kinds: its number is out of range, and nothing else of it is looked at but its seat.
 unfoldable pub unknown : Rule
-unknown = record { uses = seat ∷ []; refusals = λ t q. 2 when true ∷ []; effect = λ q t. t }
+unknown = record { uses = seat ∷ call ∷ []; refusals = λ t q. []; effect = λ q t. t }
 
 -- The request's number: 0 to 15 in the order in which the paper lists the sixteen.
 unfoldable pub rules : List Rule

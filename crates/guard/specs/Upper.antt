@@ -7,7 +7,7 @@ use lib.ListN.{drop}
 use Rattle.bitset.specs.Tests.{every}
 use Rattle.bitset.specs.Sets.{from}
 use Rattle.guard.specs.Level.{sessionCount, sessionLevel, roleLevel, entityLevel, entitiesPerLevel}
-use Rattle.guard.specs.Requests.{Field, seat, user, role, entity, parent, kind, name, label, rights, ruleOf}
+use Rattle.guard.specs.Requests.{Field, call, seat, user, role, entity, parent, kind, name, label, rights, ruleOf}
 use Rattle.guard.specs.Step.{answer, next}
 use Rattle.guard.specs.declared.Session.{Session}
 use Rattle.guard.specs.declared.Role.{Role}
@@ -60,6 +60,7 @@ isUpper L q = every (ltb (q .seat) sessionCount ∷ leb L (sessionLevel (q .seat
 -- A request names the seats, roles and entities whose numbers stand in fields that it uses; one of unknown kind names
 -- only its seat. A role or entity number past its range counts as upper: its level is past every L.
 unfoldable pub fieldUpper : ℕ → Request → Field → Bool
+fieldUpper L q call = true
 fieldUpper L q seat = leb L (sessionLevel (q .seat))
 fieldUpper L q user = true
 fieldUpper L q role = leb L (roleLevel (q .role))
