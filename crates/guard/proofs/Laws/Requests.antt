@@ -1,0 +1,89 @@
+-- The sixteen requests against the paper's lists of numbers.
+--     applying        the numbers that apply to each request, in the order of the sixteen, as the paper's lines have them
+--     rising          .. with 1 and 2 before them they rise, so that the first that is met is the lowest that is met
+--     answer-lowest, answer-met   the answer is the lowest number that applies and whose condition is met
+--     unknown-answer  a request of none of the sixteen kinds: 2 on sound tables
+--     unsound-answer  unsound tables: 1, whatever is asked
+-- Assumes nothing.
+use Prim.Native.Nat.{ℕ, _≤_}
+use mathlib.Core.Path.{_≡_, refl}
+use mathlib.Core.Bool.{Bool, true, false, not, and-false}
+use mathlib.Core.List.{List, [], _∷_, map}
+use lib.Dec.{ltb}
+use lib.ListN.{List·getD-eq-default}
+use borrow.Author.Tests.{le-ltb}
+use Rattle.bitset.specs.Tests.{every}
+use Rattle.guard.specs.Sound.{sound}
+use Rattle.guard.specs.Refusals.{Refusal, _when_, first}
+use Rattle.guard.specs.Requests.{Rule, fieldInRange, requestCount, login, logout, take, drop, openr, openw, close, create, delete, rename, grant, revoke, list, unlist, make, unmake, unknown, rules, ruleOf}
+use Rattle.guard.specs.Step.{inRanges, answer}
+use Rattle.guard.specs.declared.Tables.{Tables}
+use Rattle.guard.specs.declared.Request.{Request}
+use Rattle.guard.proofs.Laws.Refusals.{conditionOf, risingFrom, first-met, first-lowest}
+use Rattle.guard.proofs.Laws.Step.{each-rule}
+
+abbrev numbers : Tables → Request → Rule → List ℕ
+numbers t q r = map (λ (c : Refusal). c .number) (r .refusals t q)
+
+-- Refusals 1 and 2 apply to all sixteen, and 5 to all but login.
+pub applying : (t : Tables) (q : Request) →
+    map (numbers t q) rules ≡
+    (3 ∷ 4 ∷ [])  -- login (seat, user, label): 3, 4.
+    ∷ (5 ∷ [])  -- logout (x)
+    ∷ (5 ∷ 7 ∷ 12 ∷ 16 ∷ [])  -- take (x, role): 7, 12, 16.
+    ∷ (5 ∷ 7 ∷ 16 ∷ [])  -- drop (x, role): 7, 16.
+    ∷ (5 ∷ 7 ∷ 10 ∷ 11 ∷ 13 ∷ 16 ∷ [])  -- openr ..
+    ∷ (5 ∷ 7 ∷ 10 ∷ 11 ∷ 13 ∷ 16 ∷ [])  -- .. openw (x, e): 7, 10, 11, 13, 16.
+    ∷ (5 ∷ 7 ∷ 16 ∷ [])  -- close (x, e) ends both: 7, 16.
+    ∷ (5 ∷ 7 ∷ 8 ∷ 9 ∷ 10 ∷ 11 ∷ 12 ∷ 13 ∷ 14 ∷ [])  -- create: 7, 8, 9, 10, 11, 12, 13, 14.
+    ∷ (5 ∷ 6 ∷ 7 ∷ 13 ∷ 15 ∷ [])  -- delete (x, e): 6, 7, 13, 15.
+    ∷ (5 ∷ 6 ∷ 7 ∷ 13 ∷ 14 ∷ [])  -- rename (x, e, name): 6, 7, 13, 14.
+    ∷ (5 ∷ 7 ∷ 10 ∷ 13 ∷ [])  -- grant ..
+    ∷ (5 ∷ 7 ∷ 10 ∷ 13 ∷ [])  -- .. revoke (x, role, e, rights): 7, 10, 13.
+    ∷ (5 ∷ 7 ∷ 10 ∷ 12 ∷ 16 ∷ [])  -- list ..
+    ∷ (5 ∷ 7 ∷ 10 ∷ 12 ∷ 16 ∷ [])  -- .. unlist (x, role, user): 7, 10, 12, 16.
+    ∷ (5 ∷ 8 ∷ 10 ∷ 12 ∷ [])  -- make (x, role): 8, 10, 12.
+    ∷ (5 ∷ 6 ∷ 7 ∷ 10 ∷ 12 ∷ [])  -- unmake (x, role): 6, 7, 10, 12.
+    ∷ []
+unfolding rules login logout take drop openr openw close create delete rename grant revoke list unlist make unmake
+applying t q = refl
+
+-- the whole list of a request, from which its answer is taken
+abbrev pub conditions : Rule → Tables → Request → List Refusal
+conditions r t q = 1 when not (sound t) ∷ 2 when not (inRanges q) ∷ r .refusals t q
+
+rising : (t : Tables) (q : Request) → risingFrom 0 (conditions (ruleOf q) t q) ≡ true
+unfolding rules login logout take drop openr openw close create delete rename grant revoke list unlist make unmake unknown
+rising t q =
+    each-rule (λ r. risingFrom 0 (conditions r t q) ≡ true)
+    (refl, (refl, (refl, (refl, (refl, (refl, (refl, (refl, (refl, (refl, (refl, (refl, (refl, (refl, (refl, (refl, tt))))))))))))))))
+    refl
+    q
+
+-- Otherwise the answer is the lowest number below that applies to the request and whose condition is met. No number is
+-- given otherwise.
+pub answer-met : (t : Tables) (q : Request) → (answer t q ≡ 0 → ⊥) → conditionOf (answer t q) (conditions (ruleOf q) t q) ≡ true
+unfolding answer
+answer-met t q h = first-met (conditions (ruleOf q) t q) (rising t q) h
+
+pub answer-lowest : (t : Tables) (q : Request) (n : ℕ) → conditionOf n (conditions (ruleOf q) t q) ≡ true → answer t q ≤ n
+unfolding answer
+answer-lowest t q n h = first-lowest (conditions (ruleOf q) t q) (rising t q) n h
+
+-- ---- a request of none of the sixteen kinds
+pub unknown-rule : (q : Request) → requestCount ≤ q .call → ruleOf q ≡ unknown
+unfolding ruleOf rules
+unknown-rule q h = List·getD-eq-default rules unknown h
+
+unknown-out : (q : Request) → requestCount ≤ q .call → every (map (fieldInRange q) (unknown .uses)) ≡ false
+unfolding every unknown fieldInRange
+unknown-out q h = rw (le-ltb (q .call) requestCount h) (and-false (ltb (q .seat) 16))
+
+pub unknown-answer : (t : Tables) (q : Request) → requestCount ≤ q .call → sound t ≡ true → answer t q ≡ 2
+unfolding answer inRanges first
+unknown-answer t q h s = rw (s, unknown-rule q h, unknown-out q h)
+
+-- 1 the tables are not sound: before all others
+pub unsound-answer : (t : Tables) (q : Request) → sound t ≡ false → answer t q ≡ 1
+unfolding answer first
+unsound-answer t q s = rw s
