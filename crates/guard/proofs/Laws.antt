@@ -2,6 +2,7 @@
 pub mod Label
 pub mod Pigeons
 pub mod Chain
+pub mod Sound
 pub mod Fresh
 pub mod Refusals
 pub mod Requests

@@ -1,0 +1,111 @@
+-- Soundness is kept where an entity is made at a dead number, in a live container of its level, and one role gains own on
+-- it: create.
+--     new-chain               the new entity's chain ends at the root: no ancestor of its parent is dead, so their line stays,
+--                             and it ends one step earlier
+--     made-sound              the edit
+--     keeps-create            the rule
+-- Assumes nothing.
+use Prim.Native.Nat.{ℕ, zero, suc, _<_}
+use mathlib.Core.Path.{_≡_, refl, ap, sym, _∙_}
+use mathlib.Core.Bool.{true, false}
+use mathlib.Core.Logic.{_⊎_, inl, inr}
+use lib.Dec.{leb}
+use lib.ListN.{set}
+use lib.Seq.{getD-set-same, getD-set-other}
+use native.Mathlib.Omega.{arith}
+use borrow.Author.Tests.{ltb-true, eqb-true, eq-eqb}
+use Rattle.bitset.specs.Tests.Laws.{decide, clash, is-false, of-not-false, every-i, every-at, either-no-l, either-no-r}
+use Rattle.guard.specs.Level.{roleLevel, entityLevel, isRoot}
+use Rattle.guard.specs.Tables.{noEntity, entityAt, own}
+use Rattle.guard.specs.Chain.{climbs, parentOf}
+use Rattle.guard.specs.Sound.{entityInRange, isRootRecord, sound}
+use Rattle.guard.specs.Edits.{withEntities, atEntity, setRights, addRights}
+use Rattle.guard.specs.Conditions.{createBelow}
+use Rattle.guard.specs.Requests.{fieldInRange, created, create}
+use Rattle.guard.specs.declared.Entity.{Entity}
+use Rattle.guard.specs.declared.Tables.{Tables}
+use Rattle.guard.proofs.Laws.Refusals.{unmet}
+use Rattle.guard.proofs.Laws.Chain.{ancestor, ancestor-same, Ends, ends-somewhere, ends-within}
+use Rattle.guard.proofs.Laws.Sound.{entityIn, parentIn, grantable, fitsIn, OwnName, Sound, sound-e}
+use Rattle.guard.proofs.Kept.Parts.{join-ok}
+use Rattle.guard.proofs.Kept.Sessions.{Keeps, not-below}
+use Rattle.guard.proofs.Kept.Roles.{rights-ok, role-kept}
+use Rattle.guard.proofs.Kept.Entities.{Kin, parent-kin, kin, others-stay, dead-unused, entity-kept}
+use Rattle.guard.proofs.Kept.Rename.{free-name}
+
+module _ (t : Tables) (ok : Sound t) (e : ℕ) (n : Entity) (l : e < 64) (dead : entityAt t e .live ≡ false) where
+  -- what is live is not e
+  not-new : (f : ℕ) → entityAt t f .live ≡ true → f ≡ e → ⊥
+  not-new f live same = clash (entityAt t e .live) (ap (λ (a : ℕ). entityAt t a .live) (sym same) ∙ live) dead
+
+  at-new : entityIn (set (t .entities) e n) e ≡ n
+  at-new = getD-set-same (t .entities) e n noEntity (omega (arith, ok .manyEntities))
+
+  module _ (live : entityAt t (n .parent) .live ≡ true) (below : n .parent < 64) (level : entityLevel (n .parent) ≡ entityLevel e) where
+    abbrev parent′ : ℕ → ℕ
+    parent′ = parentIn (set (t .entities) e n)
+
+    line : (k : ℕ) → Kin t (n .parent) (ancestor (parentOf t) k (n .parent))
+    line k = kin t ok (λ f. Unit {0}) (λ f l live q. tt) k (n .parent) below live tt .0
+
+    up : (k : ℕ) → ancestor parent′ (suc k) e ≡ ancestor (parentOf t) k (n .parent)
+    up k =
+        ap (λ (a : Entity). ancestor parent′ k (a .parent)) at-new
+        ∙ ancestor-same (parentOf t) parent′ k (n .parent)
+        (λ j. ap (λ (a : Entity). a .parent) (others-stay t e n _ (not-new _ (line j .live))))
+
+    levels : (k : ℕ) → entityLevel (ancestor parent′ k e) ≡ entityLevel e
+    levels zero = refl
+    levels (suc k) = ap entityLevel (up k) ∙ line k .level ∙ level
+
+    new-chain : climbs parent′ (λ c. true) 16 e ≡ true
+    new-chain = go (decide (isRoot (n .parent)))
+      where
+        by : Ends (parentOf t) 16 (n .parent) → climbs parent′ (λ c. true) 16 e ≡ true
+        by (k, _, root) = ends-within parent′ e levels (suc k) (ap isRoot (up k) ∙ root)
+
+        go : (isRoot (n .parent) ≡ true) ⊎ (isRoot (n .parent) ≡ false) → climbs parent′ (λ c. true) 16 e ≡ true
+        go (inl root) = by (0, omega arith, root)
+        go (inr other) = by (ends-somewhere (parentOf t) _ 16 (n .parent) (ok .entity (n .parent) below .placed live other .inside .chain))
+
+pub made-sound : (t : Tables) (e : ℕ) (n : Entity) → sound t ≡ true → e < 64 → entityAt t e .live ≡ false → n .live ≡ true
+    → entityInRange n ≡ true → leb 1 (n .name) ≡ true → fitsIn e n (entityAt t (n .parent)) ≡ true → OwnName (t .entities) e n
+    → sound (withEntities t (set (t .entities) e n)) ≡ true
+unfolding entityInRange isRootRecord
+made-sound t e n h l dead live range name fits free =
+    let ok = sound-e t h in
+    let alive = every-at _ fits 0 in
+    entity-kept t e n h (inr (dead-unused t ok e l dead))
+    (λ f k up s. others-stay t e n _ (not-new t ok e n l dead _ (parent-kin t ok f k up .live)))
+    (record {
+      notRoot = is-false _ (λ root. clash _ (every-at _ (ok .entity e l .root root) 0) dead);
+      range = range;
+      empty = λ no. absurd (clash _ live no);
+      placed = λ _. (
+        name,
+        record {
+          parent = rw (getD-set-other (t .entities) e (n .parent) n noEntity (not-new t ok e n l dead _ alive)) fits;
+          chain = new-chain t ok e n l dead alive (ltb-true _ _ (every-at _ range 1)) (eqb-true _ _ (every-at _ fits 2));
+        },
+        free,
+      );
+    })
+
+pub keeps-create : Keeps create
+unfolding create created createBelow atEntity addRights setRights fieldInRange entityInRange
+keeps-create t q d =
+    let no = unmet _ refl (d .none) in
+    let range = every-at _ (d .ranges) in
+    let l = ltb-true _ _ (range 1) in
+    let level = eqb-true (entityLevel (q .entity)) (entityLevel (q .parent)) (of-not-false _ (either-no-l _ _ (no 10))) in
+    let fits : fitsIn (q .entity) (created q) (entityAt t (q .parent)) ≡ true =
+    every-i _ (of-not-false _ (either-no-l _ _ (no 7)), (of-not-false _ (no 9), (eq-eqb _ _ (sym level), (of-not-false _ (no 11), tt)))) in
+    let made = made-sound t (q .entity) (created q) (d .isSound) l (no 8) refl
+    (every-i _ (range 2, (range 3, (every-at _ (range 4) 1, (range 5, tt))))) (every-at _ (range 4) 0) fits
+    (λ f k ne. free-name t q _ (no 14) f k) in
+    let can : grantable (q .role) (q .entity) (created q) ≡ true =
+    every-i _ (refl, (not-below (roleLevel (q .role)) (entityLevel (q .entity)) (either-no-r _ _ (no 10)), tt)) in
+    let at = at-new t (sound-e t (d .isSound)) (q .entity) (created q) l (no 8) in
+    role-kept (atEntity (q .entity) (λ old. created q) t) (q .role) _ made (λ s k m live. live) (λ k old.
+    rights-ok _ _ _ old (q .entity) _ (λ x ok.
+    join-ok _ _ _ x own ok (of-not-false _ (either-no-r _ _ (no 7))) (omega arith) (λ i b m. ap (λ (a : Entity). grantable (q .role) (q .entity) a) at ∙ can)))

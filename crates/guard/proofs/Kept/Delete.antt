@@ -1,0 +1,94 @@
+-- Soundness is kept where an entity without children is emptied, and all rights on it and opens of it go: delete.
+--     barren                              an entity without children that is no root is no live entity's parent
+--     emptied-sound                       the edit, of an entity that nobody uses
+--     cleared-sound, cleared-unused       what makes it so
+--     keeps-delete                        the rule
+-- Assumes nothing.
+use Prim.Native.Nat.{ℕ, _<_}
+use mathlib.Core.Path.{_≡_, refl, ap, sym, _∙_}
+use mathlib.Core.Bool.{true, false}
+use mathlib.Core.Logic.{_⊎_, inl, inr}
+use lib.ListN.{getD, set}
+use lib.Seq.{getD-set-same}
+use native.Mathlib.Omega.{arith}
+use borrow.Author.Tests.{ltb-true, eq-eqb}
+use Rattle.bitset.specs.Tests.{every}
+use Rattle.bitset.specs.Tests.Laws.{decide, clash, not-of-false, every-i, every-at, some-no-e}
+use Rattle.bitset.specs.Sets.{has}
+use Rattle.bitset.specs.Sets.Laws.{has-none, has-without-same}
+use Rattle.guard.specs.Level.{isRoot}
+use Rattle.guard.specs.Label.{labelInRange, sameLabel}
+use Rattle.guard.specs.Tables.{noSession, noEntity, roleAt, entityAt, isChild}
+use Rattle.guard.specs.Chain.{parentOf}
+use Rattle.guard.specs.Sound.{entityInRange, isEmptyEntity, sound}
+use Rattle.guard.specs.Edits.{withEntities, atEntity, eachSession, eachRole, closeBoth, setRights, clearRights}
+use Rattle.guard.specs.Conditions.{hasChildren}
+use Rattle.guard.specs.Requests.{fieldInRange, delete}
+use Rattle.guard.specs.declared.Tables.{Tables}
+use Rattle.guard.specs.declared.Request.{Request}
+use Rattle.guard.proofs.Laws.Refusals.{unmet}
+use Rattle.guard.proofs.Laws.Sound.{Sound, sound-e}
+use Rattle.guard.proofs.Kept.Parts.{map-each, none-ok}
+use Rattle.guard.proofs.Kept.Sessions.{Keeps, closed-ok, each-session-kept}
+use Rattle.guard.proofs.Kept.Roles.{rights-ok, each-role-kept}
+use Rattle.guard.proofs.Kept.Entities.{others-stay, root-parent, Unused, entity-kept}
+
+none-in-range : entityInRange noEntity ≡ true
+unfolding entityInRange labelInRange every
+none-in-range = refl
+
+none-empty : isEmptyEntity noEntity ≡ true
+unfolding isEmptyEntity sameLabel every
+none-empty = refl
+
+barren : (t : Tables) (q : Request) → Sound t → isRoot (q .entity) ≡ false → hasChildren t q ≡ false
+    → (f : ℕ) → f < 64 → entityAt t f .live ≡ true → parentOf t f ≡ q .entity → ⊥
+unfolding hasChildren isChild
+barren t q ok other none f l live parent = go (decide (isRoot f))
+  where
+    go : (isRoot f ≡ true) ⊎ (isRoot f ≡ false) → ⊥
+    go (inl root) = clash (isRoot (q .entity)) (ap isRoot (sym parent ∙ root-parent t ok f l root) ∙ root) other
+    go (inr inner) =
+        clash _ (every-i _ (live, (not-of-false _ inner, (eq-eqb _ _ parent, tt)))) (some-no-e 64 _ none f l)
+
+-- nobody has the entity open, nobody has rights on it, and it is no live entity's parent
+pub emptied-sound : (t : Tables) (e : ℕ) → sound t ≡ true → isRoot e ≡ false → Unused t e
+    → ((f : ℕ) → f < 64 → entityAt t f .live ≡ true → parentOf t f ≡ e → ⊥)
+    → sound (withEntities t (set (t .entities) e noEntity)) ≡ true
+emptied-sound t e h other unused none =
+    entity-kept t e noEntity h (inr unused) (λ f l live s. others-stay t e noEntity _ (none f l live))
+    (record { notRoot = other; range = none-in-range; empty = λ dead. none-empty; placed = λ live. absurd (clash false live refl) })
+
+-- each session closes e, and each role has no rights on it
+module _ (t : Tables) (e : ℕ) (h : sound t ≡ true) (l : e < 64) where
+  abbrev cleared : Tables
+  cleared = eachRole (clearRights e) (eachSession (closeBoth e) t)
+
+  cleared-sound : sound cleared ≡ true
+  unfolding clearRights setRights
+  cleared-sound =
+      each-role-kept (eachSession (closeBoth e) t) (clearRights e)
+      (each-session-kept t (closeBoth e) h (λ s r ok. closed-ok _ _ _ _ ok e))
+      (λ p. refl) (λ r p ok. rights-ok _ _ _ ok e _ (λ x old. none-ok _ _ _))
+
+  cleared-unused : Unused cleared e
+  unfolding eachRole eachSession closeBoth clearRights setRights
+  cleared-unused =
+      record {
+        reading = map-each (λ s r. has (r .reading) e ≡ false) (closeBoth e) 16 (t .sessions) noSession (ok .manySessions) (λ s k. has-without-same _ e);
+        writing = map-each (λ s r. has (r .writing) e ≡ false) (closeBoth e) 16 (t .sessions) noSession (ok .manySessions) (λ s k. has-without-same _ e);
+        rights = map-each (λ r p. (i : ℕ) → i < 4 → has (getD (p .rights) e 0) i ≡ false) (clearRights e) 16 (t .roles) _ (ok .manyRoles)
+            (λ r k i b. rw (getD-set-same (roleAt t r .rights) e 0 0 (omega (arith, ok .role r k .many))) (has-none i));
+      }
+    where
+      ok : Sound t
+      ok = sound-e t h
+
+-- clearing first and emptying then is the same as the rule's order
+pub keeps-delete : Keeps delete
+unfolding delete atEntity eachRole eachSession fieldInRange
+keeps-delete t q d =
+    let no = unmet _ refl (d .none) in
+    let l = ltb-true _ _ (every-at _ (d .ranges) 1) in
+    emptied-sound (cleared t (q .entity) (d .isSound) l) (q .entity) (cleared-sound t (q .entity) (d .isSound) l) (no 6)
+    (cleared-unused t (q .entity) (d .isSound) l) (barren t q (sound-e t (d .isSound)) (no 6) (no 15))

@@ -1,0 +1,254 @@
+-- Sound tables, read as facts (Facts).
+--     sound-e, sound-i                the test `sound` says this, and no more
+--     writing-level, parent-level     two of the facts, of the tables
+-- Assumes nothing.
+use Prim.Native.Nat.{ℕ, _^_, _≤_, _<_}
+use mathlib.Core.Path.{_≡_, refl, sym, _∙_}
+use mathlib.Core.Bool.{Bool, true, false, not}
+use mathlib.Core.List.{List, [], _∷_}
+use lib.Dec.{eqb}
+use lib.ListN.{getD}
+use native.Mathlib.Omega.{arith}
+use borrow.Author.Tests.{eqb-true, eqb-false, leb-true, ltb-true, eq-eqb, ne-eqb, le-leb, lt-ltb}
+use Rattle.bitset.specs.Tests.{every, implies, all}
+use Rattle.bitset.specs.Tests.Laws.{is-false, clash, not-of-true, not-of-false, of-not-true, of-not-false, every-i, every-e, every-at, implies-i, implies-e, all-i, all-e}
+use Rattle.bitset.specs.Sets.{has}
+use Rattle.bitset.specs.Sets.Laws.{has-none, has-below, sets-ext}
+use Rattle.guard.specs.Level.{sessionLevel, entityLevel, isRoot}
+use Rattle.guard.specs.Tables.{sessionAt, roleAt, entityAt, isWriting, rightsOn, isChild}
+use Rattle.guard.specs.Chain.{endsAtRoot}
+use Rattle.guard.specs.Sound.{sessionInRange, roleInRange, fieldsInRange, rootsAsSaid, keepersAsSaid, hasOwnName, isPlaced, entitiesPlaced, isEmptySession, isEmptyRole, deadAreEmpty, deadAreUnused, rightsWithin, readingWithin, writingWithin, sound}
+use Rattle.guard.specs.declared.Session.{Session}
+use Rattle.guard.specs.declared.Role.{Role}
+use Rattle.guard.specs.declared.Entity.{Entity}
+use Rattle.guard.specs.declared.Tables.{Tables}
+pub mod Facts
+pub use Facts.*
+
+-- ---- tests of what is dead
+dead : (a b : Bool) → implies (not a) b ≡ true → a ≡ false → b ≡ true
+dead a b h d = implies-e _ _ h (not-of-false a d)
+
+used : (a b : Bool) → implies (not a) b ≡ true → b ≡ false → a ≡ true
+used a b h k = of-not-false a (is-false (not a) (λ d. clash b (implies-e _ _ h d) k))
+
+idle : (a b : Bool) → (b ≡ false → a ≡ true) → implies (not a) b ≡ true
+unfolding implies
+idle true b f = refl
+idle false true f = refl
+idle false false f = f refl
+
+-- ---- from the test
+set-e : (w : ℕ) (live : Bool) (Q : ℕ → Bool) (s : ℕ) → s < 2 ^ w → (live ≡ false → eqb s 0 ≡ true)
+    → ((i : ℕ) → i < w → has s i ≡ true → Q i ≡ true) → SetOk w live Q s
+set-e w live Q s small empty members = record { small = small; none = λ d. eqb-true s 0 (empty d); members = members }
+
+opened : (live m a b : ℕ → Bool) → all 64 (λ e. implies (not (live e)) (not (m e))) ≡ true
+    → all 64 (λ e. implies (m e) (every (a e ∷ b e ∷ []))) ≡ true
+    → (e : ℕ) → e < 64 → m e ≡ true → every (live e ∷ a e ∷ b e ∷ []) ≡ true
+opened live m a b h k e l o =
+    let within = every-e _ (implies-e _ _ (all-e 64 _ k e l) o) in
+    every-i _ (used (live e) (not (m e)) (all-e 64 _ h e l) (not-of-true _ o), within)
+
+session-e : (t : Tables) → sound t ≡ true → (s : ℕ) → s < 16 → SessionOk (t .roles) (t .entities) s (sessionAt t s)
+unfolding sound fieldsInRange sessionInRange isEmptySession deadAreEmpty deadAreUnused readingWithin writingWithin
+session-e t h s l =
+    let r = sessionAt t s in
+    let range = all-e 16 _ (every-at _ (every-at _ h 0) 2) s l in
+    let empty : r .live ≡ false → isEmptySession r ≡ true = λ d. dead _ _ (all-e 16 _ (every-at _ (every-at _ h 4) 0) s l) d in
+    let unused = every-at _ h 5 in
+    record {
+      user = ltb-true _ _ (every-at _ range 0);
+      label = every-at _ range 1;
+      empty = λ d. (eqb-true _ _ (every-at _ (empty d) 0), every-at _ (empty d) 1);
+      held = set-e 16 _ _ _ (ltb-true _ _ (every-at _ range 2)) (λ d. every-at _ (empty d) 2)
+          (λ p k m. used _ _ (all-e 16 _ (all-e 16 _ (every-at _ unused 3) s l) p k) (not-of-true _ m));
+      reading = set-e 64 _ _ _ (ltb-true _ _ (every-at _ range 3)) (λ d. every-at _ (empty d) 3)
+          (opened _ _ _ _ (all-e 16 _ (every-at _ unused 1) s l) (all-e 16 _ (every-at _ h 7) s l));
+      writing = set-e 64 _ _ _ (ltb-true _ _ (every-at _ range 4)) (λ d. every-at _ (empty d) 4)
+          (opened _ _ _ _ (all-e 16 _ (every-at _ unused 2) s l) (all-e 16 _ (every-at _ h 8) s l));
+    }
+
+role-e : (t : Tables) → sound t ≡ true → (r : ℕ) → r < 16 → RoleOk (t .entities) r (roleAt t r)
+unfolding sound fieldsInRange roleInRange keepersAsSaid isEmptyRole deadAreEmpty deadAreUnused rightsWithin
+role-e t h r l =
+    let p = roleAt t r in
+    let range = all-e 16 _ (every-at _ (every-at _ h 0) 4) r l in
+    let empty : p .live ≡ false → isEmptyRole p ≡ true = λ d. dead _ _ (all-e 16 _ (every-at _ (every-at _ h 4) 1) r l) d in
+    let unused = all-e 16 _ (every-at _ (every-at _ h 5) 0) r l in
+    let within = all-e 16 _ (every-at _ h 6) r l in
+    record {
+      keeper = λ k. implies-e _ _ (all-e 16 _ (every-at _ h 2) r l) k;
+      users = set-e 16 _ _ _ (ltb-true _ _ (every-at _ range 0)) (λ d. every-at _ (empty d) 0) (λ u k m. refl);
+      many = eqb-true _ _ (every-at _ range 1);
+      rights = λ e k.
+          set-e 4 _ _ _ (omega (arith, leb-true (getD (p .rights) e 0) 15 (all-e 64 _ (every-at _ range 2) e k)))
+          (λ d. all-e 64 _ (every-at _ (empty d) 1) e k)
+          (λ i b m.
+          let some = ne-eqb (getD (p .rights) e 0) 0 (λ z. clash (has 0 i) (rw z at m) (has-none i)) in
+          every-i _ (used _ _ (all-e 64 _ unused e k) some, (implies-e _ _ (all-e 64 _ within e k) (not-of-false _ some), tt)));
+    }
+
+entity-e : (t : Tables) → sound t ≡ true → (e : ℕ) → e < 64 → EntityOk (t .entities) e (entityAt t e)
+unfolding sound fieldsInRange rootsAsSaid entitiesPlaced isPlaced hasOwnName isChild endsAtRoot deadAreEmpty
+entity-e t h e l =
+    let n = entityAt t e in
+    record {
+      range = all-e 64 _ (every-at _ (every-at _ h 0) 6) e l;
+      root = λ k. implies-e _ _ (all-e 64 _ (every-at _ h 1) e l) k;
+      placed = λ live other.
+          let placed = implies-e _ _ (all-e 64 _ (every-at _ h 3) e l) (every-i _ (live, (not-of-false _ other, tt))) in
+          record {
+            named = every-at _ placed 0;
+            inside = record {
+              parent = every-i _ (every-at _ placed 1, (every-at _ placed 2, (every-at _ placed 3, (every-at _ placed 4, tt))));
+              chain = every-at _ placed 6;
+            };
+            ownName = λ f k ne child.
+                of-not-true _ (implies-e _ _ (all-e 64 _ (every-at _ placed 5) f k) (every-i _ (child, (not-of-false _ (ne-eqb f e ne), tt))));
+          };
+      empty = λ d. dead _ _ (all-e 64 _ (every-at _ (every-at _ h 4) 2) e l) d;
+    }
+
+pub sound-e : (t : Tables) → sound t ≡ true → Sound t
+unfolding sound fieldsInRange
+sound-e t h =
+    let fields = every-at _ h 0 in
+    record {
+      users = every-at _ fields 0;
+      manySessions = eqb-true _ _ (every-at _ fields 1);
+      manyRoles = eqb-true _ _ (every-at _ fields 3);
+      manyEntities = eqb-true _ _ (every-at _ fields 5);
+      session = session-e t h;
+      role = role-e t h;
+      entity = entity-e t h;
+    }
+
+-- ---- and back
+
+-- the facts for a list of tests, one after the other
+infixr 30 _also_
+data AllMet : List Bool → Type 0 where
+  no-more : AllMet []
+  _also_ : {b : Bool} {bs : List Bool} → b ≡ true → AllMet bs → AllMet (b ∷ bs)
+
+every-of : (l : List Bool) → AllMet l → every l ≡ true
+every-of l no-more = every-i _ tt
+every-of l (p also ps) = every-i _ (p, every-e _ (every-of _ ps))
+
+-- a set that is not empty has a member
+some-member : (w : ℕ) (live b : Bool) (s : ℕ) → SetOk w live (λ i. b) s → eqb s 0 ≡ false → b ≡ true
+some-member w live b s ok some =
+    of-not-false b (is-false (not b) (λ no. eqb-false s 0 some (sets-ext s 0 (λ i.
+    is-false (has s i) (λ m. clash b (ok .members i (has-below w s i (ok .small) m) m) (of-not-true b no)) ∙ sym (has-none i)))))
+
+-- what is open for reading, or for writing
+open-i : (live m a b : ℕ → Bool) → ((e : ℕ) → e < 64 → m e ≡ true → every (live e ∷ a e ∷ b e ∷ []) ≡ true)
+    → (all 64 (λ e. implies (not (live e)) (not (m e))) ≡ true) × (all 64 (λ e. implies (m e) (every (a e ∷ b e ∷ []))) ≡ true)
+open-i live m a b f = (
+  all-i 64 _ (λ e l. idle _ _ (λ o. every-at _ (f e l (of-not-false _ o)) 0)),
+  all-i 64 _ (λ e l. implies-i _ _ (λ o. every-i _ (every-e _ (f e l o) .1))),
+)
+
+module _ (roles : List Role) (es : List Entity) (s : ℕ) (r : Session) (ok : SessionOk roles es s r) where
+  session-range : sessionInRange r ≡ true
+  unfolding sessionInRange
+  session-range =
+      every-of _
+      (lt-ltb _ _ (ok .user)
+      also ok .label
+      also lt-ltb _ _ (ok .held .small)
+      also lt-ltb _ _ (ok .reading .small)
+      also lt-ltb _ _ (ok .writing .small)
+      also no-more)
+
+  session-empty : r .live ≡ false → isEmptySession r ≡ true
+  unfolding isEmptySession
+  session-empty d =
+      every-of _
+      (eq-eqb _ _ (ok .empty d .0)
+      also ok .empty d .1
+      also eq-eqb _ _ (ok .held .none d)
+      also eq-eqb _ _ (ok .reading .none d)
+      also eq-eqb _ _ (ok .writing .none d)
+      also no-more)
+
+module _ (es : List Entity) (r : ℕ) (p : Role) (ok : RoleOk es r p) where
+  role-range : roleInRange p ≡ true
+  unfolding roleInRange
+  role-range =
+      every-of _
+      (lt-ltb _ _ (ok .users .small)
+      also eq-eqb _ _ (ok .many)
+      also all-i 64 _ (λ e l. le-leb (getD (p .rights) e 0) 15 (omega (arith, ok .rights e l .small)))
+      also no-more)
+
+  role-empty : p .live ≡ false → isEmptyRole p ≡ true
+  unfolding isEmptyRole
+  role-empty d = every-of _ (eq-eqb _ _ (ok .users .none d) also all-i 64 _ (λ e l. eq-eqb _ _ (ok .rights e l .none d)) also no-more)
+
+placed-i : (t : Tables) (e : ℕ) → Placed (t .entities) e (entityAt t e) → isPlaced t e ≡ true
+unfolding isPlaced hasOwnName isChild endsAtRoot
+placed-i t e ok =
+    let parent = every-at _ (ok .inside .parent) in
+    every-of _ (ok .named also parent 0 also parent 1 also parent 2 also parent 3 also own also ok .inside .chain also no-more)
+  where
+    own : hasOwnName t e ≡ true
+    own = all-i 64 _ (λ f l. implies-i _ _ (λ h. not-of-false _ (ok .ownName f l (eqb-false f e (of-not-true _ (every-at _ h 1))) (every-at _ h 0))))
+
+pub sound-i : (t : Tables) → Sound t → sound t ≡ true
+unfolding sound fieldsInRange rootsAsSaid keepersAsSaid entitiesPlaced deadAreEmpty deadAreUnused rightsWithin readingWithin writingWithin
+sound-i t ok =
+    every-of _
+    (fields
+    also all-i 64 _ (λ e l. implies-i _ _ (ok .entity e l .root))
+    also all-i 16 _ (λ r l. implies-i _ _ (ok .role r l .keeper))
+    also all-i 64 _ (λ e l. implies-i _ _ (λ h. placed-i t e (ok .entity e l .placed (every-at _ h 0) (of-not-true _ (every-at _ h 1)))))
+    also empty
+    also unused
+    also all-i 16 _ (λ r l. all-i 64 _ (λ e k. implies-i _ _ (λ some. every-at _ (granted r e l k (of-not-true _ some)) 1)))
+    also all-i 16 _ (λ s l. open-i _ _ _ _ (ok .session s l .reading .members) .1)
+    also all-i 16 _ (λ s l. open-i _ _ _ _ (ok .session s l .writing .members) .1)
+    also no-more)
+  where
+    fields : fieldsInRange t ≡ true
+    fields =
+        every-of _
+        (ok .users
+        also eq-eqb _ _ (ok .manySessions)
+        also all-i 16 _ (λ s l. session-range _ _ s _ (ok .session s l))
+        also eq-eqb _ _ (ok .manyRoles)
+        also all-i 16 _ (λ r l. role-range _ r _ (ok .role r l))
+        also eq-eqb _ _ (ok .manyEntities)
+        also all-i 64 _ (λ e l. ok .entity e l .range)
+        also no-more)
+
+    empty : deadAreEmpty t ≡ true
+    empty =
+        every-of _
+        (all-i 16 _ (λ s l. implies-i _ _ (λ d. session-empty _ _ s _ (ok .session s l) (of-not-true _ d)))
+        also all-i 16 _ (λ r l. implies-i _ _ (λ d. role-empty _ r _ (ok .role r l) (of-not-true _ d)))
+        also all-i 64 _ (λ e l. implies-i _ _ (λ d. ok .entity e l .empty (of-not-true _ d)))
+        also no-more)
+
+    granted : (r e : ℕ) → r < 16 → e < 64 → eqb (rightsOn t r e) 0 ≡ false → grantable r e (entityAt t e) ≡ true
+    granted r e l k = some-member _ _ _ _ (ok .role r l .rights e k)
+
+    unused : deadAreUnused t ≡ true
+    unused =
+        every-of _
+        (all-i 16 _ (λ r l. all-i 64 _ (λ e k. idle _ _ (λ some. every-at _ (granted r e l k some) 0)))
+        also all-i 16 _ (λ s l. open-i _ _ _ _ (ok .session s l .reading .members) .0)
+        also all-i 16 _ (λ s l. open-i _ _ _ _ (ok .session s l .writing .members) .0)
+        also all-i 16 _ (λ s l. all-i 16 _ (λ r k. idle _ _ (λ m. ok .session s l .held .members r k (of-not-false _ m))))
+        also no-more)
+
+-- ---- of the tables
+pub writing-level : (t : Tables) → sound t ≡ true → (s e : ℕ) → s < 16 → e < 64 → isWriting t s e ≡ true → entityLevel e ≤ sessionLevel s
+writing-level t h s e k l w = leb-true _ _ (every-at _ (session-e t h s k .writing .members e l w) 1)
+
+pub parent-level : (t : Tables) → sound t ≡ true → (e : ℕ) → e < 64 → entityAt t e .live ≡ true → isRoot e ≡ false
+    → (entityLevel (entityAt t e .parent) ≡ entityLevel e) × (entityAt t (entityAt t e .parent) .live ≡ true)
+parent-level t h e l live other =
+    let parent = entity-e t h e l .placed live other .inside .parent in
+    (eqb-true _ _ (every-at _ parent 2), every-at _ parent 0)

@@ -1,0 +1,106 @@
+-- Sound tables, as facts: what each session, role and entity has to be, over the lists that it speaks of, so that an edit
+-- of one list leaves what is said over the others as it stands.
+--     SetOk                                             a set that a session or a role has, its rights on one entity too
+--     SessionOk, RoleOk, Inside, Placed, EntityOk       one record of each list
+--     Sound                                             the tables
+-- Assumes nothing.
+use Prim.Native.Nat.{ℕ, _^_, _<_}
+use mathlib.Core.Path.{_≡_}
+use mathlib.Core.Bool.{Bool, true, false, not}
+use mathlib.Core.List.{List, [], _∷_}
+use lib.Dec.{leb, eqb}
+use lib.ListN.{length, getD}
+use Rattle.bitset.specs.Tests.{every}
+use Rattle.bitset.specs.Sets.{has}
+use Rattle.guard.specs.Level.{sessionLevel, roleLevel, entityLevel, isRoot, isKeeper}
+use Rattle.guard.specs.Label.{labelInRange, dominates, sameLabel, noLabel}
+use Rattle.guard.specs.Tables.{noEntity, sessionAt, roleAt, entityAt, container}
+use Rattle.guard.specs.Chain.{climbs}
+use Rattle.guard.specs.Sound.{entityInRange, usersInRange, isRootRecord, isEmptyEntity}
+use Rattle.guard.specs.declared.Label.{Label}
+use Rattle.guard.specs.declared.Session.{Session}
+use Rattle.guard.specs.declared.Role.{Role}
+use Rattle.guard.specs.declared.Entity.{Entity}
+use Rattle.guard.specs.declared.Tables.{Tables}
+
+-- ---- the records of a list
+abbrev pub roleIn : List Role → ℕ → Role
+roleIn roles r = getD roles r (record { live = false; users = 0; rights = [] })
+
+abbrev pub entityIn : List Entity → ℕ → Entity
+entityIn entities e = getD entities e noEntity
+
+abbrev pub parentIn : List Entity → ℕ → ℕ
+parentIn entities e = entityIn entities e .parent
+
+-- ---- what is open, or has rights on it, and what is a child
+abbrev pub readable : ℕ → Label → ℕ → Entity → Bool
+readable s l e n = every (n .live ∷ leb (sessionLevel s) (entityLevel e) ∷ dominates l (n .label) ∷ [])
+
+abbrev pub writable : ℕ → Label → ℕ → Entity → Bool
+writable s l e n = every (n .live ∷ leb (entityLevel e) (sessionLevel s) ∷ sameLabel l (n .label) ∷ [])
+
+abbrev pub grantable : ℕ → ℕ → Entity → Bool
+grantable r e n = every (n .live ∷ leb (entityLevel e) (roleLevel r) ∷ [])
+
+abbrev pub childOf : ℕ → ℕ → Entity → Bool
+childOf p f n = every (n .live ∷ not (isRoot f) ∷ eqb (n .parent) p ∷ [])
+
+-- n, at e, may lie in p, its parent's record
+abbrev pub fitsIn : ℕ → Entity → Entity → Bool
+fitsIn e n p =
+    every
+    (p .live
+    ∷ eqb (p .kind) container
+    ∷ eqb (entityLevel (n .parent)) (entityLevel e)
+    ∷ dominates (n .label) (p .label)
+    ∷ [])
+
+-- ---- a set of w bits whose members are as Q asks, and which has none where its record is dead
+pub record SetOk (w : ℕ) (live : Bool) (Q : ℕ → Bool) (set : ℕ) : Type 0 where
+  pub small : set < 2 ^ w
+  pub none : live ≡ false → set ≡ 0
+  pub members : (i : ℕ) → i < w → has set i ≡ true → Q i ≡ true
+
+-- ---- one record
+pub record SessionOk (roles : List Role) (entities : List Entity) (s : ℕ) (r : Session) : Type 0 where
+  pub user : r .user < 16
+  pub label : labelInRange (r .label) ≡ true
+  pub empty : r .live ≡ false → (r .user ≡ 0) × (sameLabel (r .label) noLabel ≡ true)
+  pub held : SetOk 16 (r .live) (λ p. roleIn roles p .live) (r .roles)
+  pub reading : SetOk 64 (r .live) (λ e. readable s (r .label) e (entityIn entities e)) (r .reading)
+  pub writing : SetOk 64 (r .live) (λ e. writable s (r .label) e (entityIn entities e)) (r .writing)
+
+pub record RoleOk (entities : List Entity) (r : ℕ) (p : Role) : Type 0 where
+  pub keeper : isKeeper r ≡ true → p .live ≡ true
+  pub users : SetOk 16 (p .live) (λ u. true) (p .users)
+  pub many : length (p .rights) ≡ 64
+  pub rights : (e : ℕ) → e < 64 → SetOk 4 (p .live) (λ i. grantable r e (entityIn entities e)) (getD (p .rights) e 0)
+
+abbrev pub OwnName : List Entity → ℕ → Entity → Type 0
+OwnName entities e n = (f : ℕ) → f < 64 → (f ≡ e → ⊥) → childOf (n .parent) f (entityIn entities f) ≡ true → eqb (entityIn entities f .name) (n .name) ≡ false
+
+-- where n, at e, lies
+pub record Inside (entities : List Entity) (e : ℕ) (n : Entity) : Type 0 where
+  pub parent : fitsIn e n (entityIn entities (n .parent)) ≡ true
+  pub chain : climbs (parentIn entities) (λ c. true) 16 e ≡ true
+
+pub record Placed (entities : List Entity) (e : ℕ) (n : Entity) : Type 0 where
+  pub named : leb 1 (n .name) ≡ true
+  pub inside : Inside entities e n
+  pub ownName : OwnName entities e n
+
+pub record EntityOk (entities : List Entity) (e : ℕ) (n : Entity) : Type 0 where
+  pub range : entityInRange n ≡ true
+  pub root : isRoot e ≡ true → isRootRecord e n ≡ true
+  pub placed : n .live ≡ true → isRoot e ≡ false → Placed entities e n
+  pub empty : n .live ≡ false → isEmptyEntity n ≡ true
+
+pub record Sound (t : Tables) : Type 0 where
+  pub users : usersInRange (t .users) ≡ true
+  pub manySessions : length (t .sessions) ≡ 16
+  pub manyRoles : length (t .roles) ≡ 16
+  pub manyEntities : length (t .entities) ≡ 64
+  pub session : (s : ℕ) → s < 16 → SessionOk (t .roles) (t .entities) s (sessionAt t s)
+  pub role : (r : ℕ) → r < 16 → RoleOk (t .entities) r (roleAt t r)
+  pub entity : (e : ℕ) → e < 64 → EntityOk (t .entities) e (entityAt t e)
