@@ -1,0 +1,85 @@
+-- Respect: a request whose seat and all that it names are upper takes equal upper parts to equal upper parts, where it is
+-- done in both tables.
+--     respects        each rule's effect, by the laws of its edits
+-- Assumes nothing.
+use Prim.Native.Nat.{ℕ}
+use mathlib.Core.Path.{_≡_}
+use mathlib.Core.Bool.{true}
+use lib.Dec.{leb}
+use mathlib.Core.List.{map}
+use Rattle.bitset.specs.Tests.{every}
+use Rattle.bitset.specs.Tests.Laws.{every-at}
+use Rattle.guard.specs.Level.{sessionLevel, roleLevel, entityLevel}
+use Rattle.guard.specs.Tables.{noSession, noRole}
+use Rattle.guard.specs.Edits.{atSession, atRole, atEntity, eachSession, eachRole, dropRole, closeBoth, addRights, removeRights, clearRights}
+use Rattle.guard.specs.Requests.{Rule, loggedIn, login, logout, take, drop, openr, openw, close, create, delete, rename, grant, revoke, list, unlist, madeRole, make, unmake, unknown, rules, ruleOf}
+use Rattle.guard.specs.Upper.{upperSession, upperRole, fieldUpper}
+use Rattle.guard.specs.declared.Session.{Session}
+use Rattle.guard.specs.declared.Role.{Role}
+use Rattle.guard.specs.declared.Entity.{Entity}
+use Rattle.guard.specs.declared.Tables.{Tables}
+use Rattle.guard.specs.declared.Request.{Request}
+use Rattle.guard.proofs.Laws.Step.{each-rule}
+use Rattle.isolation.specs.Proof.Lists.{Image, const-image, whole-image}
+use Rattle.isolation.specs.Proof.Views.{Same, upper-seat, upper-role, upper-entity}
+use Rattle.isolation.specs.Proof.Edits.{sessionTable, roleTable, entityTable, row-alike, rows-alike, taking, dropping, opening-r, opening-w, closing, setting, listing-image, unlisting-image}
+use Rattle.isolation.specs.Proof.{_and_}
+
+module _ (L : ℕ) (q : Request) where
+  -- ---- the edits of the records that a request names
+  at-seat : (f : Session → Session) → leb L (sessionLevel (q .seat)) ≡ true → Image (upperSession L) f
+      → (t u : Tables) → Same L t u → Same L (atSession (q .seat) f t) (atSession (q .seat) f u)
+  unfolding atSession
+  at-seat f up image t u = row-alike L (sessionTable L) f (q .seat) t u (upper-seat L (q .seat) up) image
+
+  at-role : (f : Role → Role) → leb L (roleLevel (q .role)) ≡ true → Image (upperRole L) f
+      → (t u : Tables) → Same L t u → Same L (atRole (q .role) f t) (atRole (q .role) f u)
+  unfolding atRole
+  at-role f up image t u = row-alike L (roleTable L) f (q .role) t u (upper-role L (q .role) up) image
+
+  at-entity : (f : Entity → Entity) → leb L (entityLevel (q .entity)) ≡ true
+      → (t u : Tables) → Same L t u → Same L (atEntity (q .entity) f t) (atEntity (q .entity) f u)
+  unfolding atEntity
+  at-entity f up t u = row-alike L (entityTable L) f (q .entity) t u (upper-entity L (q .entity) up) (whole-image f)
+
+  -- ---- the rules, in their order
+  abbrev Respects : Rule → Type 0
+  Respects rule = every (map (fieldUpper L q) (rule .uses)) ≡ true → (t u : Tables) → Same L t u → Same L (rule .effect q t) (rule .effect q u)
+
+  pub respects : Respects (ruleOf q)
+  unfolding rules login logout take drop openr openw close create delete rename grant revoke list unlist make unmake unknown fieldUpper eachSession eachRole addRights removeRights clearRights
+  respects =
+      each-rule Respects
+      ((λ n. at-seat _ (every-at _ n 0) (const-image (upperSession L) (loggedIn q)))  -- login
+      and (λ n. at-seat _ (every-at _ n 0) (const-image (upperSession L) noSession))  -- logout
+      and (λ n. at-seat _ (every-at _ n 0) (taking L (q .role) .1 (upper-role L (q .role) (every-at _ n 1))))  -- take
+      and (λ n. at-seat _ (every-at _ n 0) (dropping L (q .role) .1 (upper-role L (q .role) (every-at _ n 1))))  -- drop
+      and (λ n. at-seat _ (every-at _ n 0) (opening-r L (q .entity) .1 (upper-entity L (q .entity) (every-at _ n 1))))  -- openr
+      and (λ n. at-seat _ (every-at _ n 0) (opening-w L (q .entity) .1 (upper-entity L (q .entity) (every-at _ n 1))))  -- openw
+      and (λ n. at-seat _ (every-at _ n 0) (closing L (q .entity) .1 (upper-entity L (q .entity) (every-at _ n 1))))  -- close
+      and create-respects  -- create
+      and delete-respects  -- delete
+      and (λ n. at-entity _ (every-at _ n 1))  -- rename
+      and (λ n. at-role _ (every-at _ n 1) (setting L (q .entity) _ .1 (upper-entity L (q .entity) (every-at _ n 2))))  -- grant
+      and (λ n. at-role _ (every-at _ n 1) (setting L (q .entity) _ .1 (upper-entity L (q .entity) (every-at _ n 2))))  -- revoke
+      and (λ n. at-role _ (every-at _ n 1) (listing-image L (q .user)))  -- list
+      and (λ n. at-role _ (every-at _ n 1) (unlisting-image L (q .user)))  -- unlist
+      and (λ n. at-role _ (every-at _ n 1) (const-image (upperRole L) madeRole))  -- make
+      and unmake-respects  -- unmake
+      and tt)
+      (λ n t u same. same) q
+    where
+      create-respects : Respects create
+      create-respects n t u same =
+          at-role _ (every-at _ n 6) (setting L (q .entity) _ .1 (upper-entity L (q .entity) (every-at _ n 1))) _ _ (at-entity _ (every-at _ n 1) t u same)
+
+      delete-respects : Respects delete
+      delete-respects n t u same =
+          let up = upper-entity L (q .entity) (every-at _ n 1) in
+          rows-alike L (sessionTable L) (closeBoth (q .entity)) _ _ (closing L (q .entity) .1 up)
+          (rows-alike L (roleTable L) (clearRights (q .entity)) _ _ (setting L (q .entity) _ .1 up) (at-entity _ (every-at _ n 1) t u same))
+
+      unmake-respects : Respects unmake
+      unmake-respects n t u same =
+          rows-alike L (sessionTable L) (dropRole (q .role)) _ _ (dropping L (q .role) .1 (upper-role L (q .role) (every-at _ n 1)))
+          (at-role _ (every-at _ n 1) (const-image (upperRole L) noRole) t u same)

@@ -1,0 +1,122 @@
+-- One request, and from it all logs.
+--     lower-keeps, upper-agrees, upper-tells      what Log asks of one request
+--     isolated                                    the isolation rule, for any level, in Log's terms
+--     rule                                        .. over guard's run and upperAnswers
+-- Assumes nothing.
+use Prim.Native.Nat.{ℕ}
+use mathlib.Core.Path.{_≡_, refl, sym, ap, _∙_}
+use mathlib.Core.Bool.{Bool, true, false, not, cond}
+use mathlib.Core.List.{List, [], _∷_, map}
+use lib.Dec.{eqb}
+use Rattle.bitset.specs.Tests.{every}
+use Rattle.bitset.specs.Tests.Laws.{every-i, every-e, every-at, is-false, clash, of-not-false}
+use Rattle.guard.specs.Sound.{sound}
+use Rattle.guard.specs.Requests.{Rule, Field, seat, fieldInRange, login, logout, take, drop, openr, openw, close, create, delete, rename, grant, revoke, list, unlist, make, unmake, unknown, rules, ruleOf}
+use Rattle.guard.specs.Step.{inRanges, answer, next, run}
+use Rattle.guard.specs.Upper.{upper, isUpper, fieldUpper, namesUpper, upperRequests, upperAnswers}
+use Rattle.guard.specs.declared.Tables.{Tables}
+use Rattle.guard.specs.declared.Request.{Request}
+use Rattle.guard.proofs.Laws.Refusals.{alike-first}
+use Rattle.guard.proofs.Laws.Step.{Done, next-by, each-rule}
+use Rattle.guard.proofs.Kept.{sound-next}
+use Rattle.isolation.specs.Log.{runLog, upperOf, answersOf, logs}
+use Rattle.isolation.specs.Proof.{_and_}
+use Rattle.isolation.specs.Proof.Views.{same-of, of-same}
+use Rattle.isolation.specs.Proof.Keep.{keeps}
+use Rattle.isolation.specs.Proof.Respect.{respects}
+use Rattle.isolation.specs.Proof.Agree.{agrees}
+
+-- every rule uses the acting seat, first
+abbrev SeatFirst : List Field → Type 0
+SeatFirst [] = ⊥
+SeatFirst (f ∷ fs) = f ≡ seat
+
+seat-first : (q : Request) → SeatFirst (ruleOf q .uses)
+unfolding rules login logout take drop openr openw close create delete rename grant revoke list unlist make unmake unknown
+seat-first =
+    each-rule (λ (r : Rule). SeatFirst (r .uses))
+    (refl and refl and refl and refl and refl and refl and refl and refl and refl and refl and refl and refl and refl and refl and refl and refl and tt) refl
+
+module _ (L : ℕ) where
+  -- a request in range that names only upper things is upper
+  names-upper : (q : Request) → inRanges q ≡ true → namesUpper L q ≡ true → isUpper L q ≡ true
+  unfolding inRanges namesUpper isUpper fieldInRange fieldUpper
+  names-upper q = go (ruleOf q .uses) (seat-first q)
+    where
+      go : (fs : List Field) → SeatFirst fs → every (map (fieldInRange q) fs) ≡ true → every (map (fieldUpper L q) fs) ≡ true → isUpper L q ≡ true
+      go [] first r n = absurd first
+      go (f ∷ fs) first r n = every-i _ (rw first at (every-at _ r 0), (rw first at (every-at _ n 0), tt))
+
+  low-names : (t : Tables) (q : Request) → namesUpper L q ≡ false → upper L (next t q) ≡ upper L t
+  unfolding namesUpper
+  low-names t q low = next-by (λ (v : Tables). upper L v ≡ upper L t) t q refl (λ d. of-same L _ t (keeps L t q d low))
+
+  lower-keeps : (t : Tables) (q : Request) → sound t ≡ true → isUpper L q ≡ false → upper L (next t q) ≡ upper L t
+  unfolding namesUpper inRanges
+  lower-keeps t q st low = next-by (λ (v : Tables). upper L v ≡ upper L t) t q refl (λ d. of-same L _ t (keeps L t q d (names-low d)))
+    where
+      names-low : Done (ruleOf q) t q → namesUpper L q ≡ false
+      names-low d = is-false _ (λ n. clash (isUpper L q) (names-upper q (d .ranges) n) low)
+
+  upper-tells : (t u : Tables) (q : Request) → sound t ≡ true → sound u ≡ true → upper L t ≡ upper L u → namesUpper L q ≡ true → answer t q ≡ answer u q
+  unfolding answer inRanges namesUpper
+  upper-tells t u q st su e n =
+      alike-first _ _
+      (refl, ap not (st ∙ sym su), λ a b. (refl, refl, λ r b. agrees L q t u (same-of L t u e) st su (of-not-false _ r) n))
+
+  upper-agrees : (t u : Tables) (q : Request) → sound t ≡ true → sound u ≡ true → upper L t ≡ upper L u → upper L (next t q) ≡ upper L (next u q)
+  unfolding next namesUpper
+  upper-agrees t u q st su e = go (namesUpper L q) refl
+    where
+      both : namesUpper L q ≡ true → (b : Bool) → upper L (cond b (ruleOf q .effect q t) t) ≡ upper L (cond b (ruleOf q .effect q u) u)
+      both n true = of-same L _ _ (respects L q n t u (same-of L t u e))
+      both n false = e
+
+      go : (b : Bool) → namesUpper L q ≡ b → upper L (next t q) ≡ upper L (next u q)
+      go true n = rw (upper-tells t u q st su e n) (both n (eqb (answer u q) 0))
+      go false low = low-names t q low ∙ e ∙ sym (low-names u q low)
+
+  -- ---- all logs
+  requests-are : (a : List Request) → upperRequests L a ≡ upperOf (isUpper L) a
+  unfolding upperRequests upperOf
+  requests-are [] = refl
+  requests-are (q ∷ a) = rw (requests-are a)
+
+  -- nothing is asked of upper requests
+  all-fit : (a : List Request) → every (map (λ (q : Request). true) a) ≡ true
+  all-fit [] = every-i [] tt
+  all-fit (q ∷ a) = every-i _ (refl, every-e _ (all-fit a))
+
+  -- what is compared of the tables, whose answers are, and which logs
+  abbrev View : Tables → Tables
+  View = upper L
+
+  abbrev Compared : Request → Bool
+  Compared = namesUpper L
+
+  abbrev Matching : List Request → List Request → Type 0
+  Matching a b = upperRequests L a ≡ upperRequests L b
+
+  pub isolated : (t u : Tables) → sound t ≡ true → sound u ≡ true → View t ≡ View u → (a b : List Request) → Matching a b
+      → (View (runLog next t a) ≡ View (runLog next u b))
+      × (answersOf next answer (isUpper L) Compared t a ≡ answersOf next answer (isUpper L) Compared u b)
+  isolated t u st su e a b same =
+      logs next answer (isUpper L) Compared (λ q. true) View (λ v. sound v ≡ true) sound-next lower-keeps
+      (λ v w q sv sw e up fit. upper-agrees v w q sv sw e) (λ v w q sv sw e up fit n. upper-tells v w q sv sw e n)
+      t u st su e a b (sym (requests-are a) ∙ same ∙ requests-are b) (all-fit (upperOf (isUpper L) a))
+
+  -- ---- the same over guard's run and upperAnswers
+  run-is : (a : List Request) (t : Tables) → run t a ≡ runLog next t a
+  unfolding run runLog
+  run-is [] t = refl
+  run-is (q ∷ a) t = run-is a (next t q)
+
+  answers-are : (a : List Request) (t : Tables) → upperAnswers L t a ≡ answersOf next answer (isUpper L) (namesUpper L) t a
+  unfolding upperAnswers answersOf
+  answers-are [] t = refl
+  answers-are (q ∷ a) t = rw (answers-are a (next t q))
+
+  pub rule : (t u : Tables) → sound t ≡ true → sound u ≡ true → upper L t ≡ upper L u
+      → (a b : List Request) → upperRequests L a ≡ upperRequests L b
+      → (upper L (run t a) ≡ upper L (run u b)) × (upperAnswers L t a ≡ upperAnswers L u b)
+  rule t u st su e a b same = rw (run-is a t, run-is b u, answers-are a t, answers-are b u) (isolated t u st su e a b same)

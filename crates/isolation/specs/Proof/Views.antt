@@ -1,0 +1,184 @@
+-- What equal upper parts tell of two tables.
+--     upper-seat .. lower-entity    from a number's level to its place before or after the first upper one
+--     Same, same-of, of-same        equal upper parts, as four equations of lists
+--     session-same .. listed-same   what the records at upper numbers agree on
+--     hasRight-same, reaches-same   rights on an upper entity, and the way to it
+--     none-below, child-same        the children of an upper entity
+-- Assumes nothing.
+use Prim.Native.Nat.{ℕ, zero, suc, _≤_, _<_}
+use mathlib.Core.Path.{_≡_, refl, sym, ap, _∙_}
+use mathlib.Core.Bool.{Bool, true, false, not}
+use mathlib.Core.List.{[], _∷_, map}
+use native.Mathlib.Decide.{decLt}
+use native.Mathlib.Omega.{arith}
+use lib.Dec.{leb, eqb}
+use lib.ListN.{drop}
+use borrow.Author.Tests.{leb-true, leb-false, eqb-true}
+use Rattle.bitset.specs.Tests.{every, either}
+use Rattle.bitset.specs.Tests.Laws.{every-e, some-cong, is-false, of-not-true}
+use Rattle.bitset.specs.Sets.{contains}
+use Rattle.bitset.specs.Sets.Shift.{from-has}
+use Rattle.guard.specs.Level.{roleCount, entityCount, sessionLevel, roleLevel, entityLevel, entitiesPerLevel, isRoot}
+use Rattle.guard.specs.Tables.{noSession, noEntity, sessionAt, roleAt, entityAt, holds, isReading, isWriting, rightsOn, hasRight, isChild, execute}
+use Rattle.guard.specs.Chain.{climbs, parentOf, reaches}
+use Rattle.guard.specs.Sound.{sound}
+use Rattle.guard.specs.Upper.{firstSession, firstRole, firstEntity, upperSession, upperRole, upper}
+use Rattle.guard.specs.declared.Session.{Session}
+use Rattle.guard.specs.declared.Role.{Role}
+use Rattle.guard.specs.declared.Entity.{Entity}
+use Rattle.guard.specs.declared.Tables.{Tables}
+use Rattle.guard.proofs.Laws.Sound.{parent-level}
+use Rattle.isolation.specs.Proof.Lists.{map-whole, seen, dropped-at, seen-at}
+
+-- ---- upper and lower numbers
+module _ (L n : ℕ) where
+  pub upper-seat : leb L (sessionLevel n) ≡ true → firstSession L ≤ n
+  upper-seat h = omega (arith, leb-true L (sessionLevel n) h)
+
+  pub lower-seat : leb L (sessionLevel n) ≡ false → n < firstSession L
+  lower-seat h = omega (arith, leb-false L (sessionLevel n) h)
+
+  pub upper-role : leb L (roleLevel n) ≡ true → firstRole L ≤ n
+  upper-role h = omega (arith, leb-true L (roleLevel n) h)
+
+  pub lower-role : leb L (roleLevel n) ≡ false → n < firstRole L
+  lower-role h = omega (arith, leb-false L (roleLevel n) h)
+
+  pub upper-entity : leb L (entityLevel n) ≡ true → firstEntity L ≤ n
+  upper-entity h = omega (arith, leb-true L (entityLevel n) h)
+
+  pub lower-entity : leb L (entityLevel n) ≡ false → n < firstEntity L
+  lower-entity h = omega (arith, leb-false L (entityLevel n) h)
+
+-- ---- equal upper parts
+pub record Same (L : ℕ) (t u : Tables) : Type 0 where
+  pub users : t .users ≡ u .users
+  pub sessions : seen (upperSession L) (firstSession L) (t .sessions) ≡ seen (upperSession L) (firstSession L) (u .sessions)
+  pub roles : seen (upperRole L) (firstRole L) (t .roles) ≡ seen (upperRole L) (firstRole L) (u .roles)
+  pub entities : seen (λ e. e) (firstEntity L) (t .entities) ≡ seen (λ e. e) (firstEntity L) (u .entities)
+
+pub same-of : (L : ℕ) (t u : Tables) → upper L t ≡ upper L u → Same L t u
+unfolding upper
+same-of L t u e =
+    record {
+      users = ap (λ (v : Tables). v .users) e;
+      sessions = ap (λ (v : Tables). v .sessions) e;
+      roles = ap (λ (v : Tables). v .roles) e;
+      entities = ap (λ (v : Tables). map (λ e. e) (v .entities)) e;
+    }
+
+pub of-same : (L : ℕ) (t u : Tables) → Same L t u → upper L t ≡ upper L u
+unfolding upper
+of-same L t u e =
+    let whole : drop (firstEntity L) (t .entities) ≡ drop (firstEntity L) (u .entities) = simp map-whole at (e .entities) in
+    λ i. record { users = e .users i; sessions = e .sessions i; roles = e .roles i; entities = whole i }
+
+-- chains that agree at every number that they pass
+climbs-cong : (up up′ : ℕ → ℕ) (p p′ : ℕ → Bool) (Within : ℕ → Type 0)
+    → ((e : ℕ) → Within e → isRoot e ≡ false → (up e ≡ up′ e) × Within (up e)) → ((e : ℕ) → Within e → p e ≡ p′ e)
+    → (n e : ℕ) → Within e → climbs up p n e ≡ climbs up′ p′ n e
+unfolding climbs either
+climbs-cong up up′ p p′ Within step same zero e w = refl
+climbs-cong up up′ p p′ Within step same (suc n) e w = go (isRoot e) refl (climbs-cong up up′ p p′ Within step same n)
+  where
+    go : (b : Bool) → isRoot e ≡ b → ((e : ℕ) → Within e → climbs up p n e ≡ climbs up′ p′ n e)
+        → either b (every (p (up e) ∷ climbs up p n (up e) ∷ [])) ≡ either b (every (p′ (up′ e) ∷ climbs up′ p′ n (up′ e) ∷ []))
+    go true root more = refl
+    go false inner more =
+        let (same-up, w′) = step e w inner in
+        rw (← same-up, same (up e) w′, more (up e) w′)
+
+-- ---- the records at upper numbers
+module _ (L : ℕ) (t u : Tables) (same : Same L t u) where
+  pub session-same : (x : ℕ) → firstSession L ≤ x → upperSession L (sessionAt t x) ≡ upperSession L (sessionAt u x)
+  session-same = seen-at (upperSession L) (firstSession L) (t .sessions) (u .sessions) noSession (same .sessions)
+
+  pub role-same : (r : ℕ) → firstRole L ≤ r → upperRole L (roleAt t r) ≡ upperRole L (roleAt u r)
+  role-same = seen-at (upperRole L) (firstRole L) (t .roles) (u .roles) (record { live = false; users = 0; rights = [] }) (same .roles)
+
+  pub entity-same : (e : ℕ) → firstEntity L ≤ e → entityAt t e ≡ entityAt u e
+  entity-same = seen-at (λ e. e) (firstEntity L) (t .entities) (u .entities) noEntity (same .entities)
+
+  -- ---- of upper sessions
+  pub live-same : (x : ℕ) → firstSession L ≤ x → sessionAt t x .live ≡ sessionAt u x .live
+  unfolding upperSession
+  live-same x hx = ap (λ (s : Session). s .live) (session-same x hx)
+
+  pub user-same : (x : ℕ) → firstSession L ≤ x → sessionAt t x .user ≡ sessionAt u x .user
+  unfolding upperSession
+  user-same x hx = ap (λ (s : Session). s .user) (session-same x hx)
+
+  pub label-same : (x : ℕ) → firstSession L ≤ x → sessionAt t x .label ≡ sessionAt u x .label
+  unfolding upperSession
+  label-same x hx = ap (λ (s : Session). s .label) (session-same x hx)
+
+  pub holds-same : (x r : ℕ) → firstSession L ≤ x → firstRole L ≤ r → holds t x r ≡ holds u x r
+  unfolding upperSession
+  holds-same x r hx = from-has (firstRole L) _ _ (ap (λ (s : Session). s .roles) (session-same x hx)) r
+
+  pub reading-same : (x e : ℕ) → firstSession L ≤ x → firstEntity L ≤ e → isReading t x e ≡ isReading u x e
+  unfolding upperSession
+  reading-same x e hx = from-has (firstEntity L) _ _ (ap (λ (s : Session). s .reading) (session-same x hx)) e
+
+  pub writing-same : (x e : ℕ) → firstSession L ≤ x → firstEntity L ≤ e → isWriting t x e ≡ isWriting u x e
+  unfolding upperSession
+  writing-same x e hx = from-has (firstEntity L) _ _ (ap (λ (s : Session). s .writing) (session-same x hx)) e
+
+  -- ---- of upper roles
+  pub roleLive-same : (r : ℕ) → firstRole L ≤ r → roleAt t r .live ≡ roleAt u r .live
+  unfolding upperRole
+  roleLive-same r hr = ap (λ (p : Role). p .live) (role-same r hr)
+
+  pub listed-same : (r : ℕ) → firstRole L ≤ r → roleAt t r .users ≡ roleAt u r .users
+  unfolding upperRole
+  listed-same r hr = ap (λ (p : Role). p .users) (role-same r hr)
+
+  rightsOn-same : (r e : ℕ) → firstRole L ≤ r → firstEntity L ≤ e → rightsOn t r e ≡ rightsOn u r e
+  unfolding upperRole
+  rightsOn-same r e hr = dropped-at (firstEntity L) _ _ 0 (ap (λ (p : Role). p .rights) (role-same r hr)) e
+
+  -- Roles below e's level are cut off by the level test, the others are upper.
+  pub hasRight-same : (x right e : ℕ) → firstSession L ≤ x → firstEntity L ≤ e → hasRight t x right e ≡ hasRight u x right e
+  unfolding hasRight every
+  hasRight-same x right e hx he = some-cong roleCount _ _ (λ r h. go r (leb (entityLevel e) (roleLevel r)) refl)
+    where
+      go : (r : ℕ) (l : Bool) → leb (entityLevel e) (roleLevel r) ≡ l
+          → every (l ∷ holds t x r ∷ contains (rightsOn t r e) right ∷ []) ≡ every (l ∷ holds u x r ∷ contains (rightsOn u r e) right ∷ [])
+      go r true h =
+          let up : firstRole L ≤ r = omega (arith, leb-true (entityLevel e) (roleLevel r) h) in
+          rw (holds-same x r hx up, rightsOn-same r e up he)
+      go r false h = refl
+
+  -- ---- of sound tables: parents stay in their level
+  pub reaches-same : (x e : ℕ) → sound t ≡ true → firstSession L ≤ x → firstEntity L ≤ e → e < entityCount → entityAt t e .live ≡ true
+      → reaches t x e ≡ reaches u x e
+  unfolding reaches
+  reaches-same x e st hx he l v =
+      climbs-cong (parentOf t) (parentOf u) (hasRight t x execute) (hasRight u x execute) Within up (λ c (hc, _, _). hasRight-same x execute c hx hc) entitiesPerLevel e (he, l, v)
+    where
+      Within : ℕ → Type 0
+      Within c = (firstEntity L ≤ c) × (c < entityCount) × (entityAt t c .live ≡ true)
+
+      up : (c : ℕ) → Within c → isRoot c ≡ false → (parentOf t c ≡ parentOf u c) × Within (parentOf t c)
+      up c (hc, lc, vc) inner =
+          let (level, live) = parent-level t st c lc vc inner in
+          (ap (λ (r : Entity). r .parent) (entity-same c hc), (omega arith, omega arith, live))
+
+  -- no lower entity is the child of an upper one
+  pub none-below : (v : Tables) → sound v ≡ true → (p f : ℕ) → f < firstEntity L → f < entityCount → firstEntity L ≤ p → isChild v p f ≡ false
+  unfolding isChild
+  none-below v sv p f hf l hp = is-false _ (λ h. apart (every-e (entityAt v f .live ∷ not (isRoot f) ∷ eqb (entityAt v f .parent) p ∷ []) h))
+    where
+      apart : (entityAt v f .live ≡ true) × ((not (isRoot f) ≡ true) × ((eqb (entityAt v f .parent) p ≡ true) × Unit {0})) → ⊥
+      apart (live, (inner, (child, _))) =
+          let same-level = parent-level v sv f l live (of-not-true (isRoot f) inner) .0 in
+          let is-p = eqb-true (entityAt v f .parent) p child in
+          omega arith
+
+  pub child-same : (p : ℕ) → sound t ≡ true → sound u ≡ true → firstEntity L ≤ p → (f : ℕ) → f < entityCount → isChild t p f ≡ isChild u p f
+  unfolding isChild
+  child-same p st su hp f l = go (decLt f (firstEntity L))
+    where
+      go : Dec (f < firstEntity L) → isChild t p f ≡ isChild u p f
+      go (yes h) = none-below t st p f h l hp ∙ sym (none-below u su p f h l hp)
+      go (no h) = rw (entity-same f (omega arith))

@@ -1,0 +1,169 @@
+-- What the isolation rule speaks of and what it shuts out, for level 1, on concrete tables and logs, by computing.
+--     lower-logs-differ, lower-parts-differ      logs that differ below in kind, number and place, and leave different lower parts
+--     named-lower                                an upper request that names something lower, answered 12 in one log and 7 in the other
+--     guard-isolates                             the rule for the step by any rules: guard's isolate ..
+--     openw-fails, grant-fails, delete-fails     .. and three misreadings do not
+-- Assumes nothing.
+use Prim.Native.Nat.{ℕ, _≤_}
+use mathlib.Core.Path.{_≡_, refl, sym, ap}
+use mathlib.Core.Bool.{Bool, true, false, not, cond, true≢false}
+use mathlib.Core.List.{List, [], _∷_, map}
+use lib.Dec.{eqb, lit≤}
+use lib.ListN.{getD}
+use Rattle.bitset.specs.Tests.{every}
+use Rattle.bitset.specs.Sets.{from}
+use Rattle.guard.specs.Label.{noLabel}
+use Rattle.guard.specs.Tables.{noSession, noRole, noEntity, execute, hasRight}
+use Rattle.guard.specs.Sound.{sound}
+use Rattle.guard.specs.Fresh.{fresh}
+use Rattle.guard.specs.Morning.{morningUsers}
+use Rattle.guard.specs.Edits.{atSession, atEntity}
+use Rattle.guard.specs.Refusals.{Refusal, _when_, first}
+use Rattle.guard.specs.Conditions.{recordedParent}
+use Rattle.guard.specs.Requests.{Rule, fieldInRange, ruleOf}
+use Rattle.guard.specs.Step.{inRanges, answer, next, answers, run}
+use Rattle.guard.specs.Upper.{upperSession, upperRole, upper, isUpper, fieldUpper, namesUpper, upperRequests}
+use Rattle.guard.specs.declared.Tables.{Tables}
+use Rattle.guard.specs.declared.Request.{Request}
+use Rattle.guard.proofs.Compute.{computing}
+use Rattle.isolation.specs.Log.{runLog, answersOf}
+use Rattle.isolation.specs.Proof.Rule.{isolated}
+
+-- ---- where all logs of this file start: fresh tables with object 17 in root 16 (level 1), and with seat 0 (level 0)
+-- signed in, which holds the keepers 0 and 4 of levels 0 and 1
+unfoldable pub start : Tables
+start =
+    atSession 0 (λ old. record { live = true; user = 0; label = noLabel; roles = 17; reading = 0; writing = 0 })
+    (atEntity 17 (λ old. record { live = true; kind = 0; parent = 16; name = 7; label = noLabel }) (fresh morningUsers))
+
+pub start-sound : sound start ≡ true
+unfolding computing morningUsers start
+start-sound = refl
+
+-- one request: call, seat, role, entity, rights; the other fields are 0
+abbrev pub ask : ℕ → ℕ → ℕ → ℕ → ℕ → Request
+ask call seat role entity rights =
+    record { call = call; seat = seat; user = 0; role = role; entity = entity; parent = 0; kind = 0; name = 0; level = 0; cats = 0; rights = rights }
+
+-- of the lower seats 0 and 1
+abbrev pub make-1 : Request
+make-1 = ask 14 0 1 0 0
+
+abbrev pub logout-0 : Request
+logout-0 = ask 1 0 0 0 0
+
+abbrev pub openr-by-1 : Request
+openr-by-1 = ask 4 1 0 0 0
+
+abbrev pub openw-16 : Request
+openw-16 = ask 5 0 0 16 0
+
+abbrev pub grant-16 : Request
+grant-16 = ask 10 0 8 16 1
+
+abbrev pub delete-17 : Request
+delete-17 = ask 8 0 0 17 0
+
+-- of the upper seat 4: its login, its keeper taken, the lower role 1 taken
+abbrev pub login-4 : Request
+login-4 = ask 0 4 0 0 0
+
+abbrev pub take-4 : Request
+take-4 = ask 2 4 4 0 0
+
+abbrev pub take-1 : Request
+take-1 = ask 2 4 1 0 0
+
+-- ---- what is asked from below may differ in kind, number and place, and be refused
+abbrev pub log-a : List Request
+log-a = make-1 ∷ login-4 ∷ take-4 ∷ []
+
+abbrev pub log-b : List Request
+log-b = login-4 ∷ openr-by-1 ∷ logout-0 ∷ take-4 ∷ []
+
+pub lower-logs-differ : (upperRequests 1 log-a ≡ upperRequests 1 log-b) × (upper 1 (run start log-a) ≡ upper 1 (run start log-b))
+    × (answers start log-a ≡ 0 ∷ 0 ∷ 0 ∷ []) × (answers start log-b ≡ 0 ∷ 5 ∷ 0 ∷ 0 ∷ [])
+unfolding computing morningUsers start run upper upperSession upperRole from isUpper upperRequests
+lower-logs-differ = (refl, refl, refl, refl)
+
+-- .. and leaves different lower parts: seat 0 is still signed in after the first
+pub lower-parts-differ : upper 0 (run start log-a) ≡ upper 0 (run start log-b) → ⊥
+unfolding computing morningUsers start run upper upperSession upperRole from
+lower-parts-differ e = true≢false (ap (λ (v : Tables). getD (v .sessions) 0 noSession .live) e)
+
+-- ---- an upper request that names the lower role 1: not listed in the one log, where it was made, not live in the other
+pub named-lower : (upperRequests 1 (make-1 ∷ login-4 ∷ take-1 ∷ []) ≡ upperRequests 1 (login-4 ∷ take-1 ∷ []))
+    × (answers start (make-1 ∷ login-4 ∷ take-1 ∷ []) ≡ 0 ∷ 0 ∷ 12 ∷ []) × (answers start (login-4 ∷ take-1 ∷ []) ≡ 0 ∷ 7 ∷ [])
+    × (namesUpper 1 take-1 ≡ false)
+unfolding computing morningUsers start isUpper upperRequests fieldUpper namesUpper
+named-lower = (refl, refl, refl, refl)
+
+-- ---- the step by other rules, and the isolation rule for it
+module _ (rule : Request → Rule) where
+  unfoldable pub answerBy : Tables → Request → ℕ
+  answerBy t q = first (1 when not (sound t) ∷ 2 when not (every (map (fieldInRange q) (rule q .uses))) ∷ rule q .refusals t q)
+
+  unfoldable pub nextBy : Tables → Request → Tables
+  nextBy t q = cond (eqb (answerBy t q) 0) (rule q .effect q t) t
+
+  abbrev pub Isolates : Type 0
+  Isolates =
+      (L : ℕ) → 1 ≤ L → L ≤ 3 → (t u : Tables) → sound t ≡ true → sound u ≡ true → upper L t ≡ upper L u
+      → (a b : List Request) → upperRequests L a ≡ upperRequests L b
+      → (upper L (runLog nextBy t a) ≡ upper L (runLog nextBy u b))
+      × (answersOf nextBy answerBy (isUpper L) (namesUpper L) t a ≡ answersOf nextBy answerBy (isUpper L) (namesUpper L) u b)
+
+pub guard-isolates : Isolates ruleOf
+unfolding answerBy nextBy answer next inRanges
+guard-isolates L low high = isolated L
+
+-- ---- a misreading: the rule of one call, with another condition at one number
+unfoldable pub instead : ℕ → Bool → List Refusal → List Refusal
+instead n c [] = []
+instead n c (r ∷ rs) = cond (eqb (r .number) n) (n when c) r ∷ instead n c rs
+
+unfoldable pub misread : ℕ → ℕ → (Tables → Request → Bool) → Request → Rule
+misread call n c q =
+    let rule = ruleOf q in
+    record {
+      uses = rule .uses;
+      refusals = λ t q. cond (eqb (q .call) call) (instead n (c t q) (rule .refusals t q)) (rule .refusals t q);
+      effect = rule .effect;
+    }
+
+abbrev pub openw-without-10 : Request → Rule
+openw-without-10 = misread 5 10 (λ t q. false)
+
+abbrev pub grant-without-10 : Request → Rule
+grant-without-10 = misread 10 10 (λ t q. false)
+
+-- delete without asking that the parent is open for writing: 13 is the lack of execute on it alone
+abbrev pub delete-unopened : Request → Rule
+delete-unopened = misread 8 13 (λ t q. not (hasRight t (q .seat) execute (recordedParent t q)))
+
+-- what the lower seat 0 asks below, guard refuses
+pub refused : answers start (openw-16 ∷ grant-16 ∷ delete-17 ∷ []) ≡ 10 ∷ 10 ∷ 13 ∷ []
+unfolding computing morningUsers start
+refused = refl
+
+-- two logs of no upper requests but those of `after`, the first of which begins with q: what a test tells of the upper
+-- parts at their ends
+module _ (rule : Request → Rule) (isolates : Isolates rule) (q : Request) (after : List Request) where
+  told : (P : Tables → Bool) → upperRequests 1 (q ∷ after) ≡ upperRequests 1 after
+      → P (upper 1 (runLog (nextBy rule) start (q ∷ after))) ≡ P (upper 1 (runLog (nextBy rule) start after))
+  told P same = ap P (isolates 1 (lit≤ tt) (lit≤ tt) start start start-sound start-sound refl (q ∷ after) after same .0)
+
+-- seat 0 opens root 16 for writing, the tables are not sound from then on, and seat 4 cannot sign in
+pub openw-fails : Isolates openw-without-10 → ⊥
+unfolding computing morningUsers start upper upperSession upperRole from isUpper upperRequests runLog nextBy answerBy misread instead
+openw-fails h = true≢false (sym (told openw-without-10 h openw-16 (login-4 ∷ []) (λ v. getD (v .sessions) 0 noSession .live) refl))
+
+-- seat 0 gives the upper role 8 a right on root 16
+pub grant-fails : Isolates grant-without-10 → ⊥
+unfolding computing morningUsers start upper upperSession upperRole from isUpper upperRequests runLog nextBy answerBy misread instead
+grant-fails h = true≢false (sym (told grant-without-10 h grant-16 [] (λ v. eqb (getD (getD (v .roles) 4 noRole .rights) 0 0) 0) refl))
+
+-- seat 0 deletes object 17
+pub delete-fails : Isolates delete-unopened → ⊥
+unfolding computing morningUsers start upper upperSession upperRole from isUpper upperRequests runLog nextBy answerBy misread instead
+delete-fails h = true≢false (sym (told delete-unopened h delete-17 [] (λ v. getD (v .entities) 1 noEntity .live) refl))
