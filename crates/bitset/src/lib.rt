@@ -67,16 +67,16 @@ pub fn contains8(a: u8, b: u8) -> bool
     a & b == b
 }
 
-pub fn contains16(a: u16, b: u16) -> bool
-    ensures { λ r. ⌜ r ≡ contains a b ⌝ }
+pub fn contains16(s: u16, m: u16) -> bool
+    ensures { λ r. ⌜ r ≡ contains s m ⌝ }
 {
-    a & b == b
+    s & m == m
 }
 
-pub fn contains64(a: u64, b: u64) -> bool
-    ensures { λ r. ⌜ r ≡ contains a b ⌝ }
+pub fn contains64(s: u64, m: u64) -> bool
+    ensures { λ r. ⌜ r ≡ contains s m ⌝ }
 {
-    a & b == b
+    s & m == m
 }
 
 // The members of either.

@@ -2,3 +2,12 @@
 pub mod Compute
 pub mod Laws
 pub mod Kept
+pub mod Soundness
+pub mod Returns
+pub mod Deciding
+pub mod Sweeps
+pub mod Filling
+pub mod Scans
+pub mod Scanning
+pub mod Stepping
+pub mod Batches

@@ -13,3 +13,8 @@ pub mod Requests
 pub mod Step
 pub mod Upper
 pub mod Morning
+pub mod Batch
+pub mod Methods
+pub mod Inside
+pub mod Scan
+pub mod Tested

@@ -1,17 +1,18 @@
 -- Laws of lists of refusals.
 --     conditionOf     the condition that stands at a number
 --     unmet           of a list whose answer is 0, each condition is unmet
+--     first-past, first-here, first-after     a list in two parts, the first of which is answered beforehand
 --     Alike           two lists that differ at most after the first condition met, and then have one answer
 --     first-met       an answer other than 0 is a number whose condition is met ..
 --     first-lowest    .. and in a rising list the lowest such number: "the lowest number .. whose condition is met"
 -- Assumes nothing.
 use Prim.Native.Nat.{ℕ, _≤_, _<_}
 use mathlib.Core.Path.{_≡_, refl, sym, _∙_}
-use mathlib.Core.Bool.{Bool, true, false, cond, true≢false}
-use mathlib.Core.List.{List, [], _∷_}
+use mathlib.Core.Bool.{Bool, true, false, not, cond, true≢false}
+use mathlib.Core.List.{List, [], _∷_, _++_}
 use lib.Dec.{eqb, ltb}
 use native.Mathlib.Omega.{arith}
-use borrow.Author.Tests.{eqb-true, ltb-true, eq-eqb, ne-eqb}
+use borrow.Author.Tests.{eqb-true, eqb-false, ltb-true, eq-eqb, ne-eqb}
 use Rattle.guard.specs.Refusals.{Refusal, _when_, first}
 
 -- the condition that stands at number n; a number that does not apply is never met
@@ -55,6 +56,34 @@ unmet-from (c ∷ cs) m r d n =
 
 pub unmet : (cs : List Refusal) → risingFrom 0 cs ≡ true → first cs ≡ 0 → (n : ℕ) → conditionOf n cs ≡ false
 unmet cs r d n = unmet-from cs 0 r d n
+
+-- ---- a list in two parts
+pub first-past : (cs ds : List Refusal) (m : ℕ) → risingFrom m cs ≡ true → first cs ≡ 0 → first (cs ++ ds) ≡ first ds
+unfolding first
+first-past [] ds m r d = refl
+first-past (c ∷ cs) ds m r d =
+    let (past, rest) = rising-cons m (c .number) (risingFrom (c .number) cs) r in
+    let (off, more) = head-unmet m (c .number) (c .met) cs past d in
+    rw off (first-past cs ds (c .number) rest more)
+
+pub first-here : (cs ds : List Refusal) → (first cs ≡ 0 → ⊥) → first (cs ++ ds) ≡ first cs
+unfolding first
+first-here [] ds h = absurd (h refl)
+first-here (c ∷ cs) ds h = go (c .met) h (first-here cs ds)
+  where
+    go : (b : Bool) → (cond b (c .number) (first cs) ≡ 0 → ⊥) → ((first cs ≡ 0 → ⊥) → first (cs ++ ds) ≡ first cs)
+        → cond b (c .number) (first (cs ++ ds)) ≡ cond b (c .number) (first cs)
+    go true h more = refl
+    go false h more = more h
+
+-- .. so the first part can be answered beforehand
+pub first-after : (cs ds : List Refusal) (n : ℕ) → risingFrom 0 cs ≡ true → n ≡ first cs → first (n when not (eqb n 0) ∷ ds) ≡ first (cs ++ ds)
+unfolding first
+first-after cs ds n r h = go (eqb n 0) refl
+  where
+    go : (b : Bool) → eqb n 0 ≡ b → cond (not b) n (first ds) ≡ first (cs ++ ds)
+    go true e = sym (first-past cs ds 0 r (sym h ∙ eqb-true n 0 e))
+    go false e = h ∙ sym (first-here cs ds (λ z. eqb-false n 0 e (h ∙ z)))
 
 -- ---- two lists with one answer
 abbrev pub Alike : List Refusal → List Refusal → Type 0

@@ -1,0 +1,12 @@
+-- What the code of `is_sound` computes, against `sound`: loops, columns, members and counts, then each part.
+pub mod Tests
+pub mod Loops
+pub mod Count
+pub mod Members
+pub mod Climb
+pub mod Cases
+pub mod Settled
+pub mod Keys
+pub mod Grants
+pub mod Opens
+pub mod Whole

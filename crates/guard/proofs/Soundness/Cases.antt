@@ -1,0 +1,76 @@
+-- What the code tests of one record, in the cases that it tells apart.
+--     entity-dead, entity-root, entity-other                         an entity n at e, where p is its parent's record
+--     role-out, role-last                                            a role p at r, by the levels of the entities
+--     session-dead, session-out, session-away, session-last          a session s at a level, by the labels of the entities
+-- Assumes nothing.
+use Prim.Native.Nat.{ℕ, _<_}
+use mathlib.Core.Bool.{Bool, true, false, not, _&&_, and-true, _||_, and-false}
+use mathlib.Core.Path.{_≡_, refl, sym, _∙_}
+use mathlib.Core.List.{List, [], _∷_}
+use lib.Dec.{leb, eqb}
+use lib.ListN.{length, getD}
+use borrow.Author.Tests.{lt-ltb, eq-eqb}
+use Rattle.bitset.specs.Tests.{every, either, all}
+use Rattle.bitset.specs.Tests.Laws.{both, clash, is-false, not-of-true, not-of-false, every-i, every-at, of-not-true, of-not-false}
+use Rattle.bitset.specs.Sets.{contains}
+use Rattle.guard.specs.Level.{isRoot, isKeeper}
+use Rattle.guard.specs.Sound.{entityInRange, isRootRecord, isEmptyEntity, sessionInRange, isEmptySession}
+use Rattle.guard.specs.Tested.{entityTest, capOf, boundOf, roleTest, openLevels, openLabels, sessionTest}
+use Rattle.guard.specs.declared.Entity.{Entity}
+use Rattle.guard.specs.declared.Role.{Role}
+use Rattle.guard.specs.declared.Session.{Session}
+use Rattle.guard.proofs.Laws.Sound.Facts.{fitsIn}
+use Rattle.guard.proofs.Soundness.Tests.{cond-yes, cond-no}
+
+-- ---- an entity
+
+module _ (e : ℕ) (n p : Entity) where
+  pub entity-dead : (r : Bool) → n .live ≡ false → r ≡ isEmptyEntity n → (not (isRoot e) && r) ≡ entityTest e n p
+  unfolding every
+  entity-dead r dead h = cond-no (n .live) _ _ _ dead (rw h (simp and-true))
+
+  pub entity-root : (r : Bool) → n .live ≡ true → isRoot e ≡ true → r ≡ isRootRecord e n → r ≡ entityTest e n p
+  entity-root r live root h = cond-yes (n .live) _ _ _ live (cond-yes (isRoot e) _ _ _ root h)
+
+  pub entity-other : (r s : Bool) → n .live ≡ true → isRoot e ≡ false → r ≡ entityInRange n → s ≡ fitsIn e n p → (r && (leb 1 (n .name) && s)) ≡ entityTest e n p
+  unfolding every
+  entity-other r s live other h k = cond-yes (n .live) _ _ _ live (cond-no (isRoot e) _ _ _ other (rw (h, k) (simp and-true)))
+
+-- ---- a role
+
+idle : (live k u : Bool) → either live (every (not k ∷ u ∷ [])) ≡ not (not live && (k || not u))
+unfolding either every
+idle true k u = refl
+idle false true u = refl
+idle false false true = refl
+idle false false false = refl
+
+module _ (levels : List ℕ) (r : ℕ) (p : Role) where
+  pub role-out : (not (p .live) && (isKeeper r || not (eqb (p .users) 0))) ≡ true → false ≡ roleTest levels r p
+  role-out h = sym (is-false _ (λ k. clash _ (every-at _ k 2) (idle (p .live) (isKeeper r) (eqb (p .users) 0) ∙ not-of-true _ h)))
+
+  pub role-last : (x : Bool) → p .users < 65536 → length (p .rights) ≡ 64 → (not (p .live) && (isKeeper r || not (eqb (p .users) 0))) ≡ false
+      → x ≡ all 64 (λ e. leb (getD (p .rights) e 0) (capOf levels (boundOf (p .live) r) e)) → x ≡ roleTest levels r p
+  role-last x u l h e =
+      both x _ (λ t. every-i _ (lt-ltb _ _ u, (eq-eqb _ _ l, (idle (p .live) (isKeeper r) (eqb (p .users) 0) ∙ not-of-false _ h, (sym e ∙ t, tt)))))
+      (λ t. e ∙ every-at _ t 3)
+
+-- ---- a session
+
+four : (a b c d : Bool) → every (a ∷ b ∷ c ∷ d ∷ []) ≡ ((a && b) && (c && d))
+unfolding every
+four true b c d = simp and-true
+four false b c d = refl
+
+module _ (labels : List ℕ) (roles level : ℕ) (s : Session) where
+  pub session-dead : (r : Bool) → s .live ≡ false → r ≡ isEmptySession s → r ≡ sessionTest labels roles level s
+  session-dead r dead e = cond-no (s .live) _ _ _ dead e
+
+  pub session-out : (p q : Bool) → s .live ≡ true → p ≡ sessionInRange s → q ≡ contains roles (s .roles) → not (p && q) ≡ true → false ≡ sessionTest labels roles level s
+  session-out p q live e f h = cond-yes (s .live) _ _ _ live (rw (four, ← e, ← f, of-not-true (p && q) h))
+
+  pub session-away : (l : Bool) → s .live ≡ true → l ≡ openLevels level s → not l ≡ true → false ≡ sessionTest labels roles level s
+  session-away l live e h = cond-yes (s .live) _ _ _ live (rw (four, ← e, of-not-true l h) (simp (and-false)))
+
+  pub session-last : (p q l r : Bool) → s .live ≡ true → p ≡ sessionInRange s → q ≡ contains roles (s .roles) → not (p && q) ≡ false → l ≡ openLevels level s → not l ≡ false → r ≡ openLabels labels s → r ≡ sessionTest labels roles level s
+  session-last p q l r live e f h g k i = cond-yes (s .live) _ _ _ live (rw (four, ← e, ← f, of-not-false (p && q) h, ← g, of-not-false l k) i)

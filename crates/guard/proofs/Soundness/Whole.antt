@@ -1,0 +1,151 @@
+-- The parts of the test, in its order, against `sound`: what sound tables pass, and that tables which pass all are sound.
+--     usersTest, entitiesTest, chainsTest, namesTest, rolesTest, sessionsTest                the parts
+--     Taken, LiveRoles, Sized                                                                what the later parts rest on
+--     users-pass, entities-pass, chains-pass, names-pass, roles-pass, sessions-pass          what sound tables pass
+--     refuted, met, decided                    a part that fails, one that is met, and the last part, which decides
+-- Assumes nothing.
+use Prim.Native.Nat.{ℕ, _%_, _<_}
+use mathlib.Core.Bool.{Bool, true, false, not}
+use mathlib.Core.List.{List}
+use mathlib.Core.Path.{_≡_, refl, sym, _∙_}
+use native.Mathlib.Omega.{arith}
+use lib.ListN.{length, getD}
+use borrow.Author.Tests.{eq-eqb}
+use Rattle.bitset.specs.Tests.{all}
+use Rattle.bitset.specs.Tests.Laws.{both, clash, is-false, of-not-true, of-not-false, every-i, every-at, all-i, all-e}
+use Rattle.bitset.specs.Sets.{has}
+use Rattle.guard.specs.Level.{sessionLevel, isRoot}
+use Rattle.guard.specs.Tables.{noUser, sessionAt, roleAt, entityAt}
+use Rattle.guard.specs.Sound.{userInRange, usersInRange, sound}
+use Rattle.guard.specs.Tested.{parentByKey, levelByKey, ends, entityTest, ownKey, roleTest, sessionTest}
+use Rattle.guard.specs.declared.Tables.{Tables}
+use Rattle.guard.proofs.Laws.Sound.{sound-e, sound-i}
+use Rattle.guard.proofs.Laws.Sound.Facts.{Sound, EntityOk, parentIn}
+use Rattle.guard.proofs.Soundness.Climb.{climbs-root, climbs-on}
+use Rattle.guard.proofs.Soundness.Settled.{Settled, Known, settled, test-of, known}
+use Rattle.guard.proofs.Soundness.Keys.{Keys, chains-as, own-e, own-i, level-of-key}
+use Rattle.guard.proofs.Soundness.Grants.{Levels, role-e, role-i}
+use Rattle.guard.proofs.Soundness.Opens.{Labels, session-e, session-i}
+
+abbrev pub usersTest : Tables → Bool
+usersTest t = all 16 (λ u. userInRange (getD (t .users) u noUser))
+
+abbrev pub entitiesTest : Tables → Bool
+entitiesTest t = all 64 (λ e. entityTest e (entityAt t e) (entityAt t (entityAt t e .parent % 64)))
+
+abbrev pub chainsTest : List ℕ → Bool
+chainsTest keys = all 64 (ends (parentByKey keys) 16)
+
+abbrev pub namesTest : List ℕ → Bool
+namesTest keys = all 64 (ownKey keys)
+
+abbrev pub rolesTest : Tables → List ℕ → Bool
+rolesTest t levels = all 16 (λ r. roleTest levels r (roleAt t r))
+
+abbrev pub sessionsTest : Tables → List ℕ → ℕ → Bool
+sessionsTest t labels roles = all 16 (λ s. sessionTest labels roles (sessionLevel s) (sessionAt t s))
+
+-- the levels as the code takes them from the keys
+abbrev pub Taken : List ℕ → List ℕ → Type 0
+Taken keys levels = (e : ℕ) → e < 64 → getD levels e 0 ≡ levelByKey keys e
+
+-- the set of the live roles
+abbrev pub LiveRoles : Tables → ℕ → Type 0
+LiveRoles t roles = (k : ℕ) → k < 16 → has roles k ≡ roleAt t k .live
+
+-- ---- what sound tables pass
+settled-of : (t : Tables) (e : ℕ) → EntityOk (t .entities) e (entityAt t e) → Settled t e (entityAt t e)
+settled-of t e ok = record {
+  range = ok .range;
+  root = ok .root;
+  empty = ok .empty;
+  named = λ live other. ok .placed live other .named;
+  fits = λ live other. ok .placed live other .inside .parent;
+}
+
+module _ (t : Tables) (h : sound t ≡ true) where
+  ok : Sound t
+  ok = sound-e t h
+
+  numbers : (e : ℕ) → e < 64 → Known e (entityAt t e)
+  numbers e l = known t e _ (settled-of t e (ok .entity e l))
+
+  pub users-pass : usersTest t ≡ true
+  unfolding usersInRange
+  users-pass = every-at _ (ok .users) 1
+
+  pub entities-pass : entitiesTest t ≡ true
+  entities-pass = all-i 64 _ (λ e l. test-of t e _ (settled-of t e (ok .entity e l)))
+
+  pub chains-pass : (keys : List ℕ) → Keys t keys → chainsTest keys ≡ true
+  chains-pass keys K = chains-as t keys K numbers ∙ all-i 64 _ (λ e l. go e l (entityAt t e .live) refl (isRoot e) refl)
+    where
+      go : (e : ℕ) → e < 64 → (b : Bool) → entityAt t e .live ≡ b → (r : Bool) → isRoot e ≡ r → ends (parentIn (t .entities)) 16 e ≡ true
+      go e l b live true r = climbs-root _ 16 e r
+      go e l true live false r = ok .entity e l .placed live r .inside .chain
+      go e l false dead false r = climbs-on _ 16 e (omega arith) r ∙ rw (numbers e l .dead dead .0) (climbs-root _ 15 0 refl)
+
+  pub names-pass : (keys : List ℕ) → Keys t keys → namesTest keys ≡ true
+  names-pass keys K = all-i 64 _ (λ e l. own-i t keys K numbers e l (λ live other. ok .entity e l .placed live other .ownName))
+
+  levels-as : (keys levels : List ℕ) → Keys t keys → Taken keys levels → Levels t levels
+  levels-as keys levels K L e l = L e l ∙ level-of-key t keys K numbers e l
+
+  pub roles-pass : (keys levels : List ℕ) → Keys t keys → Taken keys levels → rolesTest t levels ≡ true
+  roles-pass keys levels K L = all-i 16 _ (λ r l. role-i t levels (levels-as keys levels K L) r _ (ok .role r l))
+
+  pub sessions-pass : (labels : List ℕ) (roles : ℕ) → Labels t labels → LiveRoles t roles → sessionsTest t labels roles ≡ true
+  sessions-pass labels roles L R = all-i 16 _ (λ s l. session-i t labels L numbers roles R s _ (ok .session s l))
+
+-- ---- a part that fails, and one that is met
+pub refuted : (t : Tables) (r p : Bool) → r ≡ p → (sound t ≡ true → p ≡ true) → not r ≡ true → false ≡ sound t
+refuted t r p e f h = sym (is-false (sound t) (λ k. clash p (f k) (sym e ∙ of-not-true r h)))
+
+pub met : (r p : Bool) → r ≡ p → not r ≡ false → p ≡ true
+met r p e h = sym e ∙ of-not-false r h
+
+-- ---- tables that pass are sound
+pub record Sized (t : Tables) : Type 0 where
+  pub users : length (t .users) ≡ 16
+  pub sessions : length (t .sessions) ≡ 16
+  pub roles : length (t .roles) ≡ 16
+  pub entities : length (t .entities) ≡ 64
+
+passed : (t : Tables) (keys levels labels : List ℕ) (roles : ℕ) → Sized t → Keys t keys → Taken keys levels → Labels t labels → LiveRoles t roles
+    → usersTest t ≡ true → entitiesTest t ≡ true → chainsTest keys ≡ true → namesTest keys ≡ true → rolesTest t levels ≡ true → sessionsTest t labels roles ≡ true
+    → sound t ≡ true
+unfolding usersInRange
+passed t keys levels labels roles size K L B R u e c n r s =
+    sound-i t (record {
+      users = every-i _ (eq-eqb _ _ (size .users), (u, tt));
+      manySessions = size .sessions;
+      manyRoles = size .roles;
+      manyEntities = size .entities;
+      session = λ k l. session-e t labels B numbers′ roles R k _ (all-e 16 _ s k l);
+      role = λ k l. role-e t levels (λ f b. L f b ∙ level-of-key t keys K numbers′ f b) k _ l (all-e 16 _ r k l);
+      entity = λ k l.
+          let set = settled′ k l in
+          record {
+            range = set .range;
+            root = set .root;
+            empty = set .empty;
+            placed = λ live other.
+                record {
+                  named = set .named live other;
+                  inside = record { parent = set .fits live other; chain = all-e 64 _ (sym (chains-as t keys K numbers′) ∙ c) k l };
+                  ownName = own-e t keys K numbers′ k l (all-e 64 _ n k l) live other;
+                };
+          };
+    })
+  where
+    settled′ : (k : ℕ) → k < 64 → Settled t k (entityAt t k)
+    settled′ k l = settled t k _ l (all-e 64 _ e k l)
+
+    numbers′ : (k : ℕ) → k < 64 → Known k (entityAt t k)
+    numbers′ k l = known t k _ (settled′ k l)
+
+pub decided : (t : Tables) (keys levels labels : List ℕ) (roles : ℕ) → Sized t → Keys t keys → Taken keys levels → Labels t labels → LiveRoles t roles
+    → usersTest t ≡ true → entitiesTest t ≡ true → chainsTest keys ≡ true → namesTest keys ≡ true → rolesTest t levels ≡ true
+    → (r : Bool) → r ≡ sessionsTest t labels roles → r ≡ sound t
+decided t keys levels labels roles size K L B R u e c n p r s =
+    both r (sound t) (λ h. passed t keys levels labels roles size K L B R u e c n p (sym s ∙ h)) (λ h. s ∙ sessions-pass t h labels roles B R)

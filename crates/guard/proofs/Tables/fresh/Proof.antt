@@ -1,0 +1,41 @@
+-- `Tables::fresh` is the build of the definitions. Assumes nothing.
+use mathlib.Core.Path.{_≡_, sym, _∙_}
+use lib.ListN.{length}
+use borrow.Author.Tests.{eq-eqb}
+use Rattle.guard.specs.Sound.{usersInRange}
+use Rattle.guard.specs.Fresh.{fresh, build}
+use Rattle.guard.proofs.Sweeps.{long}
+use Rattle.guard.proofs.Filling.{every-two}
+use borrow.Author.Needs.{needs}
+use Rattle.guard.proofs.Tables.fresh.Statement.{statement}
+use Rattle.guard.proofs.Tables.fresh.Tie as tie
+
+many : (c : tie.Start) → length (c .args .users) ≡ 16
+many c = search (long, c .good .0)
+
+-- the test of the built tables is the test of the users that they were built from
+tested : (c : tie.After-users-in-range) → c .users-in-range .result ≡ usersInRange (c .before .before .args .users)
+unfolding usersInRange fresh
+tested c = c .users-in-range .ensures ∙ rw (c .before .fresh-over .ensures) (sym (every-two _ _ (eq-eqb _ _ (many (c .before .before)))))
+
+fresh-over-requires : tie.Need-fresh-over-requires
+fresh-over-requires c κs = search needs
+
+users-in-range-requires : tie.Need-users-in-range-requires
+users-in-range-requires c κs = search needs
+
+returns : tie.Need-returns
+unfolding build
+returns c = rw (c .before .before .fresh-over .ensures, sym (tested (c .before)) ∙ c .if1 .taken)
+
+fresh-over-requires-2 : tie.Need-fresh-over-requires-2
+fresh-over-requires-2 c κs = search needs
+
+returns-2 : tie.Need-returns-2
+unfolding build
+returns-2 c = rw (c .fresh-over2 .ensures, sym (tested (c .before .before)) ∙ c .before .if1 .left)
+
+pub fresh-spec : {M : Type 1} → statement M
+fresh-spec =
+    tie.close
+    (tie.spec fresh-over-requires users-in-range-requires returns fresh-over-requires-2 returns-2)

@@ -1,0 +1,66 @@
+-- `guard::Tables::sessions_ok` tests each session in turn. Assumes nothing.
+use Prim.Native.Nat.{_-_, _≤_}
+use native.Mathlib.Omega.{arith}
+use mathlib.Core.Bool.{true}
+use mathlib.Core.Path.{_≡_}
+use Rattle.bitset.specs.Tests.{all}
+use Rattle.bitset.specs.Tests.Laws.{all-none}
+use Rattle.guard.specs.Level.{sessionLevel}
+use Rattle.guard.specs.Tables.{sessionAt}
+use Rattle.guard.specs.Tested.{sessionTest}
+use Rattle.guard.proofs.Soundness.Loops.{all-miss, all-next, all-done}
+use Rattle.guard.proofs.Tables.sessions_ok.Statement.{statement}
+use Rattle.guard.proofs.Tables.sessions_ok.Tie as tie
+
+abbrev Inv-loop : tie.InvT-loop
+Inv-loop labels roles self s₀ s = (s ≤ 16) × (all s (λ k. sessionTest labels roles (sessionLevel k) (sessionAt self k)) ≡ true)
+
+abbrev μ-loop : tie.MeasureT-loop
+μ-loop labels roles self s₀ s = 16 - s
+
+loop-holds : tie.Need-loop-holds Inv-loop μ-loop
+loop-holds c = (omega arith, all-none _)
+
+cast-x : tie.Need-cast-x Inv-loop μ-loop
+cast-x c = omega arith
+
+mul-x : tie.Need-mul-x Inv-loop μ-loop
+mul-x c = omega arith
+
+element-copy-out-x : tie.Need-element-copy-out-x Inv-loop μ-loop
+element-copy-out-x c = omega arith
+
+session-ok-requires : tie.Need-session-ok-requires Inv-loop μ-loop
+session-ok-requires c κs = omega arith
+
+returns : tie.Need-returns Inv-loop μ-loop
+returns c = all-miss _ (c .before .before .before .before .loop .s) _ _ (omega arith) (c .before .session-ok .ensures) (c .if1 .taken)
+
+add-s : tie.Need-add-s Inv-loop μ-loop
+add-s c = omega arith
+
+loop-less : tie.Need-loop-less Inv-loop μ-loop
+loop-less c = omega arith
+
+loop-again : tie.Need-loop-again Inv-loop μ-loop
+loop-again c = (omega arith, all-next _ _ _ (c .before .before .before .before .loop .inv .1) (c .before .session-ok .ensures) (c .if1 .left))
+
+returns-2 : tie.Need-returns-2 Inv-loop μ-loop
+returns-2 c = all-done _ _ _ (omega arith) (omega arith) (c .before .loop .inv .1)
+
+pub sessions-ok-spec : {M : Type 1} → statement M
+sessions-ok-spec =
+    tie.close
+    (tie.spec
+    Inv-loop
+    μ-loop
+    loop-holds
+    cast-x
+    mul-x
+    element-copy-out-x
+    session-ok-requires
+    returns
+    add-s
+    loop-less
+    loop-again
+    returns-2)

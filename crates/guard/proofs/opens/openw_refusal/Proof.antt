@@ -1,0 +1,46 @@
+-- `openw_refusal` answers the first condition that is met: 5, 7, 10, 11, 13 or 16. Assumes nothing.
+use borrow.Author.Needs.{needs}
+use Rattle.guard.proofs.Returns.{refusing}
+use Rattle.guard.proofs.opens.openw_refusal.Statement.{statement}
+use Rattle.guard.proofs.opens.openw_refusal.Tie as tie
+
+returns : tie.Need-returns
+returns c = search refusing depth 14 fits 4000
+
+returns-2 : tie.Need-returns-2
+returns-2 c = search refusing depth 14 fits 4000
+
+returns-3 : tie.Need-returns-3
+returns-3 c = search refusing depth 14 fits 4000
+
+same-requires : tie.Need-same-requires
+same-requires c κs = search needs
+
+returns-4 : tie.Need-returns-4
+returns-4 c = search refusing depth 14 fits 4000
+
+returns-5 : tie.Need-returns-5
+returns-5 c = search refusing depth 14 fits 4000
+
+has64-requires : tie.Need-has64-requires
+has64-requires c κs = search needs
+
+returns-6 : tie.Need-returns-6
+returns-6 c = search refusing depth 14 fits 4000
+
+returns-7 : tie.Need-returns-7
+returns-7 c = search refusing depth 14 fits 4000
+
+pub openw-refusal-spec : {M : Type 1} → statement M
+openw-refusal-spec =
+    tie.close
+    (tie.spec
+    returns
+    returns-2
+    returns-3
+    same-requires
+    returns-4
+    returns-5
+    has64-requires
+    returns-6
+    returns-7)

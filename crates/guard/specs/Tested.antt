@@ -1,0 +1,105 @@
+-- What the code of `is_sound` tests, in the form in which it computes it. No part of document 01: the contract of
+-- `is_sound` is `sound` alone, and proofs/Soundness shows that these tests together are `sound`.
+use Prim.Native.Nat.{ℕ, _+_, _*_, _/_, _%_, _^_}
+use mathlib.Core.Bool.{Bool, true, not, cond}
+use mathlib.Core.List.{List, [], _∷_}
+use lib.Dec.{leb, ltb, eqb}
+use lib.ListN.{length, getD}
+use Rattle.bitset.specs.Tests.{every, either, implies, all}
+use Rattle.bitset.specs.Sets.{has, contains}
+use Rattle.guard.specs.Level.{roleLevel, entityLevel, isRoot, isKeeper}
+use Rattle.guard.specs.Label.{dominates}
+use Rattle.guard.specs.Tables.{container}
+use Rattle.guard.specs.Chain.{climbs}
+use Rattle.guard.specs.Sound.{sessionInRange, entityInRange, isRootRecord, isEmptyEntity, isEmptySession}
+use Rattle.guard.specs.declared.Label.{Label}
+use Rattle.guard.specs.declared.Session.{Session}
+use Rattle.guard.specs.declared.Role.{Role}
+use Rattle.guard.specs.declared.Entity.{Entity}
+
+-- ---- an entity n at e, where p is its parent's record
+
+abbrev pub fits : ℕ → Entity → Entity → Bool
+fits e n p =
+    every
+    (p .live
+    ∷ eqb (p .kind) container
+    ∷ eqb (entityLevel (n .parent)) (entityLevel e)
+    ∷ dominates (n .label) (p .label)
+    ∷ [])
+
+abbrev pub entityTest : ℕ → Entity → Entity → Bool
+entityTest e n p =
+    cond (n .live)
+    (cond (isRoot e) (isRootRecord e n) (every (entityInRange n ∷ leb 1 (n .name) ∷ fits e n p ∷ [])))
+    (every (not (isRoot e) ∷ isEmptyEntity n ∷ []))
+
+-- ---- the tree, by a key for each entity: its parent above its name; 256 stands for the parent of what is not live
+
+abbrev pub keyOf : Entity → ℕ
+keyOf n = cond (n .live) (n .parent * 65536 + n .name) 16777216
+
+-- e has no name, or no other entity of its level has its key
+abbrev pub ownKey : List ℕ → ℕ → Bool
+ownKey keys e =
+    either (eqb (getD keys e 0 % 65536) 0)
+    (all 16 (λ m. implies (eqb (getD keys (e / 16 * 16 + m) 0) (getD keys e 0)) (eqb (e / 16 * 16 + m) e)))
+
+abbrev pub ends : (ℕ → ℕ) → ℕ → ℕ → Bool
+ends parent n e = climbs parent (λ c. true) n e
+
+abbrev pub parentByKey : List ℕ → ℕ → ℕ
+parentByKey keys e = getD keys e 0 / 65536 % 64
+
+-- the level of e, as its parent's: 16 for what is not live
+abbrev pub levelByKey : List ℕ → ℕ → ℕ
+levelByKey keys e = getD keys e 0 / 1048576 % 256
+
+-- ---- a role p at r, by the level of each entity
+
+abbrev pub capOf : List ℕ → ℕ → ℕ → ℕ
+capOf levels bound e = cond (ltb (getD levels e 0) bound) 15 0
+
+abbrev pub boundOf : Bool → ℕ → ℕ
+boundOf live r = cond live (roleLevel r + 1) 0
+
+abbrev pub roleTest : List ℕ → ℕ → Role → Bool
+roleTest levels r p =
+    every
+    (ltb (p .users) (2 ^ 16)
+    ∷ eqb (length (p .rights)) 64
+    ∷ either (p .live) (every (not (isKeeper r) ∷ eqb (p .users) 0 ∷ []))
+    ∷ all 64 (λ e. leb (getD (p .rights) e 0) (capOf levels (boundOf (p .live) r) e))
+    ∷ [])
+
+-- ---- a session s at a level, by the label of each entity as one number, above all for what is not live
+
+abbrev pub packedLabel : Label → ℕ
+packedLabel a = a .grade * 256 + a .cats
+
+abbrev pub labelOf : Entity → ℕ
+labelOf n = cond (n .live) (packedLabel (n .label)) 65535
+
+abbrev pub dominated : List ℕ → Label → ℕ → Bool
+dominated labels a e = every (leb (getD labels e 0) (a .grade * 256 + 255) ∷ contains (a .cats) (getD labels e 0 % 256) ∷ [])
+
+-- each member of the set is as p asks
+abbrev pub members : (ℕ → Bool) → ℕ → Bool
+members p set = all 64 (λ e. implies (has set e) (p e))
+
+abbrev pub openLevels : ℕ → Session → Bool
+openLevels level s =
+    every (members (λ e. leb level (entityLevel e)) (s .reading) ∷ members (λ e. leb (entityLevel e) level) (s .writing) ∷ [])
+
+abbrev pub openLabels : List ℕ → Session → Bool
+openLabels labels s =
+    every
+    (members (dominated labels (s .label)) (s .reading)
+    ∷ members (λ e. eqb (getD labels e 0) (packedLabel (s .label))) (s .writing)
+    ∷ [])
+
+abbrev pub sessionTest : List ℕ → ℕ → ℕ → Session → Bool
+sessionTest labels roles level s =
+    cond (s .live)
+    (every (sessionInRange s ∷ contains roles (s .roles) ∷ openLevels level s ∷ openLabels labels s ∷ []))
+    (isEmptySession s)

@@ -1,0 +1,186 @@
+// Requests that make, end or rename an entity: create, delete, rename.
+use crate::Entity;
+use crate::Label;
+use crate::Request;
+use crate::edit;
+use crate::edit::Edit;
+use crate::edit::View;
+use crate::labels;
+ghost use mathlib.Core.Path.{_≡_};
+ghost use mathlib.Core.Bool.{not};
+ghost use mathlib.Core.List.{[], _∷_, map};
+ghost use lib.Dec.{ltb, eqb};
+ghost use Rattle.bitset.specs.Tests.{every, either};
+ghost use Rattle.bitset.specs.Sets.{has};
+ghost use Rattle.guard.specs.Level.{roleLevel, entityLevel, isRoot};
+ghost use Rattle.guard.specs.Label.{dominates};
+ghost use Rattle.guard.specs.Tables.{container};
+ghost use Rattle.guard.specs.Refusals.{first, _when_};
+ghost use Rattle.guard.specs.Requests.{fieldInRange, create, delete, rename};
+ghost use Rattle.guard.specs.Inside.{Seen, MayCreate, MayDelete, MayRename, Decided};
+ghost use Rattle.guard.specs.declared.Tables.{Tables as TablesOf};
+
+// Whether each number of a create is in its range.
+fn create_in_range(q: Request) -> bool
+    ensures { λ r. ⌜ r ≡ every (map (fieldInRange q) (create .uses)) ⌝ }
+{
+    let name = (1 <= q.name) & (q.name <= 65535);
+    let label = (q.level <= 3) & (q.cats <= 255);
+    (q.seat < 16)
+        & ((q.entity < 64) & ((q.kind <= 1) & ((q.parent < 64) & (name & (label & (q.role < 16))))))
+}
+
+// The refusals of create up to 9: what has to be there, and what not.
+fn create_refusal_to_9(live: bool, parent: Entity, role: bool, there: bool) -> u8
+    ensures { λ n. ⌜ n ≡ first (5 when not live ∷ 7 when either (not (parent .live)) (not role) ∷ 8 when there ∷ 9 when not (eqb (parent .kind) container) ∷ []) ⌝ }
+{
+    if !live {
+        return 5;
+    }
+    if !parent.live | !role {
+        return 7;
+    }
+    if there {
+        return 8;
+    }
+    if parent.kind != 1 {
+        return 9;
+    }
+    0
+}
+
+// The refusals of create from 10 on; `before` is the answer of those up to 9.
+fn create_refusal(
+    before: u8,
+    q: Request,
+    label: Label,
+    parent: Label,
+    roles: u16,
+    may: bool,
+    child: bool,
+) -> u8
+    ensures { λ n. ⌜ n ≡ first (before when not (eqb before 0) ∷ 10 when either (not (eqb (entityLevel (q .entity)) (entityLevel (q .parent)))) (ltb (roleLevel (q .role)) (entityLevel (q .entity))) ∷ 11 when not (dominates label parent) ∷ 12 when not (has roles (q .role)) ∷ 13 when not may ∷ 14 when child ∷ []) ⌝ }
+{
+    if before != 0 {
+        return before;
+    }
+    if (q.entity / 16 != q.parent / 16) | (q.role / 4 < q.entity / 16) {
+        return 10;
+    }
+    if !labels::dominates(label, parent) {
+        return 11;
+    }
+    if !bitset::has16(roles, q.role) {
+        return 12;
+    }
+    if !may {
+        return 13;
+    }
+    if child {
+        return 14;
+    }
+    0
+}
+
+// The role gains own, 8, on the entity.
+pub fn create_edit(q: Request, v: View) -> Edit
+    ensures { λ d. ⌜ ((t : TablesOf) → Seen t q v → MayCreate t q v → Decided create t q d) ⌝ }
+{
+    if !create_in_range(q) {
+        return edit::refused(2);
+    }
+    let label = labels::made(q.level, q.cats);
+    let before = create_refusal_to_9(v.session.live, v.parent, v.live, v.entity.live);
+    let n = create_refusal(
+        before,
+        q,
+        label,
+        v.parent.label,
+        v.session.roles,
+        v.may,
+        v.child,
+    );
+    if n != 0 {
+        return edit::refused(n);
+    }
+    let entity = Entity {
+        live: true,
+        kind: q.kind as u8,
+        parent: q.parent as u8,
+        name: q.name as u16,
+        label,
+    };
+    let rights = bitset::join8(v.rights, 8);
+    let mut d = edit::kept(v);
+    d.rights = rights;
+    d.entity = entity;
+    d
+}
+
+// The refusals of delete and of rename, which differ in the last number: 15, the entity has a child, or 14, a child of
+// its parent has the name.
+fn change_refusal(live: bool, entity: u32, there: bool, may: bool, child: bool, last: u8) -> u8
+    ensures { λ n. ⌜ n ≡ first (5 when not live ∷ 6 when isRoot entity ∷ 7 when not there ∷ 13 when not may ∷ last when child ∷ []) ⌝ }
+{
+    if !live {
+        return 5;
+    }
+    if entity % 16 == 0 {
+        return 6;
+    }
+    if !there {
+        return 7;
+    }
+    if !may {
+        return 13;
+    }
+    if child {
+        return last;
+    }
+    0
+}
+
+// All rights on the entity and all opens of it go too.
+pub fn delete_edit(q: Request, v: View) -> Edit
+    ensures { λ d. ⌜ ((t : TablesOf) → Seen t q v → MayDelete t q v → Decided delete t q d) ⌝ }
+{
+    if 16 <= q.seat {
+        return edit::refused(2);
+    }
+    if 64 <= q.entity {
+        return edit::refused(2);
+    }
+    let n = change_refusal(v.session.live, q.entity, v.entity.live, v.may, v.child, 15);
+    if n != 0 {
+        return edit::refused(n);
+    }
+    let mut d = edit::kept(v);
+    d.sweep = 1;
+    d
+}
+
+pub fn rename_edit(q: Request, v: View) -> Edit
+    ensures { λ d. ⌜ ((t : TablesOf) → Seen t q v → MayRename t q v → Decided rename t q d) ⌝ }
+{
+    if 16 <= q.seat {
+        return edit::refused(2);
+    }
+    if 64 <= q.entity {
+        return edit::refused(2);
+    }
+    if q.name < 1 {
+        return edit::refused(2);
+    }
+    if 65535 < q.name {
+        return edit::refused(2);
+    }
+    let n = change_refusal(v.session.live, q.entity, v.entity.live, v.may, v.child, 14);
+    if n != 0 {
+        return edit::refused(n);
+    }
+    let mut entity = v.entity;
+    entity.name = q.name as u16;
+    let mut d = edit::kept(v);
+    d.entity = entity;
+    d
+}

@@ -1,0 +1,136 @@
+// Fresh tables, built from sixteen user records.
+use crate::Entity;
+use crate::Label;
+use crate::Outcome;
+use crate::Role;
+use crate::Session;
+use crate::Tables;
+use crate::User;
+ghost use mathlib.Core.Path.{_≡_};
+ghost use Prim.Native.Nat.{_<_};
+ghost use Rattle.guard.specs.Fresh.{freshRole, freshEntity, tabulate, fresh, build};
+
+fn fresh_role(r: usize) -> Role
+    requires { ⌜ r < 16 ⌝ }
+    ensures { λ p. ⌜ p ≡ freshRole r ⌝ }
+{
+    let mut rights = [0u8; 64];
+    if r % 4 == 0 {
+        rights[r / 4 * 16] = 15;
+        return Role {
+            live: true,
+            users: 1,
+            rights,
+        };
+    }
+    Role {
+        live: false,
+        users: 0,
+        rights,
+    }
+}
+
+fn fresh_entity(e: usize) -> Entity
+    requires { ⌜ e < 64 ⌝ }
+    ensures { λ n. ⌜ n ≡ freshEntity e ⌝ }
+{
+    let none = Label { cats: 0, grade: 0 };
+    if e % 16 == 0 {
+        return Entity {
+            live: true,
+            kind: 1,
+            parent: e as u8,
+            name: 0,
+            label: none,
+        };
+    }
+    Entity {
+        live: false,
+        kind: 0,
+        parent: 0,
+        name: 0,
+        label: none,
+    }
+}
+
+fn fresh_roles() -> [Role; 16]
+    ensures { λ l. ⌜ l ≡ tabulate 16 freshRole ⌝ }
+{
+    let dead = Role {
+        live: false,
+        users: 0,
+        rights: [0u8; 64],
+    };
+    let mut roles = [dead; 16];
+    let mut i = 0usize;
+    while i < 16 {
+        let p = fresh_role(i);
+        roles[i] = p;
+        i += 1;
+    }
+    roles
+}
+
+fn fresh_entities() -> [Entity; 64]
+    ensures { λ l. ⌜ l ≡ tabulate 64 freshEntity ⌝ }
+{
+    let none = Label { cats: 0, grade: 0 };
+    let dead = Entity {
+        live: false,
+        kind: 0,
+        parent: 0,
+        name: 0,
+        label: none,
+    };
+    let mut entities = [dead; 64];
+    let mut i = 0usize;
+    while i < 64 {
+        let n = fresh_entity(i);
+        entities[i] = n;
+        i += 1;
+    }
+    entities
+}
+
+fn fresh_over(users: [User; 16]) -> Tables
+    ensures { λ t. ⌜ t ≡ fresh users ⌝ }
+{
+    let none = Label { cats: 0, grade: 0 };
+    let dead = Session {
+        live: false,
+        user: 0,
+        label: none,
+        roles: 0,
+        reading: 0,
+        writing: 0,
+    };
+    let sessions = [dead; 16];
+    let roles = fresh_roles();
+    let entities = fresh_entities();
+    Tables {
+        users,
+        sessions,
+        roles,
+        entities,
+    }
+}
+
+impl Tables {
+    // Fresh tables over the users, and answer 0; or answer 2 where a number is past its range, with fresh tables over
+    // sixteen users of ceiling 0 and clearance 0/0.
+    pub fn fresh(users: [User; 16]) -> Outcome
+        ensures { λ o. ⌜ o ≡ build users ⌝ }
+    {
+        let tables = fresh_over(users);
+        if tables.users_in_range() {
+            return Outcome { tables, answer: 0 };
+        }
+        let none = Label { cats: 0, grade: 0 };
+        let nobody = User {
+            ceiling: 0,
+            clearance: none,
+        };
+        let tables = fresh_over([nobody; 16]);
+        Outcome { tables, answer: 2 }
+    }
+}

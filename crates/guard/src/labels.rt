@@ -1,0 +1,38 @@
+// Labels: a grade and a set of eight categories.
+use crate::Label;
+ghost use Prim.Native.Nat.{_≤_};
+ghost use mathlib.Core.Path.{_≡_};
+ghost use Rattle.guard.specs.Label.{labelInRange, dominates as dominatesOf, sameLabel, label};
+
+// Whether `a`'s grade is at least `b`'s and `a`'s set contains `b`'s.
+pub fn dominates(a: Label, b: Label) -> bool
+    ensures { λ r. ⌜ r ≡ dominatesOf a b ⌝ }
+{
+    (b.grade <= a.grade) & bitset::contains8(a.cats, b.cats)
+}
+
+// Whether the two have one grade and one set.
+pub fn same(a: Label, b: Label) -> bool
+    ensures { λ r. ⌜ r ≡ sameLabel a b ⌝ }
+{
+    (a.grade == b.grade) & (a.cats == b.cats)
+}
+
+// Whether the grade is one of four; every `u8` is a set of categories.
+pub fn in_range(a: Label) -> bool
+    ensures { λ r. ⌜ r ≡ labelInRange a ⌝ }
+{
+    a.grade <= 3
+}
+
+// The label asked for, in a host's wider numbers.
+pub fn made(level: u32, cats: u32) -> Label
+    requires { ⌜ level ≤ 3 ⌝ }
+    requires { ⌜ cats ≤ 255 ⌝ }
+    ensures { λ r. ⌜ r ≡ label level cats ⌝ }
+{
+    Label {
+        cats: cats as u8,
+        grade: level as u8,
+    }
+}

@@ -1,0 +1,225 @@
+// For hosts: each of the sixteen requests as a method of its own. Each hands back the next tables and the answer, as
+// `step` does for the same request.
+use crate::Outcome;
+use crate::Request;
+use crate::Tables;
+ghost use mathlib.Core.Path.{_≡_};
+ghost use Rattle.guard.specs.Step.{step};
+ghost use Rattle.guard.specs.Methods.{request, loginRequest, logoutRequest, roleRequest, entityRequest, createRequest, renameRequest, rightsRequest, listRequest};
+
+// A request with 0 in every field.
+const BLANK: Request = Request {
+    call: 0,
+    seat: 0,
+    user: 0,
+    role: 0,
+    entity: 0,
+    parent: 0,
+    kind: 0,
+    name: 0,
+    level: 0,
+    cats: 0,
+    rights: 0,
+};
+
+impl Tables {
+    // The seat becomes live for the user, under the label `level`/`cats`.
+    pub fn login(self, seat: u32, user: u32, level: u32, cats: u32) -> Outcome
+        ensures { λ o. ⌜ o ≡ step self (loginRequest seat user level cats) ⌝ }
+    {
+        let mut q = BLANK;
+        q.call = 0;
+        q.seat = seat;
+        q.user = user;
+        q.level = level;
+        q.cats = cats;
+        self.step(q)
+    }
+
+    // The seat becomes empty.
+    pub fn logout(self, seat: u32) -> Outcome
+        ensures { λ o. ⌜ o ≡ step self (logoutRequest seat) ⌝ }
+    {
+        let mut q = BLANK;
+        q.call = 1;
+        q.seat = seat;
+        self.step(q)
+    }
+
+    // The seat holds the role.
+    pub fn take(self, seat: u32, role: u32) -> Outcome
+        ensures { λ o. ⌜ o ≡ step self (roleRequest 2 seat role) ⌝ }
+    {
+        let mut q = BLANK;
+        q.call = 2;
+        q.seat = seat;
+        q.role = role;
+        self.step(q)
+    }
+
+    // The seat no longer holds the role.
+    pub fn drop(self, seat: u32, role: u32) -> Outcome
+        ensures { λ o. ⌜ o ≡ step self (roleRequest 3 seat role) ⌝ }
+    {
+        let mut q = BLANK;
+        q.call = 3;
+        q.seat = seat;
+        q.role = role;
+        self.step(q)
+    }
+
+    // The seat has the entity open for reading.
+    pub fn openr(self, seat: u32, entity: u32) -> Outcome
+        ensures { λ o. ⌜ o ≡ step self (entityRequest 4 seat entity) ⌝ }
+    {
+        let mut q = BLANK;
+        q.call = 4;
+        q.seat = seat;
+        q.entity = entity;
+        self.step(q)
+    }
+
+    // The seat has the entity open for writing.
+    pub fn openw(self, seat: u32, entity: u32) -> Outcome
+        ensures { λ o. ⌜ o ≡ step self (entityRequest 5 seat entity) ⌝ }
+    {
+        let mut q = BLANK;
+        q.call = 5;
+        q.seat = seat;
+        q.entity = entity;
+        self.step(q)
+    }
+
+    // The seat has the entity open in no way.
+    pub fn close(self, seat: u32, entity: u32) -> Outcome
+        ensures { λ o. ⌜ o ≡ step self (entityRequest 6 seat entity) ⌝ }
+    {
+        let mut q = BLANK;
+        q.call = 6;
+        q.seat = seat;
+        q.entity = entity;
+        self.step(q)
+    }
+
+    // An entity is made; the role gains own on it.
+    pub fn create(
+        self,
+        seat: u32,
+        entity: u32,
+        kind: u32,
+        parent: u32,
+        name: u32,
+        level: u32,
+        cats: u32,
+        role: u32,
+    ) -> Outcome
+        ensures { λ o. ⌜ o ≡ step self (createRequest seat entity kind parent name level cats role) ⌝ }
+    {
+        let mut q = BLANK;
+        q.call = 7;
+        q.seat = seat;
+        q.role = role;
+        q.entity = entity;
+        q.parent = parent;
+        q.kind = kind;
+        q.name = name;
+        q.level = level;
+        q.cats = cats;
+        self.step(q)
+    }
+
+    // The entity, all rights on it and all opens of it go.
+    pub fn delete(self, seat: u32, entity: u32) -> Outcome
+        ensures { λ o. ⌜ o ≡ step self (entityRequest 8 seat entity) ⌝ }
+    {
+        let mut q = BLANK;
+        q.call = 8;
+        q.seat = seat;
+        q.entity = entity;
+        self.step(q)
+    }
+
+    // The entity has the name.
+    pub fn rename(self, seat: u32, entity: u32, name: u32) -> Outcome
+        ensures { λ o. ⌜ o ≡ step self (renameRequest seat entity name) ⌝ }
+    {
+        let mut q = BLANK;
+        q.call = 9;
+        q.seat = seat;
+        q.entity = entity;
+        q.name = name;
+        self.step(q)
+    }
+
+    // The role has the rights on the entity.
+    pub fn grant(self, seat: u32, role: u32, entity: u32, rights: u32) -> Outcome
+        ensures { λ o. ⌜ o ≡ step self (rightsRequest 10 seat role entity rights) ⌝ }
+    {
+        let mut q = BLANK;
+        q.call = 10;
+        q.seat = seat;
+        q.role = role;
+        q.entity = entity;
+        q.rights = rights;
+        self.step(q)
+    }
+
+    // The role has none of the rights on the entity.
+    pub fn revoke(self, seat: u32, role: u32, entity: u32, rights: u32) -> Outcome
+        ensures { λ o. ⌜ o ≡ step self (rightsRequest 11 seat role entity rights) ⌝ }
+    {
+        let mut q = BLANK;
+        q.call = 11;
+        q.seat = seat;
+        q.role = role;
+        q.entity = entity;
+        q.rights = rights;
+        self.step(q)
+    }
+
+    // The role lists the user.
+    pub fn list(self, seat: u32, role: u32, user: u32) -> Outcome
+        ensures { λ o. ⌜ o ≡ step self (listRequest 12 seat role user) ⌝ }
+    {
+        let mut q = BLANK;
+        q.call = 12;
+        q.seat = seat;
+        q.user = user;
+        q.role = role;
+        self.step(q)
+    }
+
+    // The role no longer lists the user.
+    pub fn unlist(self, seat: u32, role: u32, user: u32) -> Outcome
+        ensures { λ o. ⌜ o ≡ step self (listRequest 13 seat role user) ⌝ }
+    {
+        let mut q = BLANK;
+        q.call = 13;
+        q.seat = seat;
+        q.user = user;
+        q.role = role;
+        self.step(q)
+    }
+
+    // The role is made, empty.
+    pub fn make(self, seat: u32, role: u32) -> Outcome
+        ensures { λ o. ⌜ o ≡ step self (roleRequest 14 seat role) ⌝ }
+    {
+        let mut q = BLANK;
+        q.call = 14;
+        q.seat = seat;
+        q.role = role;
+        self.step(q)
+    }
+
+    // The role and every holding of it go.
+    pub fn unmake(self, seat: u32, role: u32) -> Outcome
+        ensures { λ o. ⌜ o ≡ step self (roleRequest 15 seat role) ⌝ }
+    {
+        let mut q = BLANK;
+        q.call = 15;
+        q.seat = seat;
+        q.role = role;
+        self.step(q)
+    }
+}

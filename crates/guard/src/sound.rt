@@ -1,0 +1,152 @@
+// Whether tables are sound: `is_sound` is `sound` of specs/Sound, for all tables that the types admit.
+//
+// Columns of the entities (keys, levels, labels) are made once, and each part is tested over these or over single records,
+// so that no helper takes the tables inside a loop. The parts stand in an order in which each may assume the ones before it.
+mod opens;
+mod record;
+mod rights;
+mod tree;
+
+ghost use Prim.Native.Nat.{ℕ, _%_, _<_};
+ghost use mathlib.Core.Path.{_≡_};
+ghost use mathlib.Core.Bool.{true};
+ghost use lib.ListN.{getD};
+ghost use Rattle.bitset.specs.Tests.{all};
+ghost use Rattle.bitset.specs.Sets.{has};
+ghost use Rattle.guard.specs.Level.{sessionLevel};
+ghost use Rattle.guard.specs.Tables.{noUser, sessionAt, roleAt, entityAt};
+ghost use Rattle.guard.specs.Sound.{userInRange, sound};
+ghost use Rattle.guard.specs.Tested.{entityTest, keyOf, roleTest, labelOf, sessionTest};
+use crate::Tables;
+use opens::label_of;
+use opens::session_ok;
+use record::entity_ok;
+use record::user_in_range;
+use rights::listed;
+use rights::role_ok;
+use tree::end_at_root;
+use tree::have_own_keys;
+use tree::key;
+use tree::levels;
+
+// What is found of the roles: whether each is as soundness asks, and if so the set of those that are live.
+struct Roles {
+    ok: bool,
+    live: u16,
+}
+
+impl Tables {
+    pub(crate) fn users_in_range(self) -> bool
+        ensures { λ r. ⌜ r ≡ all 16 (λ u. userInRange (getD (self .users) u noUser)) ⌝ }
+    {
+        let mut u: usize = 0;
+        while u < 16 {
+            if !user_in_range(self.users[u]) {
+                return false;
+            }
+            u += 1;
+        }
+        true
+    }
+
+    fn entities_ok(self) -> bool
+        ensures { λ r. ⌜ r ≡ all 64 (λ e. entityTest e (entityAt self e) (entityAt self (entityAt self e .parent % 64))) ⌝ }
+    {
+        let mut e: u8 = 0;
+        while e < 64 {
+            let n = self.entities[e as usize];
+            let p = self.entities[(n.parent % 64) as usize];
+            if !entity_ok(e, n, p) {
+                return false;
+            }
+            e += 1;
+        }
+        true
+    }
+
+    fn keys(self) -> [u32; 64]
+        ensures { λ r. ⌜ ((e : ℕ) → e < 64 → getD r e 0 ≡ keyOf (entityAt self e)) ⌝ }
+    {
+        let mut a = [0u32; 64];
+        let mut e: usize = 0;
+        while e < 64 {
+            let n = self.entities[e];
+            a[e] = key(n);
+            e += 1;
+        }
+        a
+    }
+
+    fn labels(self) -> [u16; 64]
+        ensures { λ r. ⌜ ((e : ℕ) → e < 64 → getD r e 0 ≡ labelOf (entityAt self e)) ⌝ }
+    {
+        let mut a = [0u16; 64];
+        let mut e: usize = 0;
+        while e < 64 {
+            let n = self.entities[e];
+            a[e] = label_of(n);
+            e += 1;
+        }
+        a
+    }
+
+    fn roles_ok(self, levels: &[u8; 64]) -> Roles
+        ensures { λ r. ⌜ r .ok ≡ all 16 (λ k. roleTest (now (levels .entry)) k (roleAt self k)) ⌝ }
+        ensures { λ r. ⌜ (r .ok ≡ true → (k : ℕ) → k < 16 → has (r .live) k ≡ roleAt self k .live) ⌝ }
+    {
+        let mut live: u16 = 0;
+        let mut r: u8 = 0;
+        while r < 16 {
+            let p = self.roles[r as usize];
+            if !role_ok(levels, r, p) {
+                return Roles { ok: false, live: 0 };
+            }
+            live = listed(live, r, p.live);
+            r += 1;
+        }
+        Roles {
+            ok: true,
+            live: live,
+        }
+    }
+
+    fn sessions_ok(self, labels: &[u16; 64], roles: u16) -> bool
+        ensures { λ r. ⌜ r ≡ all 16 (λ s. sessionTest (now (labels .entry)) roles (sessionLevel s) (sessionAt self s)) ⌝ }
+    {
+        let mut s: u32 = 0;
+        while s < 16 {
+            let x = self.sessions[s as usize];
+            if !session_ok(labels, roles, s / 4, x) {
+                return false;
+            }
+            s += 1;
+        }
+        true
+    }
+
+    // Whether the tables are sound, for all tables that the types admit.
+    pub fn is_sound(self) -> bool
+        ensures { λ r. ⌜ r ≡ sound self ⌝ }
+    {
+        if !self.users_in_range() {
+            return false;
+        }
+        if !self.entities_ok() {
+            return false;
+        }
+        let keys = self.keys();
+        if !end_at_root(&keys) {
+            return false;
+        }
+        if !have_own_keys(&keys) {
+            return false;
+        }
+        let levels = levels(&keys);
+        let roles = self.roles_ok(&levels);
+        if !roles.ok {
+            return false;
+        }
+        let labels = self.labels();
+        self.sessions_ok(&labels, roles.live)
+    }
+}

@@ -1,0 +1,134 @@
+// A session, and what it has open, by a label for each entity: grade and categories in one number.
+ghost use Prim.Native.Nat.{ℕ, _<_};
+ghost use mathlib.Core.Path.{_≡_};
+ghost use lib.Dec.{leb, eqb};
+ghost use lib.ListN.{getD};
+ghost use Rattle.bitset.specs.Sets.{has};
+ghost use Rattle.guard.specs.Level.{entityLevel};
+ghost use Rattle.guard.specs.Tested.{packedLabel, labelOf, dominated, members, openLevels, openLabels, sessionTest};
+use super::record::is_empty_session;
+use super::record::session_in_range;
+use crate::Entity;
+use crate::Label;
+use crate::Session;
+
+fn packed(a: Label) -> u16
+    ensures { λ r. ⌜ r ≡ packedLabel a ⌝ }
+{
+    (a.grade as u16) * 256 + (a.cats as u16)
+}
+
+// The label of what is not live is above all.
+pub fn label_of(n: Entity) -> u16
+    ensures { λ r. ⌜ r ≡ labelOf n ⌝ }
+{
+    if !n.live {
+        return 65535;
+    }
+    packed(n.label)
+}
+
+// Whether `label` dominates the label of each member of `set`.
+fn dominates_each(labels: &[u16; 64], label: Label, set: u64) -> bool
+    ensures { λ r. ⌜ r ≡ members (dominated (now (labels .entry)) label) set ⌝ }
+{
+    let top = (label.grade as u16) * 256 + 255;
+    let mut m = set;
+    while m != 0 {
+        let e = u64::trailing_zeros(m);
+        let l = labels[e as usize];
+        if top < l {
+            return false;
+        }
+        if bitset::minus8((l % 256) as u8, label.cats) != 0 {
+            return false;
+        }
+        m = bitset::without64(m, e);
+    }
+    true
+}
+
+// Whether `label` is the label of each member of `set`.
+fn equals_each(labels: &[u16; 64], label: u16, set: u64) -> bool
+    ensures { λ r. ⌜ r ≡ members (λ e. eqb (getD (now (labels .entry)) e 0) label) set ⌝ }
+{
+    let mut m = set;
+    while m != 0 {
+        let e = u64::trailing_zeros(m);
+        if labels[e as usize] != label {
+            return false;
+        }
+        m = bitset::without64(m, e);
+    }
+    true
+}
+
+// The entities of at least a level.
+fn from_level(level: u32) -> u64
+    requires { ⌜ level < 4 ⌝ }
+    ensures { λ r. ⌜ ((e : ℕ) → e < 64 → has r e ≡ leb level (entityLevel e)) ⌝ }
+{
+    if level == 0 {
+        return 18446744073709551615;
+    }
+    if level == 1 {
+        return 18446744073709486080;
+    }
+    if level == 2 {
+        return 18446744069414584320;
+    }
+    18446462598732840960
+}
+
+// The entities of at most a level.
+fn to_level(level: u32) -> u64
+    requires { ⌜ level < 4 ⌝ }
+    ensures { λ r. ⌜ ((e : ℕ) → e < 64 → has r e ≡ leb (entityLevel e) level) ⌝ }
+{
+    if level == 0 {
+        return 65535;
+    }
+    if level == 1 {
+        return 4294967295;
+    }
+    if level == 2 {
+        return 281474976710655;
+    }
+    18446744073709551615
+}
+
+// Whether what `s`, at a level, has open is of the levels that it may have open.
+fn levels_allowed(level: u32, s: Session) -> bool
+    requires { ⌜ level < 4 ⌝ }
+    ensures { λ r. ⌜ r ≡ openLevels level s ⌝ }
+{
+    bitset::contains64(from_level(level), s.reading)
+        & bitset::contains64(to_level(level), s.writing)
+}
+
+// Whether it has the labels that `s` may have open.
+fn labels_allowed(labels: &[u16; 64], s: Session) -> bool
+    ensures { λ r. ⌜ r ≡ openLabels (now (labels .entry)) s ⌝ }
+{
+    if !dominates_each(labels, s.label, s.reading) {
+        return false;
+    }
+    equals_each(labels, packed(s.label), s.writing)
+}
+
+// Whether `s`, at a level, is as soundness asks; `roles` are the live ones.
+pub fn session_ok(labels: &[u16; 64], roles: u16, level: u32, s: Session) -> bool
+    requires { ⌜ level < 4 ⌝ }
+    ensures { λ r. ⌜ r ≡ sessionTest (now (labels .entry)) roles level s ⌝ }
+{
+    if !s.live {
+        return is_empty_session(s);
+    }
+    if !(session_in_range(s) & bitset::contains16(roles, s.roles)) {
+        return false;
+    }
+    if !levels_allowed(level, s) {
+        return false;
+    }
+    labels_allowed(labels, s)
+}

@@ -1,0 +1,76 @@
+// Tests of one record that soundness asks. Each is the definition of specs/Sound or specs/Label that its contract cites;
+// what holds of every value of a field's type, as that a `u8` is at most 255, is not tested.
+ghost use mathlib.Core.Path.{_≡_};
+ghost use Rattle.guard.specs.Label.{sameLabel, noLabel};
+ghost use Rattle.guard.specs.Sound.{userInRange, sessionInRange, entityInRange, isRootRecord, isEmptyEntity, isEmptySession};
+ghost use Rattle.guard.specs.Tested.{fits, entityTest};
+use crate::Entity;
+use crate::Label;
+use crate::Session;
+use crate::User;
+use crate::labels;
+
+fn is_no_label(a: Label) -> bool
+    ensures { λ r. ⌜ r ≡ sameLabel a noLabel ⌝ }
+{
+    (a.grade == 0) & (a.cats == 0)
+}
+
+pub fn user_in_range(u: User) -> bool
+    ensures { λ r. ⌜ r ≡ userInRange u ⌝ }
+{
+    (u.ceiling <= 3) & labels::in_range(u.clearance)
+}
+
+pub fn session_in_range(s: Session) -> bool
+    ensures { λ r. ⌜ r ≡ sessionInRange s ⌝ }
+{
+    (s.user < 16) & labels::in_range(s.label)
+}
+
+pub fn is_empty_session(s: Session) -> bool
+    ensures { λ r. ⌜ r ≡ isEmptySession s ⌝ }
+{
+    (s.user == 0)
+        & (is_no_label(s.label) & ((s.roles == 0) & ((s.reading == 0) & (s.writing == 0))))
+}
+
+fn entity_in_range(n: Entity) -> bool
+    ensures { λ r. ⌜ r ≡ entityInRange n ⌝ }
+{
+    (n.kind <= 1) & ((n.parent < 64) & labels::in_range(n.label))
+}
+
+fn is_root_record(e: u8, n: Entity) -> bool
+    ensures { λ r. ⌜ r ≡ isRootRecord e n ⌝ }
+{
+    n.live & ((n.kind == 1) & (is_no_label(n.label) & ((n.name == 0) & (n.parent == e))))
+}
+
+fn is_empty_entity(n: Entity) -> bool
+    ensures { λ r. ⌜ r ≡ isEmptyEntity n ⌝ }
+{
+    (n.kind == 0) & ((n.parent == 0) & ((n.name == 0) & is_no_label(n.label)))
+}
+
+// Whether `n`, at `e`, may lie in `p`, its parent's record.
+fn fits_in(e: u8, n: Entity, p: Entity) -> bool
+    ensures { λ r. ⌜ r ≡ fits e n p ⌝ }
+{
+    p.live & ((p.kind == 1) & ((n.parent / 16 == e / 16) & labels::dominates(n.label, p.label)))
+}
+
+// Whether the entity `e`, whose record is `n` and whose parent's is `p`, is as soundness asks, but for its name among its
+// siblings and its chain of parents. One that is not live is no root and is empty; the ranges of a root and of an empty
+// record follow.
+pub fn entity_ok(e: u8, n: Entity, p: Entity) -> bool
+    ensures { λ r. ⌜ r ≡ entityTest e n p ⌝ }
+{
+    if !n.live {
+        return (e % 16 != 0) & is_empty_entity(n);
+    }
+    if e % 16 == 0 {
+        return is_root_record(e, n);
+    }
+    entity_in_range(n) & ((1 <= n.name) & fits_in(e, n, p))
+}

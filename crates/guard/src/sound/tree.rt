@@ -1,0 +1,100 @@
+// The tree of entities, by a key for each: where a live entity lies and what it is called, in one number.
+ghost use Prim.Native.Nat.{ℕ, _<_};
+ghost use mathlib.Core.Path.{_≡_};
+ghost use mathlib.Core.Bool.{cond};
+ghost use lib.Dec.{eqb};
+ghost use lib.ListN.{getD};
+ghost use Rattle.bitset.specs.Tests.{all};
+ghost use Rattle.guard.specs.Tested.{keyOf, ownKey, ends, parentByKey, levelByKey};
+use crate::Entity;
+
+// The parent above the name. 256 stands for the parent of what is not live, which no live entity has.
+pub fn key(n: Entity) -> u32
+    ensures { λ r. ⌜ r ≡ keyOf n ⌝ }
+{
+    if !n.live {
+        return 16777216;
+    }
+    (n.parent as u32) * 65536 + (n.name as u32)
+}
+
+// The level of each entity, as its parent's: 16 for what is not live.
+pub fn levels(keys: &[u32; 64]) -> [u8; 64]
+    ensures { λ r. ⌜ ((e : ℕ) → e < 64 → getD r e 0 ≡ levelByKey (now (keys .entry)) e) ⌝ }
+{
+    let mut a = [0u8; 64];
+    let mut e: usize = 0;
+    while e < 64 {
+        a[e] = (keys[e] / 1048576 % 256) as u8;
+        e += 1;
+    }
+    a
+}
+
+fn counted(a: u32, b: u32) -> u32
+    ensures { λ r. ⌜ r ≡ cond (eqb a b) 1 0 ⌝ }
+{
+    if a == b { 1 } else { 0 }
+}
+
+// Whether `e` has no name, or no other entity of its level has its key.
+fn has_own_key(keys: &[u32; 64], e: usize) -> bool
+    requires { ⌜ e < 64 ⌝ }
+    ensures { λ r. ⌜ r ≡ ownKey (now (keys .entry)) e ⌝ }
+{
+    let k = keys[e];
+    if k % 65536 == 0 {
+        return true;
+    }
+    let first = e / 16 * 16;
+    let mut hits: u32 = 0;
+    let mut m: usize = 0;
+    while m < 16 {
+        let one = counted(keys[first + m], k);
+        hits += one;
+        m += 1;
+    }
+    hits == 1
+}
+
+pub fn have_own_keys(keys: &[u32; 64]) -> bool
+    ensures { λ r. ⌜ r ≡ all 64 (ownKey (now (keys .entry))) ⌝ }
+{
+    let mut e: usize = 0;
+    while e < 64 {
+        if !has_own_key(keys, e) {
+            return false;
+        }
+        e += 1;
+    }
+    true
+}
+
+fn ends_at_root(keys: &[u32; 64], e: usize) -> bool
+    requires { ⌜ e < 64 ⌝ }
+    ensures { λ r. ⌜ r ≡ ends (parentByKey (now (keys .entry))) 16 e ⌝ }
+{
+    let mut at = e;
+    let mut left: u32 = 16;
+    while 0 < left {
+        if at % 16 == 0 {
+            return true;
+        }
+        at = (keys[at] / 65536 % 64) as usize;
+        left -= 1;
+    }
+    at % 16 == 0
+}
+
+pub fn end_at_root(keys: &[u32; 64]) -> bool
+    ensures { λ r. ⌜ r ≡ all 64 (ends (parentByKey (now (keys .entry))) 16) ⌝ }
+{
+    let mut e: usize = 0;
+    while e < 64 {
+        if !ends_at_root(keys, e) {
+            return false;
+        }
+        e += 1;
+    }
+    true
+}

@@ -1,0 +1,9 @@
+pub mod Sample
+pub mod Texts
+pub mod Keys
+pub mod Parts
+pub mod Taking
+pub mod Rows
+pub mod Headers
+pub mod Reading
+pub mod Orders

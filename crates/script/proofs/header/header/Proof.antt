@@ -1,0 +1,94 @@
+-- `script::header::header` meets its contract. The loop's invariant: the names so far, and the set of those seen. The measure
+-- is what is left of the line. Assumes nothing.
+use Prim.Native.Nat.{_-_}
+use lib.ListN.{length}
+use borrow.Author.Needs.{needs}
+use Rattle.script.proofs.Parts.{part-length}
+use Rattle.script.proofs.Orders.{Seen, seen-start, seen-more, seen-end, seen-over, name-fits}
+use Rattle.script.proofs.header.header.Statement.{statement}
+use Rattle.script.proofs.header.header.Tie as tie
+
+abbrev Inv-loop : tie.InvT-loop
+Inv-loop s at₀ seen₀ from₀ j₀ at seen from j = Seen s at seen from j
+
+abbrev μ-loop : tie.MeasureT-loop
+μ-loop s at₀ seen₀ from₀ j₀ at seen from j = length s - from
+
+loop-holds : tie.Need-loop-holds Inv-loop μ-loop
+loop-holds c = seen-start _
+
+sub-rest : tie.Need-sub-rest Inv-loop μ-loop
+sub-rest c = search needs
+
+part-rest-start : tie.Need-part-rest-start Inv-loop μ-loop
+part-rest-start c = search needs
+
+part-rest-end : tie.Need-part-rest-end Inv-loop μ-loop
+part-rest-end c = search needs
+
+find-requires : tie.Need-find-requires Inv-loop μ-loop
+find-requires c κs = search needs
+
+slice-aggregate-name-at : tie.Need-slice-aggregate-name-at Inv-loop μ-loop
+slice-aggregate-name-at c = part-length 32 _ _ (c .before .find .ensures)
+
+name-at-requires : tie.Need-name-at-requires Inv-loop μ-loop
+name-at-requires c κs = search needs
+
+array-write-at : tie.Need-array-write-at Inv-loop μ-loop
+array-write-at c = search needs
+
+cast-with16 : tie.Need-cast-with16 Inv-loop μ-loop
+cast-with16 c = search needs
+
+with16-requires : tie.Need-with16-requires Inv-loop μ-loop
+with16-requires c κs = name-fits _ _ (c .name-at .ensures)
+
+add-j : tie.Need-add-j Inv-loop μ-loop
+add-j c = search needs
+
+contains16-requires : tie.Need-contains16-requires Inv-loop μ-loop
+contains16-requires c κs = search needs
+
+returns : tie.Need-returns Inv-loop μ-loop
+returns c = seen-end (c .before .before .before .before .before .before .before .loop .inv) (c .before .before .before .before .before .find .ensures) (c .before .before .before .name-at .ensures) (c .before .before .with16 .ensures) (c .before .if1 .taken) _ (c .contains16 .ensures)
+
+returns-2 : tie.Need-returns-2 Inv-loop μ-loop
+returns-2 c = seen-over (c .before .before .before .before .before .before .before .loop .inv) (c .before .before .before .before .before .find .ensures) (c .before .before .before .name-at .ensures) (c .before .before .with16 .ensures) (c .before .if1 .left) (c .if2 .taken)
+
+add-from : tie.Need-add-from Inv-loop μ-loop
+add-from c = search needs
+
+add-from-2 : tie.Need-add-from-2 Inv-loop μ-loop
+add-from-2 c = search needs
+
+loop-less : tie.Need-loop-less Inv-loop μ-loop
+loop-less c = search needs
+
+loop-again : tie.Need-loop-again Inv-loop μ-loop
+loop-again c = seen-more (c .before .before .before .before .before .before .before .loop .inv) (c .before .before .before .before .before .find .ensures) (c .before .before .before .name-at .ensures) (c .before .before .with16 .ensures) (c .before .if1 .left) (c .if2 .left)
+
+pub header-spec : {M : Type 1} → statement M
+header-spec =
+    tie.close
+    (tie.spec
+    Inv-loop
+    μ-loop
+    loop-holds
+    sub-rest
+    part-rest-start
+    part-rest-end
+    find-requires
+    slice-aggregate-name-at
+    name-at-requires
+    array-write-at
+    cast-with16
+    with16-requires
+    add-j
+    contains16-requires
+    returns
+    returns-2
+    add-from
+    add-from-2
+    loop-less
+    loop-again)

@@ -1,0 +1,32 @@
+-- The words in which the contracts of private functions are put. The report does not cite them, so a reader of the paper
+-- need not read them.
+use Prim.Native.Nat.{ℕ, _+_, _<_}
+use mathlib.Core.Path.{_≡_}
+use mathlib.Core.Bool.{Bool, true, cond}
+use mathlib.Core.List.{List, [], _∷_}
+use lib.Dec.{eqb}
+use lib.ListN.{length, getD}
+use lib.Seq.{sets}
+use Rattle.script.specs.Names.{names, column, isNames}
+
+-- what stands before the first byte d, and what stands after it
+unfoldable pub before : ℕ → List ℕ → List ℕ
+before d [] = []
+before d (b ∷ s) = cond (eqb b d) [] (b ∷ before d s)
+
+unfoldable pub after : ℕ → List ℕ → List ℕ
+after d [] = []
+after d (b ∷ s) = cond (eqb b d) s (after d s)
+
+-- l with the elements vs in place of those from i on; and a store that ends at r
+unfoldable pub written : List ℕ → ℕ → List ℕ → List ℕ
+written l i vs = sets l i vs
+
+pub record Put (old : List ℕ) (i : ℕ) (vs : List ℕ) (new : List ℕ) (r : ℕ) : Type 0 where
+  pub holds : new ≡ written old i vs
+  pub next : r ≡ i + length vs
+
+-- `at` tells for each place of the header which name stands there
+pub record Ordered (header : List (List ℕ)) (at : List ℕ) : Type 0 where
+  pub good : isNames header ≡ true
+  pub place : (j : ℕ) → j < 12 → getD at j 0 ≡ column (getD header j []) names

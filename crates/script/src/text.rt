@@ -1,0 +1,182 @@
+// Bytes: where a delimiter stands, what a value and a name are, and the lines of output.
+ghost use Prim.Native.Nat.{_+_, _/_, _%_, _<_, _≤_};
+ghost use mathlib.Core.Path.{_≡_};
+ghost use mathlib.Core.List.{[], _∷_};
+ghost use lib.ListN.{length};
+ghost use Rattle.script.specs.Text.{place, decimal};
+ghost use Rattle.script.specs.Names.{names, column};
+ghost use Rattle.script.specs.Line.{valueOf, words};
+ghost use Rattle.script.specs.Report.{heading, lineText};
+ghost use Rattle.script.specs.Slices.{before, Put};
+ghost use Rattle.script.specs.Keys.{keyOf};
+use crate::line::Value;
+
+// Where the first byte `d` stands, or the length.
+pub fn find(s: &[u8], d: u8) -> usize
+    ensures { λ r. ⌜ r ≡ length (before d (now (s .entry))) ⌝ }
+{
+    let mut i = 0;
+    while i < s.len() {
+        if s[i] == d {
+            return i;
+        }
+        i += 1;
+    }
+    i
+}
+
+// A value of a line.
+pub fn value(s: &[u8]) -> Value
+    ensures { λ r. ⌜ r ≡ valueOf (now (s .entry)) ⌝ }
+{
+    if s.len() == 0 {
+        return Value::Other;
+    }
+    if 5 < s.len() {
+        return Value::Other;
+    }
+    if s[0] == b'-' {
+        if s.len() == 1 {
+            return Value::Dash;
+        }
+        return Value::Other;
+    }
+    let mut n: u32 = 0;
+    let mut i = 0;
+    while i < s.len() {
+        let b = s[i];
+        if b < b'0' {
+            return Value::Other;
+        }
+        if b'9' < b {
+            return Value::Other;
+        }
+        n = 10 * n + (b as u32 - 48);
+        i += 1;
+    }
+    Value::Digits(n)
+}
+
+// A text of at most seven bytes as one number, 1 and behind it the bytes; 0 for a longer text.
+fn key(s: &[u8]) -> u64
+    ensures { λ r. ⌜ r ≡ keyOf (now (s .entry)) ⌝ }
+{
+    if 7 < s.len() {
+        return 0;
+    }
+    let mut k: u64 = 1;
+    let mut i = 0;
+    while i < s.len() {
+        k = 256 * k + s[i] as u64;
+        i += 1;
+    }
+    k
+}
+
+// Which of the twelve names it is, 12 for none.
+pub fn name_at(s: &[u8]) -> u8
+    ensures { λ r. ⌜ r ≡ column (now (s .entry)) names ⌝ }
+{
+    let k = key(s);
+    match k {
+        0x1_63616c6c => 0, // call
+        0x1_73656174 => 1, // seat
+        0x1_75736572 => 2, // user
+        0x1_726f6c65 => 3, // role
+        0x1_656e74697479 => 4, // entity
+        0x1_706172656e74 => 5, // parent
+        0x1_6b696e64 => 6, // kind
+        0x1_6e616d65 => 7, // name
+        0x1_6c6576656c => 8, // level
+        0x1_63617473 => 9, // cats
+        0x1_726967687473 => 10, // rights
+        0x1_6365696c696e67 => 11, // ceiling
+        _ => 12,
+    }
+}
+
+// Which of the seventeen words it is, 17 for none.
+pub fn word_at(s: &[u8]) -> u8
+    ensures { λ r. ⌜ r ≡ column (now (s .entry)) words ⌝ }
+{
+    let k = key(s);
+    match k {
+        0x1_6c6f67696e => 0, // login
+        0x1_6c6f676f7574 => 1, // logout
+        0x1_74616b65 => 2, // take
+        0x1_64726f70 => 3, // drop
+        0x1_6f70656e72 => 4, // openr
+        0x1_6f70656e77 => 5, // openw
+        0x1_636c6f7365 => 6, // close
+        0x1_637265617465 => 7, // create
+        0x1_64656c657465 => 8, // delete
+        0x1_72656e616d65 => 9, // rename
+        0x1_6772616e74 => 10, // grant
+        0x1_7265766f6b65 => 11, // revoke
+        0x1_6c697374 => 12, // list
+        0x1_756e6c697374 => 13, // unlist
+        0x1_6d616b65 => 14, // make
+        0x1_756e6d616b65 => 15, // unmake
+        0x1_75736572 => 16, // user
+        _ => 17,
+    }
+}
+
+// Four bytes from `at` on.
+fn put4(a: u8, b: u8, c: u8, d: u8, out: &mut [u8], at: usize) -> usize
+    requires { ⌜ at + 4 ≤ length (now out) ⌝ }
+    ensures { λ r. ⌜ Put (now (out .entry)) at (a ∷ b ∷ c ∷ d ∷ []) (now (out .exit)) r ⌝ }
+{
+    out[at] = a;
+    out[at + 1] = b;
+    out[at + 2] = c;
+    out[at + 3] = d;
+    at + 4
+}
+
+// The heading.
+pub fn put_heading(out: &mut [u8]) -> usize
+    requires { ⌜ 12 ≤ length (now out) ⌝ }
+    ensures { λ r. ⌜ Put (now (out .entry)) 0 heading (now (out .exit)) r ⌝ }
+{
+    let i = put4(b'l', b'i', b'n', b'e', out, 0);
+    let j = put4(b' ', b'a', b'n', b's', out, i);
+    put4(b'w', b'e', b'r', b'\n', out, j)
+}
+
+// The digit of `n` at the place `p`, unless it is a leading zero.
+fn put_place(p: u32, n: u32, out: &mut [u8], at: usize) -> usize
+    requires { ⌜ (0 < p) × (at < length (now out)) ⌝ }
+    ensures { λ r. ⌜ Put (now (out .entry)) at (place p n) (now (out .exit)) r × (r ≤ at + 1) ⌝ }
+{
+    if n < p {
+        return at;
+    }
+    out[at] = (48 + n / p % 10) as u8;
+    at + 1
+}
+
+// A number below 100,000 in decimal.
+fn put_decimal(n: u32, out: &mut [u8], at: usize) -> usize
+    requires { ⌜ at + 5 ≤ length (now out) ⌝ }
+    ensures { λ r. ⌜ Put (now (out .entry)) at (decimal n) (now (out .exit)) r × (r ≤ at + 5) ⌝ }
+{
+    let i = put_place(10000, n, out, at);
+    let j = put_place(1000, n, out, i);
+    let k = put_place(100, n, out, j);
+    let l = put_place(10, n, out, k);
+    out[l] = (48 + n % 10) as u8;
+    l + 1
+}
+
+// One line of output: number, space, answer, byte 10.
+pub fn put_line(n: u32, a: u8, out: &mut [u8]) -> usize
+    requires { ⌜ (12 ≤ length (now out)) × (n < 100000) × (a < 100) ⌝ }
+    ensures { λ r. ⌜ Put (now (out .entry)) 0 (lineText n a) (now (out .exit)) r ⌝ }
+{
+    let i = put_decimal(n, out, 0);
+    out[i] = b' ';
+    let j = put_decimal(a as u32, out, i + 1);
+    out[j] = b'\n';
+    j + 1
+}
