@@ -7,3 +7,13 @@ pub mod Rows
 pub mod Headers
 pub mod Reading
 pub mod Orders
+pub mod Lines
+pub mod Short
+pub mod Answers
+pub mod Replies
+pub mod Rest
+pub mod Pieces
+pub mod Runs
+pub mod Steps
+pub mod Moves
+pub mod Theorem

@@ -6,3 +6,4 @@ pub mod Report
 pub mod Slices
 pub mod Keys
 pub mod Rows
+pub mod Run

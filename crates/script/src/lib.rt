@@ -1,6 +1,9 @@
 // The request program as a library on slices: what it prints for an input is `report` of specs/Report.
+pub mod buffer;
 mod fields;
 mod header;
 mod line;
+mod reply;
 mod row;
+pub mod runner;
 mod text;

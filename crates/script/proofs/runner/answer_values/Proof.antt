@@ -1,0 +1,34 @@
+-- `answer_values` reads a line of values, answers it and writes the answer. Assumes nothing.
+use Rattle.script.proofs.Replies.{said-low, said-next, said-text}
+use borrow.Author.Needs.{needs}
+use Rattle.script.proofs.runner.answer_values.Statement.{statement}
+use Rattle.script.proofs.runner.answer_values.Tie as tie
+
+read-requires : tie.Need-read-requires
+read-requires c κs = search needs
+
+answer-line-requires : tie.Need-answer-line-requires
+answer-line-requires c κs = search needs
+
+add-n : tie.Need-add-n
+add-n c = search needs
+
+put-line-requires : tie.Need-put-line-requires
+put-line-requires c κs = (search needs, search needs, said-low _ _ _ (c .before .before .answer-line .ensures))
+
+same-length : tie.Need-same-length
+same-length c = search needs
+
+returns : tie.Need-returns
+returns c =
+    record {
+      asked = c .before .before .before .before .before .before .before .before .read .result;
+      read = c .before .before .before .before .before .before .before .before .read .ensures;
+      next = said-next _ _ _ (c .before .before .before .before .before .before .answer-line .ensures);
+      puts = said-text _ _ _ (c .before .before .before .before .before .before .answer-line .ensures) (c .before .before .before .put-line .ensures);
+    }
+
+pub answer-values-spec : {M : Type 1} → statement M
+answer-values-spec =
+    tie.close
+    (tie.spec read-requires answer-line-requires add-n put-line-requires same-length returns)

@@ -1,0 +1,24 @@
+-- `take_names` takes the order of a good names line, and answers a bad one by `1 17`. Assumes nothing.
+use mathlib.Core.Path.{sym, _∙_}
+use Rattle.script.specs.Run.{good, bad}
+use borrow.Author.Needs.{needs}
+use Rattle.script.proofs.runner.take_names.Statement.{statement}
+use Rattle.script.proofs.runner.take_names.Tie as tie
+
+header-requires : tie.Need-header-requires
+header-requires c κs = search needs
+
+returns : tie.Need-returns
+returns c = good _ (c .before .before .header .ensures .1 (c .before .if1 .taken))
+
+put-line-requires : tie.Need-put-line-requires
+put-line-requires c κs = search needs
+
+same-length : tie.Need-same-length
+same-length c = search needs
+
+returns-2 : tie.Need-returns-2
+returns-2 c = bad (sym (c .before .before .before .before .before .header .ensures .0) ∙ c .before .before .before .before .if1 .left) (c .before .before .put-line .ensures)
+
+pub take-names-spec : {M : Type 1} → statement M
+take-names-spec = tie.close (tie.spec header-requires returns put-line-requires same-length returns-2)

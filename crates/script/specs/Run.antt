@@ -1,0 +1,179 @@
+-- A run of the program from its middle: what a runner has yet to print for the input that is left. The contracts of the
+-- runner and the theorem on whole runs are put in these words; `rest` of the runner that nothing has been done with is
+-- `report` (proofs/Theorem).
+use Prim.Native.Nat.{ℕ, _+_, _-_, _≤_, _<_}
+use mathlib.Core.Path.{_≡_}
+use mathlib.Core.Bool.{Bool, true, false, cond}
+use mathlib.Core.List.{List, [], _∷_, _++_}
+use lib.Dec.{eqb}
+use lib.ListN.{length, take, drop, replicate}
+use Rattle.script.specs.Text.{lines, values}
+use Rattle.script.specs.Names.{isNames}
+use Rattle.script.specs.Line.{readLine}
+use Rattle.script.specs.Report.{Bench, Answered, answerLine, heading, lineText, answered, lastLine, opening, below}
+use Rattle.script.specs.Slices.{after, Put, Ordered}
+use Rattle.script.specs.declared.line.Line.{Line}
+use Rattle.script.specs.declared.runner.Runner.{Runner}
+use Rattle.script.specs.declared.reply.Reply.{Reply}
+use Rattle.script.specs.declared.runner.Said.{Said}
+use Rattle.script.specs.declared.runner.Ran.{Ran}
+
+-- ---- the phases of a runner: the heading is to come; the names are to come; lines of values; from 3 on the run is over
+abbrev pub atHeading : ℕ
+atHeading = 0
+
+abbrev pub atNames : ℕ
+atNames = 1
+
+abbrev pub atLines : ℕ
+atLines = 2
+
+abbrev pub atEnd : ℕ
+atEnd = 3
+
+abbrev pub benchOf : Runner → Bench
+benchOf r = record { tables = r .tables; shut = r .shut }
+
+abbrev pub saidBy : Reply → Answered
+saidBy a = record { bench = record { tables = a .tables; shut = a .shut }; answer = a .answer }
+
+-- ---- what is printed, and the bench at the end of it
+pub record Told : Type 0 where
+  pub text : List ℕ
+  pub bench : Bench
+
+abbrev pub put : List ℕ → Told → Told
+put w p = record { text = w ++ p .text; bench = p .bench }
+
+abbrev pub silent : Bench → Told
+silent b = record { text = []; bench = b }
+
+-- the bench after lines of values
+unfoldable pub finally : List (List ℕ) → Bench → List (List ℕ) → Bench
+finally header b [] = b
+finally header b (l ∷ ls) = finally header (answerLine b (readLine header l) .bench) ls
+
+-- .. and after all lines, the names line first
+unfoldable pub closing : List (List ℕ) → Bench
+closing [] = opening
+closing (h ∷ ls) = cond (isNames (values h)) (finally (values h) opening ls) opening
+
+-- n lines are done, the names line as 1; s is what is left, from the beginning of a line on
+unfoldable pub fromLine : List (List ℕ) → Bench → ℕ → List ℕ → Told
+fromLine header b n s =
+    let ls = take (lastLine - n) (lines s) in
+    record { text = answered header b (n + 1) ls; bench = finally header b ls }
+
+-- the names line is to come
+unfoldable pub fromNames : List ℕ → Told
+fromNames s = record { text = below (take lastLine (lines s)); bench = closing (take lastLine (lines s)) }
+
+-- what a runner that has read the names `header` has yet to tell. The line in which `skip` is set has been answered: what
+-- is left of it is passed over.
+unfoldable pub rest : List (List ℕ) → Runner → List ℕ → Told
+rest header r s =
+    cond (eqb (r .phase) atHeading) (put heading (fromNames s))
+    (cond (eqb (r .phase) atNames) (fromNames s)
+    (cond (eqb (r .phase) atLines) (fromLine header (benchOf r) (r .done) (cond (r .skip) (after 10 s) s))
+    (silent (benchOf r))))
+
+-- a runner that has done nothing but read the names `header`, if any: until then its bench is the opening one, and then
+-- it knows their order
+pub record Fits (header : List (List ℕ)) (r : Runner) : Type 0 where
+  pub opens : r .phase < atLines → benchOf r ≡ opening
+  pub knows : r .phase ≡ atLines → Ordered header (r .at)
+
+-- ---- one line of values, by what it asks
+unfoldable pub afterLine : Runner → Line → Runner
+afterLine r asked =
+    let said = answerLine (benchOf r) asked in
+    record {
+      tables = said .bench .tables;
+      shut = said .bench .shut;
+      at = r .at;
+      phase = r .phase;
+      done = r .done + 1;
+      skip = r .skip;
+    }
+
+unfoldable pub textOf : Runner → Line → List ℕ
+textOf r asked = lineText (r .done + 1) (answerLine (benchOf r) asked .answer)
+
+pub record Spoken (r : Runner) (l old new : List ℕ) (x : Said) : Type 0 where
+  pub asked : Line
+  pub read : (header : List (List ℕ)) → Ordered header (r .at) → asked ≡ readLine header l
+  pub next : x .runner ≡ afterLine r asked
+  pub puts : Put old 0 (textOf r asked) new (x .wrote)
+
+-- ---- the names line
+abbrev pub withNames : Runner → List ℕ → Runner
+withNames r at = record { tables = r .tables; shut = r .shut; at = at; phase = atLines; done = 1; skip = false }
+
+abbrev pub over : Runner → Runner
+over r = record { tables = r .tables; shut = r .shut; at = r .at; phase = atEnd; done = r .done; skip = r .skip }
+
+pub data Named (r : Runner) (l old : List ℕ) : List ℕ → Said → Type 0 where
+  good : (at : List ℕ) → Ordered (values l) at → Named r l old old (record { runner = withNames r at; wrote = 0 })
+  bad : {new : List ℕ} {n : ℕ} → isNames (values l) ≡ false → Put old 0 (lineText 1 17) new n → Named r l old new (record { runner = over r; wrote = n })
+
+-- ---- a call on a piece
+-- whatever input follows, what was left to tell is w and then what is left to tell now
+pub record Onward (end : Bool) (header : List (List ℕ)) (r : Runner) (s w : List ℕ) (r2 : Runner) (s2 : List ℕ) : Type 0 where
+  pub known : List (List ℕ)
+  pub fits : Fits known r2
+  pub same : (more : List ℕ) → (end ≡ true → more ≡ []) → rest header r (s ++ more) ≡ put w (rest known r2 (s2 ++ more))
+
+abbrev pub Goes : Bool → Runner → List ℕ → List ℕ → Runner → List ℕ → Type 0
+Goes end r s w r2 s2 = (header : List (List ℕ)) → Fits header r → Onward end header r s w r2 s2
+
+-- how much of the piece is used, and what stands in the output's first bytes; the other bytes are as they were
+pub record Worked (r : Runner) (piece : List ℕ) (end : Bool) (old new : List ℕ) (x : Ran) : Type 0 where
+  pub within : x .used ≤ length piece
+  pub room : x .wrote ≤ length old
+  pub frame : drop (x .wrote) new ≡ drop (x .wrote) old
+  pub goes : Goes end r piece (take (x .wrote) new) (x .runner) (drop (x .used) piece)
+
+-- something is left to be done: the heading or the names are to come, or there is input and lines are to be read
+pub data Open (r : Runner) (left : List ℕ) : Type 0 where
+  names-to-come : r .phase < atLines → Open r left
+  line-to-come : r .phase ≡ atLines → r .done < lastLine → 0 < length left → Open r left
+
+-- no more can be done: nothing is left to be done, or there is no room, or no whole line is left and more input is to come
+abbrev pub Stopped : Runner → List ℕ → Bool → ℕ → Type 0
+Stopped r left end room = Open r left → 12 ≤ room → (end ≡ false) × (length left ≤ 255) × (atNames ≤ r .phase)
+
+-- where a call on a piece ends
+pub record Finished (r : Runner) (piece : List ℕ) (end : Bool) (old new : List ℕ) (x : Ran) : Type 0 where
+  pub did : Worked r piece end old new x
+  pub stops : Stopped (x .runner) (drop (x .used) piece) end (length old - x .wrote)
+
+-- .. and where a step of it ends, which does at most one line
+pub record Stepped (r : Runner) (piece : List ℕ) (end : Bool) (old new : List ℕ) (x : Ran) : Type 0 where
+  pub did : Worked r piece end old new x
+  pub begun : atNames ≤ x .runner .phase
+  pub stops : x .used ≡ 0 → Stopped (x .runner) (drop (x .used) piece) end (length old - x .wrote)
+
+-- ---- a host that has input s in all, hands over any piece of what is left with any room for output, and keeps what the
+-- call did not use
+pub data Session (r : Runner) (s : List ℕ) : List ℕ → Runner → List ℕ → Type 0 where
+  begin : Session r s [] r s
+  call : {w piece more old new : List ℕ} {r2 : Runner} {end : Bool} {x : Ran} → Session r s w r2 (piece ++ more)
+      → (end ≡ true → more ≡ []) → Finished r2 piece end old new x
+      → Session r s (w ++ take (x .wrote) new) (x .runner) (drop (x .used) piece ++ more)
+
+-- the runner that nothing has been done with
+abbrev pub unbegun : Runner
+unbegun =
+    record {
+      tables = opening .tables;
+      shut = false;
+      at = replicate 12 0;
+      phase = atHeading;
+      done = 0;
+      skip = false;
+    }
+
+-- ---- the bytes of a buffer from `used` up to `have`, as far as there are any, at its front: r bytes
+pub record Moved (old : List ℕ) (used have : ℕ) (new : List ℕ) (r : ℕ) : Type 0 where
+  pub count : r ≡ length (take (have - used) (drop used old))
+  pub moved : new ≡ take (have - used) (drop used old) ++ drop r old

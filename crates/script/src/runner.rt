@@ -1,0 +1,262 @@
+// The request program over input in pieces. A host hands over a piece of the input and room for output; the runner uses
+// whole lines only, and the host gives what was not used again, in front of the next piece. No line is kept here: one that
+// has passed 255 bytes without byte 10 is answered 17 at once, and passed over to its end.
+use crate::header;
+use crate::line;
+use crate::reply;
+use crate::text;
+use guard::Label;
+use guard::Tables;
+use guard::User;
+ghost use Prim.Native.Nat.{_+_, _≤_, _<_};
+ghost use mathlib.Core.Path.{_≡_};
+ghost use mathlib.Core.Bool.{true, false};
+ghost use lib.ListN.{length};
+ghost use Rattle.script.specs.Report.{lastLine};
+ghost use Rattle.script.specs.Run.{atNames, atLines, unbegun, Spoken, Named, Stepped, Finished};
+
+// Where a run stands: the bench (its tables, and whether a readable line with a word other than `user` has come), the
+// order of the names, the phase (0 the heading is to come, 1 the names are to come, 2 lines of values, else over), how many
+// lines are done, the names line as 1, and whether the line that is begun has been answered.
+pub struct Runner {
+    tables: Tables,
+    shut: bool,
+    at: [u8; 12],
+    phase: u8,
+    done: u32,
+    skip: bool,
+}
+
+// The runner after a line, and how many bytes of output were written.
+struct Said {
+    runner: Runner,
+    wrote: usize,
+}
+
+// The runner after a piece, how many bytes of the piece were used, and how many bytes of output were written.
+pub struct Ran {
+    pub runner: Runner,
+    pub used: usize,
+    pub wrote: usize,
+}
+
+// Answers one line of values.
+fn answer_values(mut r: Runner, s: &[u8], out: &mut [u8]) -> Said
+    requires { ⌜ (12 ≤ length (now out)) × (r .done < lastLine) ⌝ }
+    ensures { λ x. ⌜ Spoken r (now (s .entry)) (now (out .entry)) (now (out .exit)) x ⌝ }
+{
+    let at = r.at;
+    let asked = line::read(s, at);
+    let t = r.tables;
+    let a = reply::answer_line(t, r.shut, asked);
+    let n = r.done + 1;
+    let wrote = text::put_line(n, a.answer, out);
+    let next = a.tables;
+    r.tables = next;
+    r.shut = a.shut;
+    r.done = n;
+    Said { runner: r, wrote }
+}
+
+// Reads the names line.
+fn take_names(mut r: Runner, s: &[u8], out: &mut [u8]) -> Said
+    requires { ⌜ 12 ≤ length (now out) ⌝ }
+    ensures { λ x. ⌜ Named r (now (s .entry)) (now (out .entry)) (now (out .exit)) x ⌝ }
+{
+    let order = header::header(s);
+    if order.good {
+        let at = order.at;
+        r.at = at;
+        r.phase = 2;
+        r.done = 1;
+        r.skip = false;
+        return Said {
+            runner: r,
+            wrote: 0,
+        };
+    }
+    let wrote = text::put_line(1, 17, out);
+    r.phase = 3;
+    Said { runner: r, wrote }
+}
+
+impl Runner {
+    // A run that has not begun, over users that are 0 throughout.
+    pub fn new() -> Runner
+        ensures { λ r. ⌜ r ≡ unbegun ⌝ }
+    {
+        let none = Label { cats: 0, grade: 0 };
+        let nobody = User {
+            ceiling: 0,
+            clearance: none,
+        };
+        let o = Tables::fresh([nobody; 16]);
+        let tables = o.tables;
+        Runner {
+            tables,
+            shut: false,
+            at: [0u8; 12],
+            phase: 0,
+            done: 0,
+            skip: false,
+        }
+    }
+}
+
+// What a call hands back that has done nothing.
+fn idle(runner: Runner) -> Ran
+    ensures { λ x. ⌜ x ≡ record { runner = runner; used = 0; wrote = 0 } ⌝ }
+{
+    Ran {
+        runner,
+        used: 0,
+        wrote: 0,
+    }
+}
+
+// The names line, once it is there: with its byte 10, or past 255 bytes, or at the end of the input.
+fn names_step(r: Runner, piece: &[u8], end: bool, out: &mut [u8]) -> Ran
+    requires { ⌜ r .phase ≡ atNames ⌝ }
+    ensures { λ x. ⌜ Stepped r (now (piece .entry)) end (now (out .entry)) (now (out .exit)) x ⌝ }
+{
+    if out.len() < 12 {
+        return idle(r);
+    }
+    let e = text::find(piece, 10);
+    if e < piece.len() {
+        let said = take_names(r, &piece[..e], out);
+        let next = said.runner;
+        return Ran {
+            runner: next,
+            used: e + 1,
+            wrote: said.wrote,
+        };
+    }
+    if end | (255 < e) {
+        let said = take_names(r, piece, out);
+        let next = said.runner;
+        return Ran {
+            runner: next,
+            used: e,
+            wrote: said.wrote,
+        };
+    }
+    idle(r)
+}
+
+// One line of values, likewise; or the rest of a line that has been answered.
+fn values_step(mut r: Runner, piece: &[u8], end: bool, out: &mut [u8]) -> Ran
+    requires { ⌜ r .phase ≡ atLines ⌝ }
+    ensures { λ x. ⌜ Stepped r (now (piece .entry)) end (now (out .entry)) (now (out .exit)) x ⌝ }
+{
+    if 65535 <= r.done {
+        return idle(r);
+    }
+    let e = text::find(piece, 10);
+    if r.skip {
+        if e < piece.len() {
+            r.skip = false;
+            return Ran {
+                runner: r,
+                used: e + 1,
+                wrote: 0,
+            };
+        }
+        return Ran {
+            runner: r,
+            used: e,
+            wrote: 0,
+        };
+    }
+    if out.len() < 12 {
+        return idle(r);
+    }
+    if e < piece.len() {
+        let said = answer_values(r, &piece[..e], out);
+        let next = said.runner;
+        return Ran {
+            runner: next,
+            used: e + 1,
+            wrote: said.wrote,
+        };
+    }
+    if 255 < e {
+        let said = answer_values(r, piece, out);
+        let mut next = said.runner;
+        next.skip = true;
+        return Ran {
+            runner: next,
+            used: e,
+            wrote: said.wrote,
+        };
+    }
+    if end & (0 < e) {
+        let said = answer_values(r, piece, out);
+        let next = said.runner;
+        return Ran {
+            runner: next,
+            used: e,
+            wrote: said.wrote,
+        };
+    }
+    idle(r)
+}
+
+// One line of a piece.
+fn one(r: Runner, piece: &[u8], end: bool, out: &mut [u8]) -> Ran
+    requires { ⌜ atNames ≤ r .phase ⌝ }
+    ensures { λ x. ⌜ Stepped r (now (piece .entry)) end (now (out .entry)) (now (out .exit)) x ⌝ }
+{
+    if r.phase == 1 {
+        return names_step(r, piece, end, out);
+    }
+    if r.phase == 2 {
+        return values_step(r, piece, end, out);
+    }
+    idle(r)
+}
+
+// A piece, the heading being written.
+fn work(r: Runner, piece: &[u8], end: bool, out: &mut [u8]) -> Ran
+    requires { ⌜ atNames ≤ r .phase ⌝ }
+    ensures { λ x. ⌜ Finished r (now (piece .entry)) end (now (out .entry)) (now (out .exit)) x ⌝ }
+{
+    let mut held = r;
+    let mut at = 0;
+    let mut wrote = 0;
+    loop {
+        let ran = one(held, &piece[at..], end, &mut out[wrote..]);
+        let next = ran.runner;
+        held = next;
+        at = at + ran.used;
+        wrote = wrote + ran.wrote;
+        if ran.used == 0 {
+            return Ran {
+                runner: held,
+                used: at,
+                wrote,
+            };
+        }
+    }
+}
+
+// Works through a piece, as far as whole lines go and the room for their answers. `end` says that no input follows it.
+pub fn run(mut r: Runner, piece: &[u8], end: bool, out: &mut [u8]) -> Ran
+    ensures { λ x. ⌜ Finished r (now (piece .entry)) end (now (out .entry)) (now (out .exit)) x ⌝ }
+{
+    if r.phase == 0 {
+        if out.len() < 12 {
+            return idle(r);
+        }
+        let heading = text::put_heading(out);
+        r.phase = 1;
+        let ran = work(r, piece, end, &mut out[heading..]);
+        let next = ran.runner;
+        return Ran {
+            runner: next,
+            used: ran.used,
+            wrote: heading + ran.wrote,
+        };
+    }
+    work(r, piece, end, out)
+}
