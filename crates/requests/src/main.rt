@@ -30,24 +30,39 @@ fn filled(input: &mut [u8], have: usize) -> Stock {
     if n == 0 {
         return Stock { have, end: true };
     }
-    Stock { have: have + n, end: false }
+    Stock {
+        have: have + n,
+        end: false,
+    }
 }
 
 // The lines that are whole by now, and one write of their answers.
 fn turn(r: Runner, input: &mut [u8], have: usize, end: bool, output: &mut [u8]) -> After {
     if input.len() < have {
-        return After { runner: r, have: 0, on: false };
+        return After {
+            runner: r,
+            have: 0,
+            on: false,
+        };
     }
     let ran = runner::run(r, &input[..have], end, output);
     let next = ran.runner;
     let wrote = ran.wrote;
     if output.len() < wrote {
-        return After { runner: next, have: 0, on: false };
+        return After {
+            runner: next,
+            have: 0,
+            on: false,
+        };
     }
     let heard = io::write_all(STDOUT_FILENO, &output[..wrote]);
     let left = buffer::keep(input, ran.used, have);
     let idle = (ran.used == 0) & (wrote == 0);
-    After { runner: next, have: left, on: heard & !(end & idle) }
+    After {
+        runner: next,
+        have: left,
+        on: heard & !(end & idle),
+    }
 }
 
 // Turns, until there is nothing more to do. A loop that is proved has to end, so it counts down from a number that no run
