@@ -32,119 +32,63 @@ pub fn users() -> [User; 16] {
     all
 }
 
-// Each of these hands back an answer of 0 only if every request was done.
-fn top(t: Tables) -> Outcome {
-    let a = t.login(12, 0, 0, 0);
-    let b = a.tables.take(12, 12);
-    let c = b.tables.make(12, 13);
-    let d = c.tables.list(12, 13, 0);
-    let e = d.tables.list(12, 13, 1);
-    let f = e.tables.openw(12, 48);
-    let tables = f.tables;
-    let first = (a.answer | b.answer) | c.answer;
-    let then = (d.answer | e.answer) | f.answer;
+// A request after others: its tables, and an answer of 0 only if they all were done.
+fn then(answer: u8, o: Outcome) -> Outcome {
+    let tables = o.tables;
     Outcome {
         tables,
-        answer: first | then,
+        answer: answer | o.answer,
     }
 }
 
-fn first_entities(t: Tables) -> Outcome {
-    let a = t.create(12, 49, 1, 48, 7, 1, 3, 12);
-    let b = a.tables.create(12, 51, 0, 48, 9, 0, 0, 12);
-    let c = b.tables.grant(12, 12, 51, 3);
-    let d = c.tables.grant(12, 13, 48, 5);
-    let e = d.tables.grant(12, 13, 49, 7);
-    let tables = e.tables;
-    let first = (a.answer | b.answer) | c.answer;
-    Outcome {
-        tables,
-        answer: first | (d.answer | e.answer),
-    }
+// The top level, under the roots' label.
+fn top(o: Outcome) -> Outcome {
+    let o = then(o.answer, o.tables.login(12, 0, 0, 0));
+    let o = then(o.answer, o.tables.take(12, 12));
+    let o = then(o.answer, o.tables.make(12, 13));
+    let o = then(o.answer, o.tables.list(12, 13, 0));
+    let o = then(o.answer, o.tables.list(12, 13, 1));
+    let o = then(o.answer, o.tables.openw(12, 48));
+    let o = then(o.answer, o.tables.create(12, 49, 1, 48, 7, 1, 3, 12));
+    let o = then(o.answer, o.tables.create(12, 51, 0, 48, 9, 0, 0, 12));
+    let o = then(o.answer, o.tables.grant(12, 12, 51, 3));
+    let o = then(o.answer, o.tables.grant(12, 13, 48, 5));
+    then(o.answer, o.tables.grant(12, 13, 49, 7))
 }
 
-fn labelled(t: Tables) -> Outcome {
-    let a = t.login(13, 1, 1, 3);
-    let b = a.tables.take(13, 13);
-    let c = b.tables.openw(13, 49);
-    let d = c.tables.create(13, 52, 1, 49, 7, 1, 3, 13);
-    let e = d.tables.create(13, 54, 1, 49, 8, 1, 3, 13);
-    let f = e.tables.create(13, 55, 0, 49, 9, 1, 3, 13);
-    let tables = f.tables;
-    let first = (a.answer | b.answer) | c.answer;
-    let then = (d.answer | e.answer) | f.answer;
-    Outcome {
-        tables,
-        answer: first | then,
-    }
+// The same level under labels.
+fn labelled(o: Outcome) -> Outcome {
+    let o = then(o.answer, o.tables.login(13, 1, 1, 3));
+    let o = then(o.answer, o.tables.take(13, 13));
+    let o = then(o.answer, o.tables.openw(13, 49));
+    let o = then(o.answer, o.tables.create(13, 52, 1, 49, 7, 1, 3, 13));
+    let o = then(o.answer, o.tables.create(13, 54, 1, 49, 8, 1, 3, 13));
+    let o = then(o.answer, o.tables.create(13, 55, 0, 49, 9, 1, 3, 13));
+    let o = then(o.answer, o.tables.grant(13, 13, 52, 7));
+    let o = then(o.answer, o.tables.openw(13, 52));
+    let o = then(o.answer, o.tables.create(13, 53, 0, 52, 7, 1, 3, 13));
+    let o = then(o.answer, o.tables.openr(13, 49));
+    then(o.answer, o.tables.login(14, 0, 1, 4))
 }
 
-fn deeper(t: Tables) -> Outcome {
-    let a = t.grant(13, 13, 52, 7);
-    let b = a.tables.openw(13, 52);
-    let c = b.tables.create(13, 53, 0, 52, 7, 1, 3, 13);
-    let d = c.tables.openr(13, 49);
-    let e = d.tables.login(14, 0, 1, 4);
-    let tables = e.tables;
-    let first = (a.answer | b.answer) | c.answer;
-    Outcome {
-        tables,
-        answer: first | (d.answer | e.answer),
-    }
-}
-
-fn level_1(t: Tables) -> Outcome {
-    let a = t.login(4, 2, 0, 0);
-    let b = a.tables.login(5, 0, 0, 0);
-    let c = b.tables.take(5, 4);
-    let d = c.tables.revoke(5, 4, 16, 15);
-    let tables = d.tables;
-    let first = (a.answer | b.answer) | c.answer;
-    Outcome {
-        tables,
-        answer: first | d.answer,
-    }
-}
-
-fn level_0(t: Tables) -> Outcome {
-    let a = t.login(0, 0, 0, 0);
-    let b = a.tables.take(0, 0);
-    let c = b.tables.openw(0, 0);
-    let d = c.tables.create(0, 1, 0, 0, 3, 0, 0, 0);
-    let tables = d.tables;
-    let first = (a.answer | b.answer) | c.answer;
-    Outcome {
-        tables,
-        answer: first | d.answer,
-    }
-}
-
-// A seat of level 0 that reads at level 3.
-fn reader(t: Tables) -> Outcome {
-    let a = t.login(1, 1, 2, 7);
-    let b = a.tables.take(1, 13);
-    let c = b.tables.openr(1, 52);
-    let tables = c.tables;
-    Outcome {
-        tables,
-        answer: (a.answer | b.answer) | c.answer,
-    }
+// Levels 1 and 0; seat 1, of level 0, reads at level 3.
+fn lower(o: Outcome) -> Outcome {
+    let o = then(o.answer, o.tables.login(4, 2, 0, 0));
+    let o = then(o.answer, o.tables.login(5, 0, 0, 0));
+    let o = then(o.answer, o.tables.take(5, 4));
+    let o = then(o.answer, o.tables.revoke(5, 4, 16, 15));
+    let o = then(o.answer, o.tables.login(0, 0, 0, 0));
+    let o = then(o.answer, o.tables.take(0, 0));
+    let o = then(o.answer, o.tables.openw(0, 0));
+    let o = then(o.answer, o.tables.create(0, 1, 0, 0, 3, 0, 0, 0));
+    let o = then(o.answer, o.tables.login(1, 1, 2, 7));
+    let o = then(o.answer, o.tables.take(1, 13));
+    then(o.answer, o.tables.openr(1, 52))
 }
 
 pub fn filled() -> Outcome {
     let o = Tables::fresh(users());
-    let a = top(o.tables);
-    let b = first_entities(a.tables);
-    let c = labelled(b.tables);
-    let d = deeper(c.tables);
-    let e = level_1(d.tables);
-    let f = level_0(e.tables);
-    let g = reader(f.tables);
-    let tables = g.tables;
-    let first = (o.answer | a.answer) | (b.answer | c.answer);
-    let then = (d.answer | e.answer) | (f.answer | g.answer);
-    Outcome {
-        tables,
-        answer: first | then,
-    }
+    let o = top(o);
+    let o = labelled(o);
+    lower(o)
 }

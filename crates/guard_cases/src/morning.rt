@@ -76,32 +76,42 @@ fn requests() -> [Request; 64] {
     q
 }
 
-fn beside(name: &[u8], method: u8, batch: u8) {
-    show::word(name);
+fn beside(names: &[u8], n: usize, method: u8, batch: u8) {
+    show::line(names, n);
     show::pair(b": ", method as u64);
     show::pair(b" ", batch as u64);
     show::word(b"\n");
 }
 
 fn side_by_side(m: [u8; 14], r: [u8; 64]) {
-    beside(b"K1 login 12, user 0", m[0], r[0]);
-    beside(b"K2 login 13, user 1", m[1], r[1]);
-    beside(b"K3 login 4, user 1", m[2], r[2]);
-    beside(b"K4 take 12, role 12", m[3], r[3]);
-    beside(b"K5 take 4, role 12", m[4], r[4]);
-    beside(b"K6 openw 12, 48", m[5], r[5]);
-    beside(b"K7 openr 4, 48", m[6], r[6]);
-    beside(b"K8 openw 4, 48", m[7], r[7]);
-    beside(
-        b"K9 create by 12 of object 49 in 48, name 7, role 12",
-        m[8],
-        r[8],
-    );
-    beside(b"K10 the same for 50", m[9], r[9]);
-    beside(b"K11 the same for 33", m[10], r[10]);
-    beside(b"K12 delete 12, 48", m[11], r[11]);
-    beside(b"K13 rename by 12 of 49 to 7", m[12], r[12]);
-    beside(b"K14 delete by 12 of 49", m[13], r[13]);
+    let names: &[u8] = b"K1 login 12, user 0\n\
+        K2 login 13, user 1\n\
+        K3 login 4, user 1\n\
+        K4 take 12, role 12\n\
+        K5 take 4, role 12\n\
+        K6 openw 12, 48\n\
+        K7 openr 4, 48\n\
+        K8 openw 4, 48\n\
+        K9 create by 12 of object 49 in 48, name 7, role 12\n\
+        K10 the same for 50\n\
+        K11 the same for 33\n\
+        K12 delete 12, 48\n\
+        K13 rename by 12 of 49 to 7\n\
+        K14 delete by 12 of 49";
+    beside(names, 0, m[0], r[0]);
+    beside(names, 1, m[1], r[1]);
+    beside(names, 2, m[2], r[2]);
+    beside(names, 3, m[3], r[3]);
+    beside(names, 4, m[4], r[4]);
+    beside(names, 5, m[5], r[5]);
+    beside(names, 6, m[6], r[6]);
+    beside(names, 7, m[7], r[7]);
+    beside(names, 8, m[8], r[8]);
+    beside(names, 9, m[9], r[9]);
+    beside(names, 10, m[10], r[10]);
+    beside(names, 11, m[11], r[11]);
+    beside(names, 12, m[12], r[12]);
+    beside(names, 13, m[13], r[13]);
 }
 
 fn numbers(list: [u8; 64]) {
@@ -113,9 +123,9 @@ fn numbers(list: [u8; 64]) {
 }
 
 // The answer to the batch, what it changed, and its sixty-four answers.
-fn batch(name: &[u8], t: Tables, count: usize) {
+fn batch(names: &[u8], n: usize, t: Tables, count: usize) {
     let r = t.run(requests(), count);
-    show::word(name);
+    show::line(names, n);
     show::pair(b" ", count as u64);
     show::pair(b": ", r.answer as u64);
     show::kept(same::compared(t, r.tables));
@@ -136,16 +146,17 @@ pub fn run() {
     show::word(b"tables after the methods and after the batch:");
     show::kept(same::compared(m.tables, r.tables));
     show::word(b"\n");
-    batch(b"run", t, 0);
-    batch(b"run", t, 13);
-    batch(b"run", t, 14);
-    batch(b"run", t, 64);
-    batch(b"run", t, 65);
-    batch(b"run", t, 18446744073709551615);
+    let names: &[u8] = b"run\nrun, unsound";
+    batch(names, 0, t, 0);
+    batch(names, 0, t, 13);
+    batch(names, 0, t, 14);
+    batch(names, 0, t, 64);
+    batch(names, 0, t, 65);
+    batch(names, 0, t, 18446744073709551615);
     let mut b = t;
     b.users[3].ceiling = 4;
-    batch(b"run, unsound", b, 0);
-    batch(b"run, unsound", b, 14);
-    batch(b"run, unsound", b, 64);
-    batch(b"run, unsound", b, 65);
+    batch(names, 1, b, 0);
+    batch(names, 1, b, 14);
+    batch(names, 1, b, 64);
+    batch(names, 1, b, 65);
 }

@@ -7,9 +7,53 @@ use guard::Role;
 use guard::Session;
 use guard::Tables;
 use guard::User;
+ghost use Prim.Native.Nat.{_≤_};
+ghost use lib.ListN.{length};
 
 pub fn word(text: &[u8]) {
     io::write_all(libc::STDOUT_FILENO, text);
+}
+
+// Where line `n` of a text begins.
+fn start(text: &[u8], n: usize) -> usize
+    ensures { λ r. ⌜ r ≤ length (now (text .entry)) ⌝ }
+{
+    let mut at = 0usize;
+    let mut left = n;
+    while at < text.len() {
+        if left == 0 {
+            return at;
+        }
+        if text[at] == b'\n' {
+            left -= 1;
+        }
+        at += 1;
+    }
+    at
+}
+
+// Where the line that begins at `from` ends.
+fn end(text: &[u8], from: usize) -> usize
+    requires { ⌜ from ≤ length (now text) ⌝ }
+    ensures { λ r. ⌜ from ≤ r ⌝ }
+    ensures { λ r. ⌜ r ≤ length (now (text .entry)) ⌝ }
+{
+    let mut at = from;
+    while at < text.len() {
+        if text[at] == b'\n' {
+            return at;
+        }
+        at += 1;
+    }
+    at
+}
+
+// Line `n` of a text, counted from 0. A group of cases has its names in one text: a check takes longer over literals than
+// over anything else here.
+pub fn line(text: &[u8], n: usize) {
+    let from = start(text, n);
+    let to = end(text, from);
+    word(&text[from..to]);
 }
 
 pub fn number(n: u64) {
@@ -22,9 +66,9 @@ pub fn pair(text: &[u8], n: u64) {
     number(n);
 }
 
-// A request's answer; hands on its tables.
-pub fn told(name: &[u8], o: Outcome) -> Tables {
-    word(name);
+// A request's answer, behind line `n` of the names; hands on its tables.
+pub fn told(names: &[u8], n: usize, o: Outcome) -> Tables {
+    line(names, n);
     pair(b": ", o.answer as u64);
     word(b"\n");
     o.tables
