@@ -1,5 +1,5 @@
--- Document 01 as definitions, in the paper's order. Each definition's comment is the paper's sentence. Laws and proofs
--- stand in child modules.
+-- Document 01 as definitions, in the paper's order. Each definition's comment is the paper's sentence. Laws stand
+-- in proofs/Laws.
 pub mod Level
 pub mod Label
 pub mod Tables

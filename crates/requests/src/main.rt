@@ -1,6 +1,6 @@
 // The request program: a written list of requests on standard input, each answer on standard output. What is printed is
-// decided in the crate script; here bytes are only carried, in large blocks, until the input ends, a read fails or nobody
-// reads the output.
+// decided in the crate script; here bytes are only carried, in large blocks, until the run is over, the input ends, a read
+// fails or nobody reads the output.
 use libc::STDIN_FILENO;
 use libc::STDOUT_FILENO;
 use script::buffer;
@@ -61,7 +61,7 @@ fn turn(r: Runner, input: &mut [u8], have: usize, end: bool, output: &mut [u8]) 
     After {
         runner: next,
         have: left,
-        on: heard & !(end & idle),
+        on: heard & !(next.is_over() | (end & idle)),
     }
 }
 

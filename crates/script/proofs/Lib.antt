@@ -16,4 +16,7 @@ pub mod Pieces
 pub mod Runs
 pub mod Steps
 pub mod Moves
+pub mod Batches
+pub mod Gathering
+pub mod Outputs
 pub mod Theorem

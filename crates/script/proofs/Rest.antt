@@ -3,6 +3,7 @@
 --     front                        what a store at the front leaves
 --     rest-heading, rest-names, rest-lines, rest-over     what is left to tell, by phase
 --     line-on, line-none           a line of values, and none
+--     over-silent                  a run that is over
 --     names-on, names-end          the names line with more behind it, and at the end of the input
 --     names-too-long, too-long     a line past 255 bytes
 -- Assumes nothing.
@@ -10,11 +11,12 @@ use Prim.Native.Nat.{ℕ, suc, _+_, _-_, _≤_, _<_}
 use mathlib.Core.Path.{_≡_, refl, ap, _∙_}
 use mathlib.Core.Bool.{Bool, true, false, cond}
 use mathlib.Core.List.{List, [], _∷_, _++_, append-assoc}
+use lib.Dec.{eqb, leb, ltb}
 use lib.ListN.{length, take, drop}
 use lib.Seq.{sets-eq, take-at, drop-at, take-nil}
 use native.Mathlib.Nat.{zero-add}
 use native.Mathlib.Omega.{arith}
-use borrow.Author.Tests.{ne-eqb, lt-leb}
+use borrow.Author.Tests.{ne-eqb, lt-leb, eqb-true, leb-true, ltb-true}
 use Rattle.bitset.specs.Tests.{every}
 use Rattle.bitset.specs.Tests.Laws.{is-false}
 use Rattle.script.specs.Text.{lines, values}
@@ -22,7 +24,7 @@ use Rattle.script.specs.Names.{isNames}
 use Rattle.script.specs.Line.{readLine}
 use Rattle.script.specs.Report.{Bench, answerLine, heading, lineText, answered, lastLine, opening, below}
 use Rattle.script.specs.Slices.{before, after, written, Put}
-use Rattle.script.specs.Run.{atHeading, atNames, atLines, atEnd, benchOf, Told, put, silent, finally, closing, fromLine, fromNames, rest, Goes}
+use Rattle.script.specs.Run.{atHeading, atNames, atLines, atEnd, benchOf, Told, put, silent, finally, closing, fromLine, fromNames, rest, isOver, Goes}
 use Rattle.script.specs.declared.line.Line.the-variants.{Bad}
 use Rattle.script.specs.declared.runner.Runner.{Runner}
 use Rattle.script.proofs.Lines.{lines-first, before-whole, after-none}
@@ -99,6 +101,20 @@ line-none header b n (c ∷ s) h =
     let g : n < lastLine → ⊥ = λ d. h d (omega arith) in
     let z : lastLine - n ≡ 0 = omega arith in
     rw z
+
+lines-over : (r : Runner) → r .phase ≡ atLines → lastLine ≤ r .done → (header : List (List ℕ)) (s : List ℕ) → rest header r s ≡ silent (benchOf r)
+lines-over r p h header s = rest-lines header r s p ∙ line-none header (benchOf r) (r .done) (cond (r .skip) (after 10 s) s) (λ d l. past d)
+  where
+    past : r .done < lastLine → ⊥
+    past d = omega arith
+
+pub over-silent : (r : Runner) → isOver r ≡ true → (header : List (List ℕ)) (s : List ℕ) → rest header r s ≡ silent (benchOf r)
+unfolding isOver
+over-silent r h header s = go (eqb (r .phase) atLines) refl h
+  where
+    go : (b : Bool) → eqb (r .phase) atLines ≡ b → cond b (leb lastLine (r .done)) (ltb atLines (r .phase)) ≡ true → rest header r s ≡ silent (benchOf r)
+    go true e h = lines-over r (eqb-true _ _ e) (leb-true _ _ h) header s
+    go false e h = rest-over header r s (ltb-true _ _ h)
 
 abbrev pub refused : Told
 refused = record { text = lineText 1 17; bench = opening }

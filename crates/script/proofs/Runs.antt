@@ -3,6 +3,7 @@
 --     worked                    a call that stores at the front of the output
 --     stepped                   .. and has used some input
 --     Held                      the loop over a piece: so far `at` bytes are used and w bytes written
+--     tail-back                 a part at the end, put back
 --     held-none, held-more      its beginning, and one call more
 --     held-done                 its end
 --     loop-more, loop-done      both, as the loop cuts off what is left of the piece
@@ -64,7 +65,7 @@ pub held-none : (piece : List ℕ) (end : Bool) (old : List ℕ) (r : Runner) �
 held-none piece end old r =
     record { within = omega arith; room = omega arith; same = refl; frame = refl; goes = goes-nowhere end r piece }
 
-tail-back : (w : ℕ) (out ys : List ℕ) → putMid w (length out - w) out ys ≡ take w out ++ ys
+pub tail-back : (w : ℕ) (out ys : List ℕ) → putMid w (length out - w) out ys ≡ take w out ++ ys
 tail-back w out ys =
     ap (λ (l : List ℕ). take w out ++ (ys ++ l)) (drop-of-length-le (drop w out) {i = length out - w} (rw length-drop (omega arith)))
     ∙ (rw append-nil)

@@ -7,3 +7,5 @@ pub mod Slices
 pub mod Keys
 pub mod Rows
 pub mod Run
+pub mod Entry
+pub mod Batches

@@ -5,7 +5,7 @@ use Prim.Native.Nat.{ℕ, _+_, _-_, _≤_, _<_}
 use mathlib.Core.Path.{_≡_}
 use mathlib.Core.Bool.{Bool, true, false, cond}
 use mathlib.Core.List.{List, [], _∷_, _++_}
-use lib.Dec.{eqb}
+use lib.Dec.{eqb, leb, ltb}
 use lib.ListN.{length, take, drop, replicate}
 use Rattle.script.specs.Text.{lines, values}
 use Rattle.script.specs.Names.{isNames}
@@ -82,6 +82,11 @@ rest header r s =
 pub record Fits (header : List (List ℕ)) (r : Runner) : Type 0 where
   pub opens : r .phase < atLines → benchOf r ≡ opening
   pub knows : r .phase ≡ atLines → Ordered header (r .at)
+
+-- the run is over, after a bad first line or with the last line that is read: nothing is left to tell, whatever input
+-- follows (`over-silent`, proofs/Rest)
+unfoldable pub isOver : Runner → Bool
+isOver r = cond (eqb (r .phase) atLines) (leb lastLine (r .done)) (ltb atLines (r .phase))
 
 -- ---- one line of values, by what it asks
 unfoldable pub afterLine : Runner → Line → Runner

@@ -1,6 +1,7 @@
 // The request program over input in pieces. A host hands over a piece of the input and room for output; the runner uses
 // whole lines only, and the host gives what was not used again, in front of the next piece. No line is kept here: one that
 // has passed 255 bytes without byte 10 is answered 17 at once, and passed over to its end.
+use crate::batch;
 use crate::header;
 use crate::line;
 use crate::reply;
@@ -13,7 +14,7 @@ ghost use mathlib.Core.Path.{_≡_};
 ghost use mathlib.Core.Bool.{true, false};
 ghost use lib.ListN.{length};
 ghost use Rattle.script.specs.Report.{lastLine};
-ghost use Rattle.script.specs.Run.{atNames, atLines, unbegun, Spoken, Named, Stepped, Finished};
+ghost use Rattle.script.specs.Run.{atNames, atLines, unbegun, isOver, Spoken, Named, Stepped, Finished};
 
 // Where a run stands: the bench (its tables, and whether a readable line with a word other than `user` has come), the
 // order of the names, the phase (0 the heading is to come, 1 the names are to come, 2 lines of values, else over), how many
@@ -100,6 +101,16 @@ impl Runner {
             done: 0,
             skip: false,
         }
+    }
+
+    // Whether the run is over: after a bad first line, or with line 65,535. A host need not read on then.
+    pub fn is_over(self) -> bool
+        ensures { λ b. ⌜ b ≡ isOver self ⌝ }
+    {
+        if self.phase == 2 {
+            return 65535 <= self.done;
+        }
+        2 < self.phase
     }
 }
 
@@ -202,7 +213,35 @@ fn values_step(mut r: Runner, piece: &[u8], end: bool, out: &mut [u8]) -> Ran
     idle(r)
 }
 
-// One line of a piece.
+// Whole lines of values, as many as a batch takes; where there is none, the one line that is left.
+fn batch_step(mut r: Runner, piece: &[u8], end: bool, out: &mut [u8]) -> Ran
+    requires { ⌜ (r .phase ≡ atLines) × (r .shut ≡ true) × (r .skip ≡ false) ⌝ }
+    ensures { λ x. ⌜ Stepped r (now (piece .entry)) end (now (out .entry)) (now (out .exit)) x ⌝ }
+{
+    let at = r.at;
+    let most = batch::most(r.done, out.len());
+    let g = batch::gather(piece, at, most);
+    let lines = g.lines;
+    if lines == 0 {
+        return values_step(r, piece, end, out);
+    }
+    let requests = g.requests;
+    let t = r.tables;
+    let o = t.run(requests, g.count);
+    let marks = g.marks;
+    let answers = o.answers;
+    let wrote = batch::put_answers(marks, answers, lines, r.done + 1, out);
+    let next = o.tables;
+    r.tables = next;
+    r.done = r.done + lines as u32;
+    Ran {
+        runner: r,
+        used: g.used,
+        wrote,
+    }
+}
+
+// A line of a piece, or a batch of lines.
 fn one(r: Runner, piece: &[u8], end: bool, out: &mut [u8]) -> Ran
     requires { ⌜ atNames ≤ r .phase ⌝ }
     ensures { λ x. ⌜ Stepped r (now (piece .entry)) end (now (out .entry)) (now (out .exit)) x ⌝ }
@@ -211,6 +250,11 @@ fn one(r: Runner, piece: &[u8], end: bool, out: &mut [u8]) -> Ran
         return names_step(r, piece, end, out);
     }
     if r.phase == 2 {
+        if r.shut {
+            if !r.skip {
+                return batch_step(r, piece, end, out);
+            }
+        }
         return values_step(r, piece, end, out);
     }
     idle(r)

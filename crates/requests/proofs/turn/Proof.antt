@@ -39,6 +39,9 @@ write-all-requires c κs = search needs
 keep-requires : tie.Need-keep-requires
 keep-requires c κs = search needs
 
+is-over-requires : tie.Need-is-over-requires
+is-over-requires c κs = search needs
+
 same-length-3 : tie.Need-same-length-3
 same-length-3 c = search needs
 
@@ -63,6 +66,7 @@ turn-spec =
     slice-aggregate-write-all
     write-all-requires
     keep-requires
+    is-over-requires
     same-length-3
     same-length-4
     returns-3)

@@ -1,7 +1,8 @@
--- `one`: the step of the runner's phase. Assumes nothing.
+-- `one`: the step of the runner's phase, a batch where `user` is shut out. Assumes nothing.
 use native.Mathlib.Omega.{arith}
 use Rattle.script.proofs.Steps.{over-stops, idle-step}
 use borrow.Author.Needs.{needs}
+use borrow.Author.Tests.{not-true}
 use Rattle.script.proofs.runner.one.Statement.{statement}
 use Rattle.script.proofs.runner.one.Tie as tie
 
@@ -14,8 +15,8 @@ same-length c = search needs
 returns : tie.Need-returns
 returns c = search needs
 
-values-step-requires : tie.Need-values-step-requires
-values-step-requires c κs = search needs
+batch-step-requires : tie.Need-batch-step-requires
+batch-step-requires c κs = (c .before .before .before .before .if2 .taken, c .before .before .before .if3 .taken, not-true _ (c .before .if4 .taken))
 
 same-length-2 : tie.Need-same-length-2
 same-length-2 c = search needs
@@ -23,11 +24,20 @@ same-length-2 c = search needs
 returns-2 : tie.Need-returns-2
 returns-2 c = search needs
 
+values-step-requires : tie.Need-values-step-requires
+values-step-requires c κs = search needs
+
+same-length-3 : tie.Need-same-length-3
+same-length-3 c = search needs
+
+returns-3 : tie.Need-returns-3
+returns-3 c = search needs
+
 idle-requires : tie.Need-idle-requires
 idle-requires c κs = search needs
 
-returns-3 : tie.Need-returns-3
-returns-3 c = idle-step (c .idle .ensures) (omega arith) (over-stops _ _ _ _ (omega arith))
+returns-4 : tie.Need-returns-4
+returns-4 c = idle-step (c .idle .ensures) (omega arith) (over-stops _ _ _ _ (omega arith))
 
 pub one-spec : {M : Type 1} → statement M
 one-spec =
@@ -36,8 +46,11 @@ one-spec =
     names-step-requires
     same-length
     returns
-    values-step-requires
+    batch-step-requires
     same-length-2
     returns-2
+    values-step-requires
+    same-length-3
+    returns-3
     idle-requires
-    returns-3)
+    returns-4)

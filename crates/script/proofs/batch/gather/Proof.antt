@@ -1,0 +1,93 @@
+-- `gather`: the loop over lines keeps Taken (Gathering). Assumes nothing.
+use Prim.Native.Nat.{_-_, _≤_}
+use mathlib.Core.Path.{_≡_, refl}
+use lib.ListN.{length}
+use native.Mathlib.Omega.{arith}
+use borrow.Author.Needs.{needs}
+use Rattle.script.proofs.Gathering.{Taken, taken-none, taken-next, taken-all, in-turn, one-fits}
+use Rattle.script.proofs.batch.gather.Statement.{statement}
+use Rattle.script.proofs.batch.gather.Tie as tie
+
+abbrev Inv-loop : tie.InvT-loop
+Inv-loop s at most requests₀ marks₀ count₀ lines₀ used₀ requests marks count lines used = (length requests ≡ 64) × (length marks ≡ 256) × (lines ≤ most) × (count ≤ 64) × Taken at s requests marks count lines used
+
+abbrev μ-loop : tie.MeasureT-loop
+μ-loop s at most requests₀ marks₀ count₀ lines₀ used₀ requests marks count lines used = most - lines
+
+loop-holds : tie.Need-loop-holds Inv-loop μ-loop
+loop-holds c = (search needs, search needs, search needs, search needs, taken-none _ _ _ _)
+
+sub-rest : tie.Need-sub-rest Inv-loop μ-loop
+sub-rest c = search needs
+
+part-rest-start : tie.Need-part-rest-start Inv-loop μ-loop
+part-rest-start c = search needs
+
+part-rest-end : tie.Need-part-rest-end Inv-loop μ-loop
+part-rest-end c = search needs
+
+next-requires : tie.Need-next-requires Inv-loop μ-loop
+next-requires c κs = search needs
+
+returns : tie.Need-returns Inv-loop μ-loop
+returns c = taken-all _ (c .before .before .before .before .before .loop .inv .4) (c .before .before .before .before .before .loop .inv .0) (c .before .before .before .before .before .loop .inv .2) (c .before .before .before .before .before .loop .inv .3)
+
+mul-requests : tie.Need-mul-requests Inv-loop μ-loop
+mul-requests c = search needs
+
+array-set-from-requests : tie.Need-array-set-from-requests Inv-loop μ-loop
+array-set-from-requests c = let turn = in-turn (c .before .before .before .before .before .before .before .loop .lines) (c .before .before .before .before .before .before .before .before .before .args .most) (c .before .before .before .before .before .before .before .loop .count) (c .before .before .before .before .before .before .loop-test .taken) in let low = turn .0 in let free = turn .1 in search needs
+
+array-write-marks : tie.Need-array-write-marks Inv-loop μ-loop
+array-write-marks c = let turn = in-turn (c .before .before .before .before .before .before .before .loop .lines) (c .before .before .before .before .before .before .before .before .before .args .most) (c .before .before .before .before .before .before .before .loop .count) (c .before .before .before .before .before .before .loop-test .taken) in let low = turn .0 in let free = turn .1 in search needs
+
+one-if-requires : tie.Need-one-if-requires Inv-loop μ-loop
+one-if-requires c κs = search needs
+
+add-count : tie.Need-add-count Inv-loop μ-loop
+add-count c = let turn = in-turn (c .before .before .before .before .before .before .before .before .loop .lines) (c .before .before .before .before .before .before .before .before .before .before .args .most) (c .before .before .before .before .before .before .before .before .loop .count) (c .before .before .before .before .before .before .before .loop-test .taken) in let low = turn .0 in let free = turn .1 in let fits = one-fits _ (c .one-if .ensures) (turn .1) in search needs
+
+add-lines : tie.Need-add-lines Inv-loop μ-loop
+add-lines c = search needs
+
+add-used : tie.Need-add-used Inv-loop μ-loop
+add-used c = search needs
+
+add-used-2 : tie.Need-add-used-2 Inv-loop μ-loop
+add-used-2 c = search needs
+
+loop-less : tie.Need-loop-less Inv-loop μ-loop
+loop-less c = let turn = in-turn (c .before .before .before .before .before .before .before .before .before .loop .lines) (c .before .before .before .before .before .before .before .before .before .before .before .args .most) (c .before .before .before .before .before .before .before .before .before .loop .count) (c .before .before .before .before .before .before .before .before .loop-test .taken) in let low = turn .0 in let free = turn .1 in omega (arith, turn .0)
+
+loop-again : tie.Need-loop-again Inv-loop μ-loop
+loop-again c =
+    let turn = in-turn (c .before .before .before .before .before .before .before .before .before .loop .lines) (c .before .before .before .before .before .before .before .before .before .before .before .args .most) (c .before .before .before .before .before .before .before .before .before .loop .count) (c .before .before .before .before .before .before .before .before .loop-test .taken) in let low = turn .0 in let free = turn .1 in
+    let more = c .before .one-if .ensures in
+    (search needs, search needs, omega (arith, turn .0), one-fits _ more (turn .1), taken-next (c .before .before .before .before .before .before .before .before .before .loop .inv .4) (omega (arith, turn .1)) (omega (arith, turn .0)) (c .before .before .before .before .before .before .next .ensures .0) (c .before .before .before .before .before .before .next .ensures .1) (c .before .before .before .before .if1 .left) refl more)
+
+returns-2 : tie.Need-returns-2 Inv-loop μ-loop
+returns-2 c = taken-all _ (c .before .loop .inv .4) (c .before .loop .inv .0) (c .before .loop .inv .2) (c .before .loop .inv .3)
+
+pub gather-spec : {M : Type 1} → statement M
+gather-spec =
+    tie.close
+    (tie.spec
+    Inv-loop
+    μ-loop
+    loop-holds
+    sub-rest
+    part-rest-start
+    part-rest-end
+    next-requires
+    returns
+    mul-requests
+    array-set-from-requests
+    array-write-marks
+    one-if-requires
+    add-count
+    add-lines
+    add-used
+    add-used-2
+    loop-less
+    loop-again
+    returns-2)
