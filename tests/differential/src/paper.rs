@@ -1,0 +1,1017 @@
+//! Document 01 written down as it reads: the tables, the refusals that apply to each request, and what a done request
+//! changes. Nothing here is made for speed or shared between requests beyond what the paper shares.
+//!
+//! A refusal whose condition has parts joined by "or" is written as several sides of the same number. A side is a
+//! plain question about the tables and the request. Each one can be asked whatever the others say: the record of
+//! something that is not live reads as zeros. Only a number past its range leaves the questions that look at it
+//! without meaning, so `looks` says what each side looks at.
+
+use Call::*;
+use Field::*;
+
+#[derive(Clone, Copy, Debug, PartialEq, Eq)]
+pub enum Field {
+    Seat,
+    User,
+    Role,
+    Entity,
+    Parent,
+    Kind,
+    Name,
+    Level,
+    Cats,
+    Rights,
+    Ceiling,
+}
+
+/// The fields in the order of the paper's sample.
+pub const FIELDS: [Field; 11] = [
+    Seat, User, Role, Entity, Parent, Kind, Name, Level, Cats, Rights, Ceiling,
+];
+
+impl Field {
+    pub fn word(self) -> &'static str {
+        match self {
+            Seat => "seat",
+            User => "user",
+            Role => "role",
+            Entity => "entity",
+            Parent => "parent",
+            Kind => "kind",
+            Name => "name",
+            Level => "level",
+            Cats => "cats",
+            Rights => "rights",
+            Ceiling => "ceiling",
+        }
+    }
+
+    /// The largest number in range.
+    pub fn last(self) -> usize {
+        match self {
+            Seat | User | Role => 15,
+            Entity | Parent => 63,
+            Kind => 1,
+            Name => 65_535,
+            Level | Ceiling => 3,
+            Cats => 255,
+            Rights => 15,
+        }
+    }
+}
+
+#[derive(Clone, Copy, Debug, PartialEq, Eq)]
+pub enum Call {
+    Login,
+    Logout,
+    Take,
+    Drop,
+    Openr,
+    Openw,
+    Close,
+    Create,
+    Delete,
+    Rename,
+    Grant,
+    Revoke,
+    List,
+    Unlist,
+    Make,
+    Unmake,
+}
+
+pub const CALLS: [Call; 16] = [
+    Login, Logout, Take, Drop, Openr, Openw, Close, Create, Delete, Rename, Grant, Revoke, List,
+    Unlist, Make, Unmake,
+];
+
+impl Call {
+    pub fn word(self) -> &'static str {
+        match self {
+            Login => "login",
+            Logout => "logout",
+            Take => "take",
+            Drop => "drop",
+            Openr => "openr",
+            Openw => "openw",
+            Close => "close",
+            Create => "create",
+            Delete => "delete",
+            Rename => "rename",
+            Grant => "grant",
+            Revoke => "revoke",
+            List => "list",
+            Unlist => "unlist",
+            Make => "make",
+            Unmake => "unmake",
+        }
+    }
+
+    /// The fields that the request uses, in the order in which the paper names them.
+    pub fn uses(self) -> &'static [Field] {
+        match self {
+            Login => &[Seat, User, Level, Cats],
+            Logout => &[Seat],
+            Take | Drop => &[Seat, Role],
+            Openr | Openw | Close => &[Seat, Entity],
+            Create => &[Seat, Entity, Kind, Parent, Name, Level, Cats, Role],
+            Delete => &[Seat, Entity],
+            Rename => &[Seat, Entity, Name],
+            Grant | Revoke => &[Seat, Role, Entity, Rights],
+            List | Unlist => &[Seat, Role, User],
+            Make | Unmake => &[Seat, Role],
+        }
+    }
+}
+
+/// The fields that a line with the word `user` uses.
+pub const USER_USES: [Field; 4] = [User, Level, Cats, Ceiling];
+
+#[derive(Clone, Copy, Debug, PartialEq, Eq)]
+pub struct Request {
+    pub call: Call,
+    pub values: [usize; 11],
+}
+
+impl Request {
+    pub fn new(call: Call) -> Request {
+        Request {
+            call,
+            values: [0; 11],
+        }
+    }
+
+    pub fn at(&self, field: Field) -> usize {
+        self.values[field as usize]
+    }
+
+    pub fn set(&mut self, field: Field, value: usize) {
+        self.values[field as usize] = value;
+    }
+}
+
+// ---- The tables
+
+#[derive(Clone, Copy, Debug, Default, PartialEq, Eq)]
+pub struct Label {
+    pub grade: usize,
+    pub cats: usize,
+}
+
+#[derive(Clone, Copy, Debug, Default, PartialEq, Eq)]
+pub struct UserRecord {
+    pub ceiling: usize,
+    pub clearance: Label,
+}
+
+#[derive(Clone, Copy, Debug, PartialEq, Eq)]
+pub struct SeatRecord {
+    pub live: bool,
+    pub user: usize,
+    pub label: Label,
+    pub roles: [bool; 16],
+    pub reading: [bool; 64],
+    pub writing: [bool; 64],
+}
+
+#[derive(Clone, Copy, Debug, PartialEq, Eq)]
+pub struct RoleRecord {
+    pub live: bool,
+    pub users: [bool; 16],
+    pub rights: [usize; 64],
+}
+
+#[derive(Clone, Copy, Debug, PartialEq, Eq)]
+pub struct EntityRecord {
+    pub live: bool,
+    pub kind: usize,
+    pub parent: usize,
+    pub name: usize,
+    pub label: Label,
+}
+
+#[derive(Clone, Debug, PartialEq, Eq)]
+pub struct Tables {
+    pub users: [UserRecord; 16],
+    pub seats: [SeatRecord; 16],
+    pub roles: [RoleRecord; 16],
+    pub entities: [EntityRecord; 64],
+}
+
+/// "Every field zero or empty".
+pub const EMPTY_SEAT: SeatRecord = SeatRecord {
+    live: false,
+    user: 0,
+    label: Label { grade: 0, cats: 0 },
+    roles: [false; 16],
+    reading: [false; 64],
+    writing: [false; 64],
+};
+pub const EMPTY_ROLE: RoleRecord = RoleRecord {
+    live: false,
+    users: [false; 16],
+    rights: [0; 64],
+};
+pub const EMPTY_ENTITY: EntityRecord = EntityRecord {
+    live: false,
+    kind: 0,
+    parent: 0,
+    name: 0,
+    label: Label { grade: 0, cats: 0 },
+};
+
+pub const OBJECT: usize = 0;
+pub const CONTAINER: usize = 1;
+
+pub const READ: usize = 1;
+pub const WRITE: usize = 2;
+pub const EXECUTE: usize = 4;
+pub const OWN: usize = 8;
+
+pub fn seat_level(seat: usize) -> usize {
+    seat / 4
+}
+
+pub fn role_level(role: usize) -> usize {
+    role / 4
+}
+
+pub fn entity_level(entity: usize) -> usize {
+    entity / 16
+}
+
+pub fn is_root(entity: usize) -> bool {
+    [0, 16, 32, 48].contains(&entity)
+}
+
+pub fn is_keeper(role: usize) -> bool {
+    [0, 4, 8, 12].contains(&role)
+}
+
+pub fn keeper_of(role: usize) -> usize {
+    [0, 4, 8, 12][role_level(role)]
+}
+
+/// Whether a sum of powers of two has this one in it.
+pub fn has(sum: usize, power: usize) -> bool {
+    sum / power % 2 == 1
+}
+
+/// Category by category: what the second set has, the first has.
+pub fn contains(set: usize, other: usize) -> bool {
+    [1, 2, 4, 8, 16, 32, 64, 128]
+        .iter()
+        .all(|&category| has(set, category) || !has(other, category))
+}
+
+pub fn dominates(a: Label, b: Label) -> bool {
+    a.grade >= b.grade && contains(a.cats, b.cats)
+}
+
+/// A root is its own parent and nobody's child.
+pub fn is_child(tables: &Tables, entity: usize, parent: usize) -> bool {
+    let record = &tables.entities[entity];
+    record.live && !is_root(entity) && record.parent == parent
+}
+
+/// "A role held by x, of at least e's level, has it."
+pub fn has_right(tables: &Tables, seat: usize, entity: usize, right: usize) -> bool {
+    (0..16).any(|role| {
+        tables.seats[seat].roles[role]
+            && role_level(role) >= entity_level(entity)
+            && has(tables.roles[role].rights[entity], right)
+    })
+}
+
+/// "Execute on every container above e, up to and with the root; for a root there is none above."
+pub fn reaches(tables: &Tables, seat: usize, entity: usize) -> bool {
+    let mut at = entity;
+    while !is_root(at) {
+        at = tables.entities[at].parent;
+        if !has_right(tables, seat, at, EXECUTE) {
+            return false;
+        }
+    }
+    true
+}
+
+pub fn fresh(users: &[UserRecord; 16]) -> Tables {
+    let mut tables = Tables {
+        users: *users,
+        seats: [EMPTY_SEAT; 16],
+        roles: [EMPTY_ROLE; 16],
+        entities: [EMPTY_ENTITY; 64],
+    };
+    for root in [0, 16, 32, 48] {
+        tables.entities[root] = EntityRecord {
+            live: true,
+            kind: CONTAINER,
+            parent: root,
+            ..EMPTY_ENTITY
+        };
+    }
+    for keeper in [0, 4, 8, 12] {
+        tables.roles[keeper].live = true;
+        tables.roles[keeper].users[0] = true;
+        tables.roles[keeper].rights[role_level(keeper) * 16] = READ + WRITE + EXECUTE + OWN;
+    }
+    tables
+}
+
+// ---- Sound tables
+
+/// The six points on sound tables, in the paper's order. Tables reached from fresh ones are sound; a run checks it.
+pub fn sound(tables: &Tables) -> bool {
+    in_range(tables)
+        && live_entities_placed(tables)
+        && dead_is_empty(tables)
+        && rights_not_upward(tables)
+        && reading_allowed(tables)
+        && writing_allowed(tables)
+}
+
+fn in_range(tables: &Tables) -> bool {
+    let label_in_range = |label: Label| label.grade <= 3 && label.cats <= 255;
+    tables
+        .users
+        .iter()
+        .all(|user| user.ceiling <= 3 && label_in_range(user.clearance))
+        && tables
+            .seats
+            .iter()
+            .all(|seat| seat.user <= 15 && label_in_range(seat.label))
+        && tables
+            .roles
+            .iter()
+            .all(|role| role.rights.iter().all(|&rights| rights <= 15))
+        && tables.entities.iter().all(|entity| {
+            entity.kind <= 1
+                && entity.parent <= 63
+                && entity.name <= 65_535
+                && label_in_range(entity.label)
+        })
+        && [0, 16, 32, 48].iter().all(|&root| {
+            tables.entities[root]
+                == EntityRecord {
+                    live: true,
+                    kind: CONTAINER,
+                    parent: root,
+                    ..EMPTY_ENTITY
+                }
+        })
+        && [0, 4, 8, 12]
+            .iter()
+            .all(|&keeper| tables.roles[keeper].live)
+}
+
+fn live_entities_placed(tables: &Tables) -> bool {
+    (0..64).all(|entity| {
+        let record = &tables.entities[entity];
+        if !record.live || is_root(entity) {
+            return true;
+        }
+        let parent = &tables.entities[record.parent];
+        let alone_with_name = (0..64).all(|other| {
+            other == entity
+                || !is_child(tables, other, record.parent)
+                || tables.entities[other].name != record.name
+        });
+        let mut above = entity;
+        for _ in 0..64 {
+            above = tables.entities[above].parent;
+        }
+        record.name >= 1
+            && parent.live
+            && parent.kind == CONTAINER
+            && entity_level(record.parent) == entity_level(entity)
+            && dominates(record.label, parent.label)
+            && alone_with_name
+            && above == entity_level(entity) * 16
+    })
+}
+
+fn dead_is_empty(tables: &Tables) -> bool {
+    let seats_empty = tables
+        .seats
+        .iter()
+        .all(|seat| seat.live || *seat == EMPTY_SEAT);
+    let roles_empty = tables
+        .roles
+        .iter()
+        .all(|role| role.live || *role == EMPTY_ROLE);
+    let entities_empty = tables
+        .entities
+        .iter()
+        .all(|entity| entity.live || *entity == EMPTY_ENTITY);
+    let nothing_on_dead = (0..64).all(|entity| {
+        tables.entities[entity].live
+            || (tables.roles.iter().all(|role| role.rights[entity] == 0)
+                && tables
+                    .seats
+                    .iter()
+                    .all(|seat| !seat.reading[entity] && !seat.writing[entity]))
+    });
+    let dead_unheld = (0..16)
+        .all(|role| tables.roles[role].live || tables.seats.iter().all(|seat| !seat.roles[role]));
+    seats_empty && roles_empty && entities_empty && nothing_on_dead && dead_unheld
+}
+
+fn rights_not_upward(tables: &Tables) -> bool {
+    (0..16).all(|role| {
+        (0..64).all(|entity| {
+            tables.roles[role].rights[entity] == 0 || entity_level(entity) <= role_level(role)
+        })
+    })
+}
+
+fn reading_allowed(tables: &Tables) -> bool {
+    (0..16).all(|seat| {
+        let record = &tables.seats[seat];
+        (0..64).all(|entity| {
+            !record.reading[entity]
+                || (entity_level(entity) >= seat_level(seat)
+                    && dominates(record.label, tables.entities[entity].label))
+        })
+    })
+}
+
+fn writing_allowed(tables: &Tables) -> bool {
+    (0..16).all(|seat| {
+        let record = &tables.seats[seat];
+        (0..64).all(|entity| {
+            !record.writing[entity]
+                || (entity_level(entity) <= seat_level(seat)
+                    && record.label == tables.entities[entity].label)
+        })
+    })
+}
+
+// ---- The refusals that apply to each request
+
+pub struct Side {
+    pub number: usize,
+    pub text: &'static str,
+    pub looks: &'static [Field],
+    pub holds: fn(&Tables, &Request) -> bool,
+}
+
+const fn side(
+    number: usize,
+    text: &'static str,
+    looks: &'static [Field],
+    holds: fn(&Tables, &Request) -> bool,
+) -> Side {
+    Side {
+        number,
+        text,
+        looks,
+        holds,
+    }
+}
+
+const SEAT_RANGE: Side = side(2, "the seat is past 15", &[Seat], |_, q| q.at(Seat) > 15);
+const USER_RANGE: Side = side(2, "the user is past 15", &[User], |_, q| q.at(User) > 15);
+const ROLE_RANGE: Side = side(2, "the role is past 15", &[Role], |_, q| q.at(Role) > 15);
+const ENTITY_RANGE: Side = side(2, "the entity is past 63", &[Entity], |_, q| {
+    q.at(Entity) > 63
+});
+const PARENT_RANGE: Side = side(2, "the parent is past 63", &[Parent], |_, q| {
+    q.at(Parent) > 63
+});
+const KIND_RANGE: Side = side(2, "the kind is past 1", &[Kind], |_, q| q.at(Kind) > 1);
+const NAME_RANGE: Side = side(2, "the name is past 65,535", &[Name], |_, q| {
+    q.at(Name) > 65_535
+});
+const NAME_ZERO: Side = side(2, "the name is 0", &[Name], |_, q| q.at(Name) == 0);
+const GRADE_RANGE: Side = side(2, "the grade is past 3", &[Level], |_, q| q.at(Level) > 3);
+const CATS_RANGE: Side = side(2, "the categories are past 255", &[Cats], |_, q| {
+    q.at(Cats) > 255
+});
+const RIGHTS_RANGE: Side = side(2, "the rights are past 15", &[Rights], |_, q| {
+    q.at(Rights) > 15
+});
+const RIGHTS_ZERO: Side = side(2, "the rights are 0", &[Rights], |_, q| q.at(Rights) == 0);
+
+const SEAT_DEAD: Side = side(5, "x is not live", &[Seat], |t, q| {
+    !t.seats[q.at(Seat)].live
+});
+const ROLE_DEAD: Side = side(7, "the role is not live", &[Role], |t, q| {
+    !t.roles[q.at(Role)].live
+});
+const ENTITY_DEAD: Side = side(7, "the entity is not live", &[Entity], |t, q| {
+    !t.entities[q.at(Entity)].live
+});
+const ENTITY_IS_ROOT: Side = side(6, "the entity is a root", &[Entity], |_, q| {
+    is_root(q.at(Entity))
+});
+const SEAT_BELOW_ENTITY: Side = side(10, "x's level is below e's", &[Seat, Entity], |_, q| {
+    seat_level(q.at(Seat)) < entity_level(q.at(Entity))
+});
+const ROLE_BELOW_ENTITY: Side = side(10, "the role is below e", &[Role, Entity], |_, q| {
+    role_level(q.at(Role)) < entity_level(q.at(Entity))
+});
+const SEAT_BELOW_ROLE: Side = side(10, "x is below the role", &[Seat, Role], |_, q| {
+    seat_level(q.at(Seat)) < role_level(q.at(Role))
+});
+const KEEPER_NOT_HELD: Side = side(
+    12,
+    "x does not hold the keeper of the role's level",
+    &[Seat, Role],
+    |t, q| !t.seats[q.at(Seat)].roles[keeper_of(q.at(Role))],
+);
+const NOT_REACHED: Side = side(13, "x does not reach e", &[Seat, Entity], |t, q| {
+    !reaches(t, q.at(Seat), q.at(Entity))
+});
+const ABOVE_NOT_OPEN: Side = side(
+    13,
+    "x has not the parent open for writing",
+    &[Seat, Entity],
+    |t, q| !t.seats[q.at(Seat)].writing[t.entities[q.at(Entity)].parent],
+);
+const ABOVE_NOT_EXECUTED: Side = side(
+    13,
+    "x lacks execute on the parent",
+    &[Seat, Entity],
+    |t, q| !has_right(t, q.at(Seat), t.entities[q.at(Entity)].parent, EXECUTE),
+);
+const NO_OWN: Side = side(13, "x lacks own on e", &[Seat, Entity], |t, q| {
+    !has_right(t, q.at(Seat), q.at(Entity), OWN)
+});
+
+static LOGIN: [Side; 8] = [
+    SEAT_RANGE,
+    USER_RANGE,
+    GRADE_RANGE,
+    CATS_RANGE,
+    side(3, "the seat is live", &[Seat], |t, q| {
+        t.seats[q.at(Seat)].live
+    }),
+    side(
+        4,
+        "the user's ceiling is below the seat's level",
+        &[Seat, User],
+        |t, q| t.users[q.at(User)].ceiling < seat_level(q.at(Seat)),
+    ),
+    side(
+        4,
+        "the clearance's grade is below the label's",
+        &[User, Level],
+        |t, q| t.users[q.at(User)].clearance.grade < q.at(Level),
+    ),
+    side(
+        4,
+        "the clearance's set does not contain the label's",
+        &[User, Cats],
+        |t, q| !contains(t.users[q.at(User)].clearance.cats, q.at(Cats)),
+    ),
+];
+
+static LOGOUT: [Side; 2] = [SEAT_RANGE, SEAT_DEAD];
+
+static TAKE: [Side; 6] = [
+    SEAT_RANGE,
+    ROLE_RANGE,
+    SEAT_DEAD,
+    ROLE_DEAD,
+    side(12, "x's user is not listed", &[Seat, Role], |t, q| {
+        !t.roles[q.at(Role)].users[t.seats[q.at(Seat)].user]
+    }),
+    side(16, "x holds the role already", &[Seat, Role], |t, q| {
+        t.seats[q.at(Seat)].roles[q.at(Role)]
+    }),
+];
+
+static DROP: [Side; 5] = [
+    SEAT_RANGE,
+    ROLE_RANGE,
+    SEAT_DEAD,
+    ROLE_DEAD,
+    side(16, "x does not hold the role", &[Seat, Role], |t, q| {
+        !t.seats[q.at(Seat)].roles[q.at(Role)]
+    }),
+];
+
+static OPENR: [Side; 10] = [
+    SEAT_RANGE,
+    ENTITY_RANGE,
+    SEAT_DEAD,
+    ENTITY_DEAD,
+    side(10, "e's level is below x's", &[Seat, Entity], |_, q| {
+        entity_level(q.at(Entity)) < seat_level(q.at(Seat))
+    }),
+    side(11, "x's grade is below e's", &[Seat, Entity], |t, q| {
+        t.seats[q.at(Seat)].label.grade < t.entities[q.at(Entity)].label.grade
+    }),
+    side(
+        11,
+        "x's set does not contain e's",
+        &[Seat, Entity],
+        |t, q| {
+            !contains(
+                t.seats[q.at(Seat)].label.cats,
+                t.entities[q.at(Entity)].label.cats,
+            )
+        },
+    ),
+    side(13, "x lacks read on e", &[Seat, Entity], |t, q| {
+        !has_right(t, q.at(Seat), q.at(Entity), READ)
+    }),
+    NOT_REACHED,
+    side(
+        16,
+        "x has e open for reading already",
+        &[Seat, Entity],
+        |t, q| t.seats[q.at(Seat)].reading[q.at(Entity)],
+    ),
+];
+
+static OPENW: [Side; 10] = [
+    SEAT_RANGE,
+    ENTITY_RANGE,
+    SEAT_DEAD,
+    ENTITY_DEAD,
+    SEAT_BELOW_ENTITY,
+    side(
+        11,
+        "the grades of x and e differ",
+        &[Seat, Entity],
+        |t, q| t.seats[q.at(Seat)].label.grade != t.entities[q.at(Entity)].label.grade,
+    ),
+    side(11, "the sets of x and e differ", &[Seat, Entity], |t, q| {
+        t.seats[q.at(Seat)].label.cats != t.entities[q.at(Entity)].label.cats
+    }),
+    side(13, "x lacks write on e", &[Seat, Entity], |t, q| {
+        !has_right(t, q.at(Seat), q.at(Entity), WRITE)
+    }),
+    NOT_REACHED,
+    side(
+        16,
+        "x has e open for writing already",
+        &[Seat, Entity],
+        |t, q| t.seats[q.at(Seat)].writing[q.at(Entity)],
+    ),
+];
+
+static CLOSE: [Side; 5] = [
+    SEAT_RANGE,
+    ENTITY_RANGE,
+    SEAT_DEAD,
+    ENTITY_DEAD,
+    side(
+        16,
+        "x has e open in neither way",
+        &[Seat, Entity],
+        |t, q| {
+            !t.seats[q.at(Seat)].reading[q.at(Entity)] && !t.seats[q.at(Seat)].writing[q.at(Entity)]
+        },
+    ),
+];
+
+static CREATE: [Side; 22] = [
+    SEAT_RANGE,
+    ENTITY_RANGE,
+    KIND_RANGE,
+    PARENT_RANGE,
+    NAME_RANGE,
+    NAME_ZERO,
+    GRADE_RANGE,
+    CATS_RANGE,
+    ROLE_RANGE,
+    SEAT_DEAD,
+    side(7, "the parent is not live", &[Parent], |t, q| {
+        !t.entities[q.at(Parent)].live
+    }),
+    ROLE_DEAD,
+    side(8, "the entity is live", &[Entity], |t, q| {
+        t.entities[q.at(Entity)].live
+    }),
+    side(9, "the parent is no container", &[Parent], |t, q| {
+        t.entities[q.at(Parent)].kind != CONTAINER
+    }),
+    side(
+        10,
+        "e and the parent differ in level",
+        &[Entity, Parent],
+        |_, q| entity_level(q.at(Entity)) != entity_level(q.at(Parent)),
+    ),
+    ROLE_BELOW_ENTITY,
+    side(
+        11,
+        "the new grade is below the parent's",
+        &[Level, Parent],
+        |t, q| q.at(Level) < t.entities[q.at(Parent)].label.grade,
+    ),
+    side(
+        11,
+        "the new set does not contain the parent's",
+        &[Cats, Parent],
+        |t, q| !contains(q.at(Cats), t.entities[q.at(Parent)].label.cats),
+    ),
+    side(12, "x does not hold the role", &[Seat, Role], |t, q| {
+        !t.seats[q.at(Seat)].roles[q.at(Role)]
+    }),
+    side(
+        13,
+        "x has not the parent open for writing",
+        &[Seat, Parent],
+        |t, q| !t.seats[q.at(Seat)].writing[q.at(Parent)],
+    ),
+    side(
+        13,
+        "x lacks execute on the parent",
+        &[Seat, Parent],
+        |t, q| !has_right(t, q.at(Seat), q.at(Parent), EXECUTE),
+    ),
+    side(
+        14,
+        "a child of the parent has the name",
+        &[Parent, Name],
+        |t, q| {
+            (0..64).any(|child| {
+                is_child(t, child, q.at(Parent)) && t.entities[child].name == q.at(Name)
+            })
+        },
+    ),
+];
+
+static DELETE: [Side; 8] = [
+    SEAT_RANGE,
+    ENTITY_RANGE,
+    SEAT_DEAD,
+    ENTITY_IS_ROOT,
+    ENTITY_DEAD,
+    ABOVE_NOT_OPEN,
+    ABOVE_NOT_EXECUTED,
+    side(15, "the entity has children", &[Entity], |t, q| {
+        (0..64).any(|child| is_child(t, child, q.at(Entity)))
+    }),
+];
+
+static RENAME: [Side; 11] = [
+    SEAT_RANGE,
+    ENTITY_RANGE,
+    NAME_RANGE,
+    NAME_ZERO,
+    SEAT_DEAD,
+    ENTITY_IS_ROOT,
+    ENTITY_DEAD,
+    ABOVE_NOT_OPEN,
+    ABOVE_NOT_EXECUTED,
+    side(
+        14,
+        "another child of the parent has the name",
+        &[Entity, Name],
+        |t, q| {
+            let parent = t.entities[q.at(Entity)].parent;
+            (0..64).any(|child| {
+                child != q.at(Entity)
+                    && is_child(t, child, parent)
+                    && t.entities[child].name == q.at(Name)
+            })
+        },
+    ),
+    side(
+        14,
+        "the entity itself has the name",
+        &[Entity, Name],
+        |t, q| {
+            let entity = q.at(Entity);
+            is_child(t, entity, t.entities[entity].parent) && t.entities[entity].name == q.at(Name)
+        },
+    ),
+];
+
+/// For revoke as well: the paper names the two together throughout.
+static GRANT: [Side; 11] = [
+    SEAT_RANGE,
+    ROLE_RANGE,
+    ENTITY_RANGE,
+    RIGHTS_RANGE,
+    RIGHTS_ZERO,
+    SEAT_DEAD,
+    ROLE_DEAD,
+    ENTITY_DEAD,
+    SEAT_BELOW_ENTITY,
+    ROLE_BELOW_ENTITY,
+    NO_OWN,
+];
+
+static LIST: [Side; 8] = [
+    SEAT_RANGE,
+    ROLE_RANGE,
+    USER_RANGE,
+    SEAT_DEAD,
+    ROLE_DEAD,
+    SEAT_BELOW_ROLE,
+    KEEPER_NOT_HELD,
+    side(16, "the user is listed already", &[Role, User], |t, q| {
+        t.roles[q.at(Role)].users[q.at(User)]
+    }),
+];
+
+static UNLIST: [Side; 8] = [
+    SEAT_RANGE,
+    ROLE_RANGE,
+    USER_RANGE,
+    SEAT_DEAD,
+    ROLE_DEAD,
+    SEAT_BELOW_ROLE,
+    KEEPER_NOT_HELD,
+    side(16, "the user is not listed", &[Role, User], |t, q| {
+        !t.roles[q.at(Role)].users[q.at(User)]
+    }),
+];
+
+static MAKE: [Side; 6] = [
+    SEAT_RANGE,
+    ROLE_RANGE,
+    SEAT_DEAD,
+    side(8, "the role is live", &[Role], |t, q| {
+        t.roles[q.at(Role)].live
+    }),
+    SEAT_BELOW_ROLE,
+    KEEPER_NOT_HELD,
+];
+
+static UNMAKE: [Side; 7] = [
+    SEAT_RANGE,
+    ROLE_RANGE,
+    SEAT_DEAD,
+    side(6, "the role is a keeper", &[Role], |_, q| {
+        is_keeper(q.at(Role))
+    }),
+    ROLE_DEAD,
+    SEAT_BELOW_ROLE,
+    KEEPER_NOT_HELD,
+];
+
+/// Every side of every refusal that applies to the request, by number. 1 is left out: the program's tables are sound.
+pub fn sides(call: Call) -> &'static [Side] {
+    match call {
+        Login => &LOGIN,
+        Logout => &LOGOUT,
+        Take => &TAKE,
+        Drop => &DROP,
+        Openr => &OPENR,
+        Openw => &OPENW,
+        Close => &CLOSE,
+        Create => &CREATE,
+        Delete => &DELETE,
+        Rename => &RENAME,
+        Grant | Revoke => &GRANT,
+        List => &LIST,
+        Unlist => &UNLIST,
+        Make => &MAKE,
+        Unmake => &UNMAKE,
+    }
+}
+
+/// The numbers that apply to the request, each once, rising.
+pub fn numbers(call: Call) -> Vec<usize> {
+    let mut numbers: Vec<usize> = sides(call).iter().map(|side| side.number).collect();
+    numbers.dedup();
+    numbers
+}
+
+/// The sides that are met, as bits: bit i for `sides(call)[i]`. Those that look at a number past its range are not
+/// asked.
+pub fn met(tables: &Tables, request: &Request) -> u32 {
+    let mut met = 0;
+    let mut past: [bool; 11] = [false; 11];
+    let sides = sides(request.call);
+    for (bit, side) in sides.iter().enumerate() {
+        if side.number == 2 && (side.holds)(tables, request) {
+            met |= 1 << bit;
+            past[side.looks[0] as usize] = true;
+        }
+    }
+    for (bit, side) in sides.iter().enumerate() {
+        let asked = side.number != 2 && side.looks.iter().all(|&field| !past[field as usize]);
+        if asked && (side.holds)(tables, request) {
+            met |= 1 << bit;
+        }
+    }
+    met
+}
+
+/// "The lowest number that applies to the request and whose condition is met", 0 if there is none.
+pub fn answer(call: Call, met: u32) -> usize {
+    sides(call)
+        .iter()
+        .enumerate()
+        .filter(|(bit, _)| met & (1 << bit) != 0)
+        .map(|(_, side)| side.number)
+        .min()
+        .unwrap_or(0)
+}
+
+// ---- What a done request changes
+
+pub fn done(tables: &mut Tables, q: &Request) {
+    let (x, user, role, entity) = (q.at(Seat), q.at(User), q.at(Role), q.at(Entity));
+    let label = Label {
+        grade: q.at(Level),
+        cats: q.at(Cats),
+    };
+    match q.call {
+        Login => {
+            tables.seats[x] = SeatRecord {
+                live: true,
+                user,
+                label,
+                ..EMPTY_SEAT
+            }
+        }
+        Logout => tables.seats[x] = EMPTY_SEAT,
+        Take => tables.seats[x].roles[role] = true,
+        Drop => tables.seats[x].roles[role] = false,
+        Openr => tables.seats[x].reading[entity] = true,
+        Openw => tables.seats[x].writing[entity] = true,
+        Close => {
+            tables.seats[x].reading[entity] = false;
+            tables.seats[x].writing[entity] = false;
+        }
+        Create => {
+            tables.entities[entity] = EntityRecord {
+                live: true,
+                kind: q.at(Kind),
+                parent: q.at(Parent),
+                name: q.at(Name),
+                label,
+            };
+            tables.roles[role].rights[entity] = OWN;
+        }
+        Delete => {
+            tables.entities[entity] = EMPTY_ENTITY;
+            for role in tables.roles.iter_mut() {
+                role.rights[entity] = 0;
+            }
+            for seat in tables.seats.iter_mut() {
+                seat.reading[entity] = false;
+                seat.writing[entity] = false;
+            }
+        }
+        Rename => tables.entities[entity].name = q.at(Name),
+        Grant => {
+            for right in [READ, WRITE, EXECUTE, OWN] {
+                let rights = &mut tables.roles[role].rights[entity];
+                if has(q.at(Rights), right) && !has(*rights, right) {
+                    *rights += right;
+                }
+            }
+        }
+        Revoke => {
+            for right in [READ, WRITE, EXECUTE, OWN] {
+                let rights = &mut tables.roles[role].rights[entity];
+                if has(q.at(Rights), right) && has(*rights, right) {
+                    *rights -= right;
+                }
+            }
+        }
+        List => tables.roles[role].users[user] = true,
+        Unlist => tables.roles[role].users[user] = false,
+        Make => {
+            tables.roles[role] = RoleRecord {
+                live: true,
+                ..EMPTY_ROLE
+            }
+        }
+        Unmake => {
+            tables.roles[role] = EMPTY_ROLE;
+            for seat in tables.seats.iter_mut() {
+                seat.roles[role] = false;
+            }
+        }
+    }
+}
+
+#[cfg(test)]
+mod tests {
+    use super::*;
+
+    #[test]
+    fn pairs_and_sides() {
+        let pairs: usize = CALLS.iter().map(|&call| numbers(call).len()).sum();
+        let all: usize = CALLS.iter().map(|&call| sides(call).len()).sum();
+        assert_eq!((pairs, all), (87, 138));
+        for call in CALLS {
+            let rising: Vec<usize> = sides(call).iter().map(|side| side.number).collect();
+            assert!(rising.windows(2).all(|pair| pair[0] <= pair[1]));
+            for side in sides(call) {
+                assert!(side.looks.iter().all(|field| call.uses().contains(field)));
+                assert!(side.number != 2 || side.looks.len() == 1);
+            }
+        }
+    }
+
+    #[test]
+    fn sets_are_not_compared_as_numbers() {
+        assert!(!contains(4, 3));
+        assert!(contains(7, 3) && contains(255, 0) && !contains(127, 128));
+    }
+
+    #[test]
+    fn fresh_tables_are_sound() {
+        assert!(sound(&fresh(&[UserRecord::default(); 16])));
+    }
+}

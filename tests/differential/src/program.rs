@@ -1,0 +1,318 @@
+//! The request program as document 01 describes it, over the tables of `paper`: from the bytes of an input to what is
+//! to be printed for each line.
+
+use crate::paper::{self, Call, Field, Label, Request, Tables, UserRecord, CALLS, FIELDS};
+
+pub const LAST_LINE: usize = 65_535;
+pub const LONGEST_LINE: usize = 255;
+
+#[derive(Clone, Copy, Debug, PartialEq, Eq)]
+pub enum Column {
+    Call,
+    Field(Field),
+}
+
+impl Column {
+    pub fn word(self) -> &'static str {
+        match self {
+            Column::Call => "call",
+            Column::Field(field) => field.word(),
+        }
+    }
+}
+
+/// The twelve names, in the order of the paper's sample.
+pub fn sample_order() -> Vec<Column> {
+    let mut order = vec![Column::Call];
+    order.extend(FIELDS.iter().map(|&field| Column::Field(field)));
+    order
+}
+
+pub enum Read {
+    Unreadable,
+    User([usize; 11]),
+    Request(Request),
+}
+
+#[derive(Clone, Copy, Debug, PartialEq, Eq)]
+pub enum What {
+    Unreadable,
+    /// A line with the word `user` that is readable but for its place.
+    User,
+    Request {
+        request: Request,
+        met: u32,
+    },
+}
+
+#[derive(Clone, Copy, Debug)]
+pub struct Seen {
+    pub what: What,
+    pub answer: usize,
+}
+
+pub struct Program {
+    pub order: Vec<Column>,
+    users: [UserRecord; 16],
+    /// A readable line with another word than `user` has come.
+    pub shut: bool,
+    pub tables: Tables,
+}
+
+impl Program {
+    /// None if the line of names is bad.
+    pub fn start(line: &[u8]) -> Option<Program> {
+        if line.len() > LONGEST_LINE {
+            return None;
+        }
+        let mut order = Vec::new();
+        for word in line.split(|&byte| byte == b' ') {
+            let column = sample_order()
+                .into_iter()
+                .find(|column| column.word().as_bytes() == word)?;
+            if order.contains(&column) {
+                return None;
+            }
+            order.push(column);
+        }
+        if order.len() != 12 {
+            return None;
+        }
+        let users = [UserRecord::default(); 16];
+        Some(Program {
+            order,
+            users,
+            shut: false,
+            tables: paper::fresh(&users),
+        })
+    }
+
+    pub fn read(&self, line: &[u8]) -> Read {
+        if line.len() > LONGEST_LINE {
+            return Read::Unreadable;
+        }
+        let values: Vec<&[u8]> = line.split(|&byte| byte == b' ').collect();
+        if values.len() != 12 {
+            return Read::Unreadable;
+        }
+        let call_at = self
+            .order
+            .iter()
+            .position(|&column| column == Column::Call)
+            .unwrap();
+        let word = values[call_at];
+        let call: Option<Call> = CALLS
+            .into_iter()
+            .find(|call| call.word().as_bytes() == word);
+        let uses: &[Field] = match call {
+            Some(call) => call.uses(),
+            None if word == b"user" => &paper::USER_USES,
+            None => return Read::Unreadable,
+        };
+        let mut numbers = [0; 11];
+        for (column, value) in self.order.iter().zip(&values) {
+            let Column::Field(field) = *column else {
+                continue;
+            };
+            if uses.contains(&field) {
+                match number(value) {
+                    Some(n) => numbers[field as usize] = n,
+                    None => return Read::Unreadable,
+                }
+            } else if *value != b"-" {
+                return Read::Unreadable;
+            }
+        }
+        match call {
+            Some(call) => Read::Request(Request {
+                call,
+                values: numbers,
+            }),
+            None => Read::User(numbers),
+        }
+    }
+
+    pub fn answer(&mut self, line: &[u8]) -> Seen {
+        match self.read(line) {
+            Read::Unreadable => Seen {
+                what: What::Unreadable,
+                answer: 17,
+            },
+            Read::User(_) if self.shut => Seen {
+                what: What::User,
+                answer: 17,
+            },
+            Read::User(numbers) => {
+                let at = |field: Field| numbers[field as usize];
+                let in_range = paper::USER_USES
+                    .iter()
+                    .all(|&field| at(field) <= field.last());
+                if in_range {
+                    self.users[at(Field::User)] = UserRecord {
+                        ceiling: at(Field::Ceiling),
+                        clearance: Label {
+                            grade: at(Field::Level),
+                            cats: at(Field::Cats),
+                        },
+                    };
+                    self.tables = paper::fresh(&self.users);
+                }
+                Seen {
+                    what: What::User,
+                    answer: if in_range { 0 } else { 2 },
+                }
+            }
+            Read::Request(request) => {
+                self.shut = true;
+                let met = paper::met(&self.tables, &request);
+                let answer = paper::answer(request.call, met);
+                if answer == 0 {
+                    paper::done(&mut self.tables, &request);
+                }
+                Seen {
+                    what: What::Request { request, met },
+                    answer,
+                }
+            }
+        }
+    }
+}
+
+/// "1 to 5 decimal digits".
+fn number(value: &[u8]) -> Option<usize> {
+    if value.is_empty() || value.len() > 5 {
+        return None;
+    }
+    let mut number = 0;
+    for &byte in value {
+        if !byte.is_ascii_digit() {
+            return None;
+        }
+        number = number * 10 + usize::from(byte - b'0');
+    }
+    Some(number)
+}
+
+/// What the program is to do with a whole input.
+pub struct Report {
+    /// One for each line from line 2 on; none if the line of names is bad.
+    pub seen: Vec<Seen>,
+    pub names_good: bool,
+    /// The tables were sound after every done request.
+    pub sound: bool,
+}
+
+pub fn report(input: &[u8]) -> Report {
+    let mut lines: Vec<&[u8]> = input.split(|&byte| byte == b'\n').collect();
+    // A closing byte 10 ends the last line and begins no other.
+    if lines.last().is_some_and(|last| last.is_empty()) {
+        lines.pop();
+    }
+    let mut report = Report {
+        seen: Vec::new(),
+        names_good: false,
+        sound: true,
+    };
+    let Some(mut program) = lines.first().and_then(|names| Program::start(names)) else {
+        return report;
+    };
+    report.names_good = true;
+    for line in lines.iter().take(LAST_LINE).skip(1) {
+        let seen = program.answer(line);
+        if seen.answer == 0 {
+            report.sound = report.sound && paper::sound(&program.tables);
+        }
+        report.seen.push(seen);
+    }
+    report
+}
+
+impl Report {
+    pub fn output(&self) -> Vec<u8> {
+        let mut text = String::from("line answer\n");
+        if !self.names_good {
+            text.push_str("1 17\n");
+        }
+        for (index, seen) in self.seen.iter().enumerate() {
+            text.push_str(&format!("{} {}\n", index + 2, seen.answer));
+        }
+        text.into_bytes()
+    }
+}
+
+#[cfg(test)]
+mod tests {
+    use super::*;
+
+    const NAMES: &str = "call seat user role entity parent kind name level cats rights ceiling\n";
+
+    fn answers(lines: &str) -> Vec<usize> {
+        let input = format!("{NAMES}{lines}");
+        let report = report(input.as_bytes());
+        assert!(report.names_good && report.sound);
+        report.seen.iter().map(|seen| seen.answer).collect()
+    }
+
+    #[test]
+    fn the_sample() {
+        let input = format!(
+            "{NAMES}user - 0 - - - - - 3 255 - 3\nlogin 12 0 - - - - - 0 0 - -\n\
+             take 12 - 12 - - - - - - - -\nopenw 12 - - 48 - - - - - - -\n\
+             openw 12 - - 48 - - - - - - -\nlogout 13 - - - - - - - - - -\n"
+        );
+        let printed = "line answer\n2 0\n3 0\n4 0\n5 0\n6 16\n7 5\n";
+        assert_eq!(report(input.as_bytes()).output(), printed.as_bytes());
+        let unended = &input.as_bytes()[..input.len() - 1];
+        assert_eq!(report(unended).output(), printed.as_bytes());
+    }
+
+    /// K1 to K14.
+    #[test]
+    fn one_morning() {
+        let lines = "user - 0 - - - - - 3 255 - 3\nuser - 1 - - - - - 1 0 - 1\n\
+             login 12 0 - - - - - 0 0 - -\nlogin 13 1 - - - - - 0 0 - -\n\
+             login 4 1 - - - - - 0 0 - -\ntake 12 - 12 - - - - - - - -\n\
+             take 4 - 12 - - - - - - - -\nopenw 12 - - 48 - - - - - - -\n\
+             openr 4 - - 48 - - - - - - -\nopenw 4 - - 48 - - - - - - -\n\
+             create 12 - 12 49 48 0 7 0 0 - -\ncreate 12 - 12 50 48 0 7 0 0 - -\n\
+             create 12 - 12 33 48 0 7 0 0 - -\ndelete 12 - - 48 - - - - - - -\n\
+             rename 12 - - 49 - - 7 - - - -\ndelete 12 - - 49 - - - - - - -\n";
+        assert_eq!(
+            answers(lines),
+            [0, 0, 0, 4, 0, 0, 12, 0, 13, 10, 0, 14, 10, 6, 14, 0]
+        );
+    }
+
+    #[test]
+    fn edges() {
+        let lines = "user - 0 - - - - - 3 255 - 3\nlogin 12 0 - - - - - 3 0 - -\n\
+             login 13 0 - - - - - 4 0 - -\nopenr 12 - - 63 - - - - - - -\n\
+             openr 12 - - 64 - - - - - - -\nrename 12 - - 63 - - 65535 - - - -\n\
+             rename 12 - - 63 - - 65536 - - - -\ngrant 12 - 0 0 - - - - - 15 -\n\
+             grant 12 - 0 0 - - - - - 16 -\n";
+        assert_eq!(answers(lines), [0, 0, 2, 7, 2, 7, 2, 13, 2]);
+    }
+
+    #[test]
+    fn user_lines() {
+        let lines = "user - 16 - - - - - 0 0 - 0\n\nuser - 1 - - - - - 3 0 - 3\n\
+             user - 1 - - - - - 0 0 - 0\nlogin 0 16 - - - - - 0 0 - -\n\
+             user - 1 - - - - - 0 0 - 0\nlogin 00004 1 - - - - - 0 0 - -\n\
+             login 000004 1 - - - - - 0 0 - -\n";
+        assert_eq!(answers(lines), [2, 17, 0, 0, 2, 17, 4, 17]);
+    }
+
+    #[test]
+    fn names_line() {
+        let bad = b"line answer\n1 17\n";
+        assert_eq!(report(b"").output(), bad);
+        assert_eq!(report(b"\n").output(), bad);
+        let names = NAMES.as_bytes();
+        assert_eq!(report(names).output(), b"line answer\n");
+        assert_eq!(report(&names[..names.len() - 1]).output(), b"line answer\n");
+        assert_eq!(
+            report(NAMES.replace(" kind", "").as_bytes()).output(),
+            b"line answer\n1 17\n"
+        );
+    }
+}

@@ -1,0 +1,474 @@
+//! What a file is made of: `user` lines, seats that begin, single requests, and scenes of several requests that lead to
+//! tables which single ones seldom reach.
+
+use crate::generator::{Writer, DONE};
+use crate::lines;
+use crate::paper::{self, Call, Field, Label, CALLS};
+use crate::program::What;
+
+impl Writer {
+    pub fn body(&mut self, count: usize) {
+        self.users();
+        let end = self.line_count + count;
+        self.settle();
+        while self.line_count < end {
+            match self.random.below(100) {
+                0..=3 => self.deepen(),
+                4..=6 => self.put_under_label(),
+                7..=8 => self.recycle_entity(),
+                9 => self.recycle_role(),
+                10 => self.recycle_seat(),
+                11..=13 => self.outlive(),
+                14..=15 => self.survey(),
+                16..=17 => self.share(),
+                18 => self.write_object(),
+                _ => self.aimed(),
+            }
+            if self.random.chance(self.habits.unreadable, 100) {
+                self.unreadable();
+            }
+            if self.program.shut && self.random.chance(1, 150) {
+                self.late_user();
+            }
+            if self.stuck() {
+                break;
+            }
+        }
+    }
+
+    /// The `user` lines at the top, with a few other lines among them.
+    fn users(&mut self) {
+        let all = self.random.chance(1, 4);
+        let count = if all { 20 } else { self.random.below(9) };
+        let strong = self.random.chance(9, 10);
+        let mut set: Vec<usize> = Vec::new();
+        for turn in 0..count + 1 {
+            if self.random.chance(self.habits.unreadable, 40) {
+                self.unreadable();
+            }
+            let user = if turn == 0 { 0 } else { self.random.below(16) };
+            let mut values = [0; 11];
+            let label = if turn == 0 && strong {
+                Label {
+                    grade: 3,
+                    cats: 255,
+                }
+            } else {
+                let labels = self.habits.labels.clone();
+                self.random.pick(&labels)
+            };
+            values[Field::User as usize] = user;
+            values[Field::Level as usize] = label.grade;
+            values[Field::Cats as usize] = label.cats;
+            values[Field::Ceiling as usize] = if turn == 0 && strong {
+                3
+            } else {
+                self.random.below(4)
+            };
+            if turn == count && self.random.chance(1, 3) {
+                break;
+            }
+            let mut form = if set.contains(&user) {
+                Some(lines::USER_TWICE)
+            } else {
+                None
+            };
+            match (self.last, self.last_answer) {
+                (Some(What::Unreadable), _) => form = Some(lines::USER_AFTER_UNREADABLE),
+                (Some(What::User), 2) => form = Some(lines::USER_AFTER_FAULT),
+                _ => {}
+            }
+            if self.random.chance(1, 8) {
+                let (field, past_form) = self.random.pick(&[
+                    (Field::User, lines::USER_PAST_USER),
+                    (Field::Level, lines::USER_PAST_LEVEL),
+                    (Field::Cats, lines::USER_PAST_CATS),
+                    (Field::Ceiling, lines::USER_PAST_CEILING),
+                ]);
+                values[field as usize] = self.random.pick(&[
+                    field.last() + 1,
+                    256 + values[field as usize],
+                    65_536 + values[field as usize],
+                    99_999,
+                ]);
+                form = Some(past_form);
+            } else {
+                set.push(user);
+            }
+            let good = self.good("user", &paper::USER_USES, &values);
+            self.write(&good.line(), form);
+        }
+    }
+
+    /// `user` when it is too late.
+    fn late_user(&mut self) {
+        let mut values = [0; 11];
+        for field in paper::USER_USES {
+            values[field as usize] = self.random.below(field.last() + 1);
+        }
+        let mut form = lines::USER_LATE;
+        if self.random.chance(1, 4) {
+            let field = self.random.pick(&paper::USER_USES);
+            values[field as usize] = field.last() + 1;
+            form = lines::USER_LATE_PAST;
+        }
+        let good = self.good("user", &paper::USER_USES, &values);
+        self.write(&good.line(), Some(form));
+    }
+
+    /// A line that can't be read, from one that would be done.
+    pub fn unreadable(&mut self) {
+        let form = &lines::UNREADABLE[self.random.below(lines::UNREADABLE.len())];
+        let good = if !self.program.shut && self.random.chance(1, 2) {
+            let mut values = [0; 11];
+            for field in paper::USER_USES {
+                values[field as usize] = self.random.below(field.last() + 1);
+            }
+            self.good("user", &paper::USER_USES, &values)
+        } else {
+            let call = self.call();
+            let (request, _) = self.aim(call, &[], DONE);
+            self.good(call.word(), call.uses(), &request.values)
+        };
+        let line = (form.spoil)(&mut self.random, &good);
+        self.write(&line, Some(form.name));
+    }
+
+    /// A few seats that can begin. Sometimes the first request of all is one past its range.
+    fn settle(&mut self) {
+        if self.random.chance(1, 6) {
+            let call = self.random.pick(&CALLS);
+            let (request, _) = self.aim(call, &[], 1);
+            self.request(&request);
+            let good = self.good("user", &paper::USER_USES, &[0; 11]);
+            self.write(&good.line(), Some(lines::USER_LATE_AT_ONCE));
+        }
+        for _ in 0..self.random.between(1, 5) {
+            let level = match self.habits.level {
+                Some(level) => level,
+                None => self.random.below(4),
+            };
+            let seat = self.random.between(level * 4, 15);
+            let plain = [
+                (Field::Seat, seat),
+                (Field::User, 0),
+                (Field::Level, 0),
+                (Field::Cats, 0),
+            ];
+            self.wish(Call::Login, &plain);
+            self.wish(Call::Take, &[(Field::Seat, seat), (Field::Role, level * 4)]);
+            self.wish(
+                Call::Openw,
+                &[(Field::Seat, seat), (Field::Entity, level * 16)],
+            );
+        }
+    }
+
+    /// A chain of containers, one in the other, each opened for writing, from one that a seat has open for writing.
+    fn deepen(&mut self) {
+        let seat = self.one_of(16, |t, seat| t.seats[seat].writing.contains(&true));
+        let mut parent = self.one_of(64, |t, e| {
+            t.seats[seat].writing[e] && t.entities[e].kind == paper::CONTAINER
+        });
+        let label = self.tables().seats[seat].label;
+        for _ in 0..self.random.pick(&[1, 2, 3, 5, 15]) {
+            let wanted = [
+                (Field::Seat, seat),
+                (Field::Parent, parent),
+                (Field::Kind, paper::CONTAINER),
+                (Field::Level, label.grade),
+                (Field::Cats, label.cats),
+            ];
+            if !self.wish(Call::Create, &wanted) {
+                return;
+            }
+            let created = self.last_request();
+            let (entity, role) = (created.at(Field::Entity), created.at(Field::Role));
+            let rights = self.random.pick(&[6, 7, 14, 15]);
+            let given = [
+                (Field::Seat, seat),
+                (Field::Role, role),
+                (Field::Entity, entity),
+                (Field::Rights, rights),
+            ];
+            if !self.wish(Call::Grant, &given)
+                || !self.wish(Call::Openw, &[(Field::Seat, seat), (Field::Entity, entity)])
+            {
+                return;
+            }
+            parent = entity;
+        }
+    }
+
+    /// A container with a label of the file's, and a seat of that label which opens it for writing.
+    fn put_under_label(&mut self) {
+        let labels = self.habits.labels.clone();
+        let label = self.random.pick(&labels);
+        let wanted = [
+            (Field::Kind, paper::CONTAINER),
+            (Field::Level, label.grade),
+            (Field::Cats, label.cats),
+        ];
+        if !self.wish(Call::Create, &wanted) {
+            return;
+        }
+        let created = self.last_request();
+        let (entity, role) = (created.at(Field::Entity), created.at(Field::Role));
+        let given = [
+            (Field::Role, role),
+            (Field::Entity, entity),
+            (Field::Rights, 15),
+        ];
+        self.wish(Call::Grant, &given);
+        let seat = self.random.between(paper::entity_level(entity) * 4, 15);
+        let as_asked = [
+            (Field::Seat, seat),
+            (Field::Level, label.grade),
+            (Field::Cats, label.cats),
+        ];
+        if self.tables().seats[seat].live && !self.wish(Call::Logout, &[(Field::Seat, seat)]) {
+            return;
+        }
+        self.wish(Call::Login, &as_asked);
+        self.wish(Call::Take, &[(Field::Seat, seat), (Field::Role, role)]);
+        self.wish(Call::Openw, &[(Field::Seat, seat), (Field::Entity, entity)]);
+        let inside = [(Field::Seat, seat), (Field::Parent, entity)];
+        self.wish(Call::Create, &inside);
+        self.near(Call::Create, &inside, &[11]);
+        self.near(Call::Create, &inside, &[11, 14]);
+    }
+
+    /// An object that a seat has open for writing and may execute: only its kind keeps others from being made in it.
+    fn write_object(&mut self) {
+        let seat = self.one_of(16, |t, seat| t.seats[seat].writing.contains(&true));
+        let label = self.tables().seats[seat].label;
+        let wanted = [
+            (Field::Seat, seat),
+            (Field::Kind, paper::OBJECT),
+            (Field::Level, label.grade),
+            (Field::Cats, label.cats),
+        ];
+        if !self.wish(Call::Create, &wanted) {
+            return;
+        }
+        let created = self.last_request();
+        let (entity, role) = (created.at(Field::Entity), created.at(Field::Role));
+        let given = [
+            (Field::Seat, seat),
+            (Field::Role, role),
+            (Field::Entity, entity),
+            (Field::Rights, 7),
+        ];
+        self.wish(Call::Grant, &given);
+        self.wish(Call::Openw, &[(Field::Seat, seat), (Field::Entity, entity)]);
+        let inside = [(Field::Seat, seat), (Field::Parent, entity)];
+        self.near(Call::Create, &inside, &[9]);
+    }
+
+    /// Deletes an entity, makes its number again, and asks who still gets at it.
+    fn recycle_entity(&mut self) {
+        let entity = self.one_of(64, |t, e| {
+            t.entities[e].live
+                && !paper::is_root(e)
+                && !(0..64).any(|child| paper::is_child(t, child, e))
+                && (t
+                    .seats
+                    .iter()
+                    .any(|seat| seat.writing[e] || seat.reading[e])
+                    || t.roles.iter().any(|role| role.rights[e] != 0))
+        });
+        if !self.wish(Call::Delete, &[(Field::Entity, entity)]) {
+            return;
+        }
+        if self.random.chance(1, 4) {
+            self.ask_all_seats(Call::Close, Field::Entity, entity);
+        }
+        if self.wish(Call::Create, &[(Field::Entity, entity)]) {
+            if self.random.chance(1, 2) {
+                self.ask_all_seats(Call::Close, Field::Entity, entity);
+            }
+            self.ask_all_seats(Call::Openr, Field::Entity, entity);
+            self.ask_all_seats(Call::Openw, Field::Entity, entity);
+            self.ask_all_seats(Call::Grant, Field::Entity, entity);
+        }
+    }
+
+    /// Unmakes a role, makes its number again, and asks who still holds it, who is listed and what it can do.
+    fn recycle_role(&mut self) {
+        let role = self.one_of(16, |t, role| {
+            t.roles[role].live
+                && !paper::is_keeper(role)
+                && (t.roles[role].rights.iter().any(|&rights| rights != 0)
+                    || t.seats.iter().any(|seat| seat.roles[role]))
+        });
+        let before = self.tables().roles[role];
+        if !self.wish(Call::Unmake, &[(Field::Role, role)])
+            || !self.wish(Call::Make, &[(Field::Role, role)])
+        {
+            return;
+        }
+        let first = self.random.pick(&[Call::Drop, Call::Take]);
+        self.ask_all_seats(first, Field::Role, role);
+        let user = self.random.below(16);
+        self.wish(Call::List, &[(Field::Role, role), (Field::User, user)]);
+        self.ask_all_seats(Call::Take, Field::Role, role);
+        for entity in 0..64 {
+            if before.rights[entity] != 0 && self.random.chance(1, 3) {
+                let call = self.random.pick(&[Call::Openr, Call::Openw, Call::Grant]);
+                self.ask_all_seats(call, Field::Entity, entity);
+            }
+        }
+    }
+
+    /// Empties a seat, fills it again, and asks what it still holds or has open.
+    fn recycle_seat(&mut self) {
+        let seat = self.one_of(16, |t, seat| {
+            t.seats[seat].roles.contains(&true) && t.seats[seat].writing.contains(&true)
+        });
+        let before = self.tables().seats[seat];
+        if !self.wish(Call::Logout, &[(Field::Seat, seat)])
+            || !self.wish(Call::Login, &[(Field::Seat, seat)])
+        {
+            return;
+        }
+        for role in 0..16 {
+            if before.roles[role] {
+                let call = self.random.pick(&[Call::Drop, Call::Take]);
+                self.ask(call, &[(Field::Seat, seat), (Field::Role, role)]);
+            }
+        }
+        for entity in 0..64 {
+            if before.writing[entity] || before.reading[entity] {
+                let call = self
+                    .random
+                    .pick(&[Call::Close, Call::Openr, Call::Openw, Call::Delete]);
+                self.ask(call, &[(Field::Seat, seat), (Field::Entity, entity)]);
+            }
+        }
+    }
+
+    /// Takes away what stands behind an open, a holding or a listing, and asks again.
+    fn outlive(&mut self) {
+        let seat = self.one_of(16, |t, seat| {
+            t.seats[seat].writing.contains(&true) || t.seats[seat].reading.contains(&true)
+        });
+        let entity = self.one_of(64, |t, e| {
+            t.seats[seat].writing[e] || t.seats[seat].reading[e]
+        });
+        let role = self.one_of(16, |t, role| t.seats[seat].roles[role]);
+        match self.random.below(5) {
+            0 => {
+                let rights = self.random.pick(&[1, 2, 3, 4, 7]);
+                let taken = [
+                    (Field::Role, role),
+                    (Field::Entity, entity),
+                    (Field::Rights, rights),
+                ];
+                self.wish(Call::Revoke, &taken);
+            }
+            1 => {
+                self.wish(Call::Drop, &[(Field::Seat, seat), (Field::Role, role)]);
+            }
+            2 if !paper::is_keeper(role) => {
+                self.wish(Call::Unmake, &[(Field::Role, role)]);
+            }
+            _ => {
+                let user = self.tables().seats[seat].user;
+                self.wish(Call::Unlist, &[(Field::Role, role), (Field::User, user)]);
+                self.ask(Call::Take, &[(Field::Seat, seat), (Field::Role, role)]);
+            }
+        }
+        for call in [Call::Openr, Call::Openw] {
+            self.ask(call, &[(Field::Seat, seat), (Field::Entity, entity)]);
+        }
+        match self.random.below(4) {
+            0 => {
+                self.wish(
+                    Call::Create,
+                    &[(Field::Seat, seat), (Field::Parent, entity)],
+                );
+            }
+            1 => {
+                let child = self.one_of(64, |t, e| paper::is_child(t, e, entity));
+                let call = self.random.pick(&[Call::Delete, Call::Rename]);
+                self.wish(call, &[(Field::Seat, seat), (Field::Entity, child)]);
+            }
+            2 => {
+                self.ask(Call::Close, &[(Field::Seat, seat), (Field::Entity, entity)]);
+                self.ask(Call::Openw, &[(Field::Seat, seat), (Field::Entity, entity)]);
+            }
+            _ => {}
+        }
+    }
+
+    /// Hands rights on one entity to another role, and lets a seat with that role open it.
+    fn share(&mut self) {
+        let entity = self.one_of(64, |t, e| t.entities[e].live);
+        let role = self.one_of(16, |t, role| {
+            t.roles[role].live && paper::role_level(role) >= paper::entity_level(entity)
+        });
+        self.wish(Call::Grant, &[(Field::Role, role), (Field::Entity, entity)]);
+        self.wish(Call::List, &[(Field::Role, role)]);
+        self.wish(Call::Take, &[(Field::Role, role)]);
+        self.wish(Call::Openr, &[(Field::Entity, entity)]);
+        self.wish(Call::Openw, &[(Field::Entity, entity)]);
+    }
+
+    /// Goes through all seats, roles, users or entities with one call.
+    fn survey(&mut self) {
+        let seat = self.one_of(16, |t, seat| t.seats[seat].live);
+        let entity = self.one_of(64, |t, e| t.entities[e].live);
+        match self.random.below(8) {
+            0 => {
+                for role in 0..16 {
+                    self.ask(Call::Take, &[(Field::Seat, seat), (Field::Role, role)]);
+                }
+            }
+            1 => {
+                let level = self.random.below(4);
+                for entity in level * 16..level * 16 + 16 {
+                    self.ask(Call::Close, &[(Field::Seat, seat), (Field::Entity, entity)]);
+                }
+            }
+            2 => self.ask_all_seats(Call::Openr, Field::Entity, entity),
+            3 => self.ask_all_seats(Call::Openw, Field::Entity, entity),
+            4 => {
+                let level = paper::entity_level(entity);
+                for entity in level * 16..level * 16 + 16 {
+                    let call = self.random.pick(&[Call::Openr, Call::Openw]);
+                    self.ask(call, &[(Field::Seat, seat), (Field::Entity, entity)]);
+                }
+            }
+            5 => {
+                let role = self.one_of(16, |t, role| t.roles[role].live);
+                for user in 0..16 {
+                    self.wish(Call::List, &[(Field::Role, role), (Field::User, user)]);
+                }
+            }
+            6 => {
+                let parent = self.one_of(64, |t, e| t.seats[seat].writing[e]);
+                for name in 1..self.habits.names.min(16) {
+                    self.wish(
+                        Call::Create,
+                        &[
+                            (Field::Seat, seat),
+                            (Field::Parent, parent),
+                            (Field::Name, name),
+                        ],
+                    );
+                }
+            }
+            _ => {
+                let parent = self.one_of(64, |t, e| t.seats[seat].writing[e]);
+                for entity in 0..64 {
+                    if paper::is_child(self.tables(), entity, parent) {
+                        self.ask(
+                            Call::Rename,
+                            &[(Field::Seat, seat), (Field::Entity, entity)],
+                        );
+                    }
+                }
+            }
+        }
+    }
+}

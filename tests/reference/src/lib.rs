@@ -1,0 +1,807 @@
+//! The access guard of document 01 in plain Rust: the tables are changed in
+//! place, sets are bit sets and no request touches the heap. It follows the
+//! paper alone and shares no line with the proved guard, so that the two can be
+//! held against each other.
+//!
+//! Numbers handed back are those of the paper: 0 for done, otherwise the
+//! refusal. The refusals of a request stand in the order in which they are
+//! looked at, the lowest first.
+
+#[cfg(test)]
+mod tests;
+
+pub const USERS: usize = 16;
+pub const SEATS: usize = 16;
+pub const ROLES: usize = 16;
+pub const ENTITIES: usize = 64;
+
+pub const READ: u8 = 1;
+pub const WRITE: u8 = 2;
+pub const EXECUTE: u8 = 4;
+pub const OWN: u8 = 8;
+
+pub const OBJECT: u8 = 0;
+pub const CONTAINER: u8 = 1;
+
+/// The numbers of the sixteen requests.
+pub mod call {
+    pub const LOGIN: u32 = 0;
+    pub const LOGOUT: u32 = 1;
+    pub const TAKE: u32 = 2;
+    pub const DROP: u32 = 3;
+    pub const OPENR: u32 = 4;
+    pub const OPENW: u32 = 5;
+    pub const CLOSE: u32 = 6;
+    pub const CREATE: u32 = 7;
+    pub const DELETE: u32 = 8;
+    pub const RENAME: u32 = 9;
+    pub const GRANT: u32 = 10;
+    pub const REVOKE: u32 = 11;
+    pub const LIST: u32 = 12;
+    pub const UNLIST: u32 = 13;
+    pub const MAKE: u32 = 14;
+    pub const UNMAKE: u32 = 15;
+}
+
+/// A confidentiality label. `grade` is in range up to 3.
+#[derive(Clone, Copy, Debug, Default, PartialEq, Eq)]
+pub struct Label {
+    pub grade: u8,
+    pub cats: u8,
+}
+
+impl Label {
+    pub fn dominates(self, other: Label) -> bool {
+        self.grade >= other.grade && other.cats & !self.cats == 0
+    }
+}
+
+#[derive(Clone, Copy, Debug, Default, PartialEq, Eq)]
+pub struct User {
+    pub ceiling: u8,
+    pub clearance: Label,
+}
+
+/// What fresh tables are built from; the numbers may be out of range.
+#[derive(Clone, Copy, Debug, Default, PartialEq, Eq)]
+pub struct UserRecord {
+    pub ceiling: u32,
+    pub level: u32,
+    pub cats: u32,
+}
+
+impl UserRecord {
+    /// The user, unless a number is out of range.
+    pub fn user(&self) -> Option<User> {
+        if self.ceiling > 3 {
+            return None;
+        }
+        let clearance = label(self.level, self.cats)?;
+        Some(User {
+            ceiling: self.ceiling as u8,
+            clearance,
+        })
+    }
+}
+
+#[derive(Clone, Copy, Debug, Default, PartialEq, Eq)]
+pub struct Seat {
+    pub live: bool,
+    pub user: u8,
+    pub label: Label,
+    /// The roles held, one bit for each.
+    pub roles: u16,
+    /// The entities open for reading and for writing, one bit for each.
+    pub reading: u64,
+    pub writing: u64,
+}
+
+#[derive(Clone, Copy, Debug, PartialEq, Eq)]
+pub struct Role {
+    pub live: bool,
+    /// The users listed, one bit for each.
+    pub users: u16,
+    pub rights: [u8; ENTITIES],
+}
+
+impl Role {
+    const EMPTY: Role = Role {
+        live: false,
+        users: 0,
+        rights: [0; ENTITIES],
+    };
+}
+
+#[derive(Clone, Copy, Debug, Default, PartialEq, Eq)]
+pub struct Entity {
+    pub live: bool,
+    pub kind: u8,
+    pub parent: u8,
+    pub name: u16,
+    pub label: Label,
+}
+
+#[derive(Clone, Debug, PartialEq, Eq)]
+pub struct Tables {
+    pub users: [User; USERS],
+    pub seats: [Seat; SEATS],
+    pub roles: [Role; ROLES],
+    pub entities: [Entity; ENTITIES],
+}
+
+/// A request as the host brings it: any number may stand in any field, and a
+/// field that the request does not use is not looked at. `level` is the
+/// label's grade.
+#[derive(Clone, Copy, Debug, Default, PartialEq, Eq)]
+pub struct Request {
+    pub call: u32,
+    pub seat: u32,
+    pub user: u32,
+    pub role: u32,
+    pub entity: u32,
+    pub parent: u32,
+    pub kind: u32,
+    pub name: u32,
+    pub level: u32,
+    pub cats: u32,
+    pub rights: u32,
+}
+
+/// The integrity level of a seat or role, and that of an entity.
+pub fn level(seat_or_role: usize) -> usize {
+    seat_or_role / 4
+}
+
+pub fn entity_level(entity: usize) -> usize {
+    entity / 16
+}
+
+pub fn is_root(entity: usize) -> bool {
+    entity.is_multiple_of(16)
+}
+
+pub fn is_keeper(role: usize) -> bool {
+    role.is_multiple_of(4)
+}
+
+/// The sixteen requests, by their numbers.
+const CALLS: [fn(&mut Tables, &Request) -> u8; 16] = [
+    Tables::login,
+    Tables::logout,
+    Tables::take,
+    Tables::drop,
+    Tables::openr,
+    Tables::openw,
+    Tables::close,
+    Tables::create,
+    Tables::delete,
+    Tables::rename,
+    Tables::grant,
+    Tables::revoke,
+    Tables::list,
+    Tables::unlist,
+    Tables::make,
+    Tables::unmake,
+];
+
+/// Takes the number of a table's row, or leaves the request with 2.
+macro_rules! row {
+    ($number:expr, $rows:expr) => {{
+        let number = $number as usize;
+        if number >= $rows {
+            return 2;
+        }
+        number
+    }};
+}
+
+fn label(grade: u32, cats: u32) -> Option<Label> {
+    (grade <= 3 && cats <= 255).then_some(Label {
+        grade: grade as u8,
+        cats: cats as u8,
+    })
+}
+
+fn name(number: u32) -> Option<u16> {
+    u16::try_from(number).ok().filter(|&name| name != 0)
+}
+
+fn rights(number: u32) -> Option<u8> {
+    (1..=15).contains(&number).then_some(number as u8)
+}
+
+impl Tables {
+    /// Fresh tables over the users, with answer 0, or over sixteen users
+    /// without anything, with answer 2, when a number is out of range.
+    pub fn fresh(records: &[UserRecord; USERS]) -> (Tables, u8) {
+        let mut tables = Tables {
+            users: [User::default(); USERS],
+            seats: [Seat::default(); SEATS],
+            roles: [Role::EMPTY; ROLES],
+            entities: [Entity::default(); ENTITIES],
+        };
+        for level in 0..4 {
+            let root = 16 * level;
+            tables.entities[root] = Entity {
+                live: true,
+                kind: CONTAINER,
+                parent: root as u8,
+                ..Entity::default()
+            };
+            let keeper = &mut tables.roles[4 * level];
+            keeper.live = true;
+            keeper.users = 1;
+            keeper.rights[root] = READ | WRITE | EXECUTE | OWN;
+        }
+        let mut users = [User::default(); USERS];
+        for (user, record) in users.iter_mut().zip(records) {
+            match record.user() {
+                Some(read) => *user = read,
+                None => return (tables, 2),
+            }
+        }
+        tables.users = users;
+        (tables, 0)
+    }
+
+    /// Answers a request and does it when the answer is 0. The tables are
+    /// tested first; unsound ones give 1.
+    #[inline(never)]
+    pub fn step(&mut self, r: &Request) -> u8 {
+        if !self.is_sound() {
+            return 1;
+        }
+        self.act(r)
+    }
+
+    /// As `step`, for tables that the caller knows to be sound: they are not
+    /// tested, and on others nothing is promised.
+    #[inline]
+    pub fn act(&mut self, r: &Request) -> u8 {
+        match CALLS.get(r.call as usize) {
+            Some(call) => call(self, r),
+            None => 2,
+        }
+    }
+
+    fn login(&mut self, r: &Request) -> u8 {
+        let x = row!(r.seat, SEATS);
+        let u = row!(r.user, USERS);
+        let Some(label) = label(r.level, r.cats) else {
+            return 2;
+        };
+        let user = self.users[u];
+        if self.seats[x].live {
+            return 3;
+        }
+        if usize::from(user.ceiling) < level(x) || !user.clearance.dominates(label) {
+            return 4;
+        }
+        self.seats[x] = Seat {
+            live: true,
+            user: u as u8,
+            label,
+            ..Seat::default()
+        };
+        0
+    }
+
+    fn logout(&mut self, r: &Request) -> u8 {
+        let x = row!(r.seat, SEATS);
+        if !self.seats[x].live {
+            return 5;
+        }
+        self.seats[x] = Seat::default();
+        0
+    }
+
+    fn take(&mut self, r: &Request) -> u8 {
+        let seat = &mut self.seats[row!(r.seat, SEATS)];
+        let p = row!(r.role, ROLES);
+        let role = &self.roles[p];
+        if !seat.live {
+            return 5;
+        }
+        if !role.live {
+            return 7;
+        }
+        if role.users >> (seat.user & 15) & 1 == 0 {
+            return 12;
+        }
+        if seat.roles >> p & 1 != 0 {
+            return 16;
+        }
+        seat.roles |= 1 << p;
+        0
+    }
+
+    fn drop(&mut self, r: &Request) -> u8 {
+        let seat = &mut self.seats[row!(r.seat, SEATS)];
+        let p = row!(r.role, ROLES);
+        if !seat.live {
+            return 5;
+        }
+        if !self.roles[p].live {
+            return 7;
+        }
+        if seat.roles >> p & 1 == 0 {
+            return 16;
+        }
+        seat.roles &= !(1 << p);
+        0
+    }
+
+    fn openr(&mut self, r: &Request) -> u8 {
+        let x = row!(r.seat, SEATS);
+        let e = row!(r.entity, ENTITIES);
+        let (seat, entity) = (&self.seats[x], &self.entities[e]);
+        if !seat.live {
+            return 5;
+        }
+        if !entity.live {
+            return 7;
+        }
+        if entity_level(e) < level(x) {
+            return 10;
+        }
+        if !seat.label.dominates(entity.label) {
+            return 11;
+        }
+        if !self.has(seat.roles, READ, e) || !self.reaches(seat.roles, e) {
+            return 13;
+        }
+        if seat.reading >> e & 1 != 0 {
+            return 16;
+        }
+        self.seats[x].reading |= 1 << e;
+        0
+    }
+
+    fn openw(&mut self, r: &Request) -> u8 {
+        let x = row!(r.seat, SEATS);
+        let e = row!(r.entity, ENTITIES);
+        let (seat, entity) = (&self.seats[x], &self.entities[e]);
+        if !seat.live {
+            return 5;
+        }
+        if !entity.live {
+            return 7;
+        }
+        if level(x) < entity_level(e) {
+            return 10;
+        }
+        if seat.label != entity.label {
+            return 11;
+        }
+        if !self.has(seat.roles, WRITE, e) || !self.reaches(seat.roles, e) {
+            return 13;
+        }
+        if seat.writing >> e & 1 != 0 {
+            return 16;
+        }
+        self.seats[x].writing |= 1 << e;
+        0
+    }
+
+    fn close(&mut self, r: &Request) -> u8 {
+        let seat = &mut self.seats[row!(r.seat, SEATS)];
+        let e = row!(r.entity, ENTITIES);
+        if !seat.live {
+            return 5;
+        }
+        if !self.entities[e].live {
+            return 7;
+        }
+        if (seat.reading | seat.writing) >> e & 1 == 0 {
+            return 16;
+        }
+        seat.reading &= !(1 << e);
+        seat.writing &= !(1 << e);
+        0
+    }
+
+    fn create(&mut self, r: &Request) -> u8 {
+        let seat = &self.seats[row!(r.seat, SEATS)];
+        let e = row!(r.entity, ENTITIES);
+        let d = row!(r.parent, ENTITIES);
+        let p = row!(r.role, ROLES);
+        let (Some(name), Some(label)) = (name(r.name), label(r.level, r.cats)) else {
+            return 2;
+        };
+        if r.kind > 1 {
+            return 2;
+        }
+        let parent = &self.entities[d];
+        if !seat.live {
+            return 5;
+        }
+        if !parent.live || !self.roles[p].live {
+            return 7;
+        }
+        if self.entities[e].live {
+            return 8;
+        }
+        if parent.kind != CONTAINER {
+            return 9;
+        }
+        if entity_level(e) != entity_level(d) || level(p) < entity_level(e) {
+            return 10;
+        }
+        if !label.dominates(parent.label) {
+            return 11;
+        }
+        if seat.roles >> p & 1 == 0 {
+            return 12;
+        }
+        if !self.may_change(seat, d) {
+            return 13;
+        }
+        if self.has_child_named(d, name) {
+            return 14;
+        }
+        self.entities[e] = Entity {
+            live: true,
+            kind: r.kind as u8,
+            parent: d as u8,
+            name,
+            label,
+        };
+        self.roles[p].rights[e] = OWN;
+        0
+    }
+
+    fn delete(&mut self, r: &Request) -> u8 {
+        let seat = &self.seats[row!(r.seat, SEATS)];
+        let e = row!(r.entity, ENTITIES);
+        let entity = &self.entities[e];
+        if !seat.live {
+            return 5;
+        }
+        if is_root(e) {
+            return 6;
+        }
+        if !entity.live {
+            return 7;
+        }
+        if !self.may_change(seat, usize::from(entity.parent)) {
+            return 13;
+        }
+        if self.has_child(e) {
+            return 15;
+        }
+        self.entities[e] = Entity::default();
+        for role in &mut self.roles {
+            role.rights[e] = 0;
+        }
+        for seat in &mut self.seats {
+            seat.reading &= !(1 << e);
+            seat.writing &= !(1 << e);
+        }
+        0
+    }
+
+    fn rename(&mut self, r: &Request) -> u8 {
+        let seat = &self.seats[row!(r.seat, SEATS)];
+        let e = row!(r.entity, ENTITIES);
+        let Some(name) = name(r.name) else {
+            return 2;
+        };
+        let entity = &self.entities[e];
+        let parent = usize::from(entity.parent);
+        if !seat.live {
+            return 5;
+        }
+        if is_root(e) {
+            return 6;
+        }
+        if !entity.live {
+            return 7;
+        }
+        if !self.may_change(seat, parent) {
+            return 13;
+        }
+        if self.has_child_named(parent, name) {
+            return 14;
+        }
+        self.entities[e].name = name;
+        0
+    }
+
+    fn grant(&mut self, r: &Request) -> u8 {
+        self.regrant(r, |held, named| held | named)
+    }
+
+    fn revoke(&mut self, r: &Request) -> u8 {
+        self.regrant(r, |held, named| held & !named)
+    }
+
+    #[inline]
+    fn regrant(&mut self, r: &Request, change: impl Fn(u8, u8) -> u8) -> u8 {
+        let x = row!(r.seat, SEATS);
+        let p = row!(r.role, ROLES);
+        let e = row!(r.entity, ENTITIES);
+        let Some(rights) = rights(r.rights) else {
+            return 2;
+        };
+        let seat = &self.seats[x];
+        if !seat.live {
+            return 5;
+        }
+        if !self.roles[p].live || !self.entities[e].live {
+            return 7;
+        }
+        if level(x) < entity_level(e) || level(p) < entity_level(e) {
+            return 10;
+        }
+        if !self.has(seat.roles, OWN, e) {
+            return 13;
+        }
+        let held = &mut self.roles[p].rights[e];
+        *held = change(*held, rights);
+        0
+    }
+
+    fn list(&mut self, r: &Request) -> u8 {
+        self.relist(r, true)
+    }
+
+    fn unlist(&mut self, r: &Request) -> u8 {
+        self.relist(r, false)
+    }
+
+    #[inline]
+    fn relist(&mut self, r: &Request, listed: bool) -> u8 {
+        let x = row!(r.seat, SEATS);
+        let p = row!(r.role, ROLES);
+        let u = row!(r.user, USERS);
+        let (seat, role) = (&self.seats[x], &mut self.roles[p]);
+        if !seat.live {
+            return 5;
+        }
+        if !role.live {
+            return 7;
+        }
+        if level(x) < level(p) {
+            return 10;
+        }
+        if !holds_keeper_of(seat, p) {
+            return 12;
+        }
+        if (role.users >> u & 1 != 0) == listed {
+            return 16;
+        }
+        role.users ^= 1 << u;
+        0
+    }
+
+    fn make(&mut self, r: &Request) -> u8 {
+        let x = row!(r.seat, SEATS);
+        let p = row!(r.role, ROLES);
+        let (seat, role) = (&self.seats[x], &mut self.roles[p]);
+        if !seat.live {
+            return 5;
+        }
+        if role.live {
+            return 8;
+        }
+        if level(x) < level(p) {
+            return 10;
+        }
+        if !holds_keeper_of(seat, p) {
+            return 12;
+        }
+        role.live = true;
+        0
+    }
+
+    fn unmake(&mut self, r: &Request) -> u8 {
+        let x = row!(r.seat, SEATS);
+        let p = row!(r.role, ROLES);
+        let (seat, role) = (&self.seats[x], &mut self.roles[p]);
+        if !seat.live {
+            return 5;
+        }
+        if is_keeper(p) {
+            return 6;
+        }
+        if !role.live {
+            return 7;
+        }
+        if level(x) < level(p) {
+            return 10;
+        }
+        if !holds_keeper_of(seat, p) {
+            return 12;
+        }
+        *role = Role::EMPTY;
+        for seat in &mut self.seats {
+            seat.roles &= !(1 << p);
+        }
+        0
+    }
+
+    /// Whether one of the roles, of at least the entity's level, has the right.
+    #[inline]
+    fn has(&self, roles: u16, right: u8, e: usize) -> bool {
+        let mut left = roles & (u16::MAX << (4 * entity_level(e)));
+        while left != 0 {
+            let p = left.trailing_zeros() as usize;
+            if self.roles[p].rights[e] & right != 0 {
+                return true;
+            }
+            left &= left - 1;
+        }
+        false
+    }
+
+    /// Whether the roles have execute on every container above the entity.
+    #[inline]
+    fn reaches(&self, roles: u16, e: usize) -> bool {
+        let mut at = e;
+        while !is_root(at) {
+            at = usize::from(self.entities[at].parent);
+            if !self.has(roles, EXECUTE, at) {
+                return false;
+            }
+        }
+        true
+    }
+
+    /// What create, delete and rename ask of the seat at the parent.
+    #[inline]
+    fn may_change(&self, seat: &Seat, parent: usize) -> bool {
+        seat.writing >> parent & 1 != 0 && self.has(seat.roles, EXECUTE, parent)
+    }
+
+    /// The entities of the parent's level; its children are among them.
+    #[inline]
+    fn level_of(&self, parent: usize) -> &[Entity] {
+        let root = parent / 16 * 16;
+        &self.entities[root..root + 16]
+    }
+
+    /// Roots and dead entities have name 0, which is nobody's to ask for.
+    #[inline]
+    fn has_child_named(&self, parent: usize, name: u16) -> bool {
+        self.level_of(parent)
+            .iter()
+            .any(|c| c.name == name && usize::from(c.parent) == parent)
+    }
+
+    /// For an entity that is no root. Dead entities have parent 0, a root.
+    #[inline]
+    fn has_child(&self, e: usize) -> bool {
+        self.level_of(e).iter().any(|c| usize::from(c.parent) == e)
+    }
+
+    pub fn is_sound(&self) -> bool {
+        self.users_are_sound()
+            && self.entities_are_sound()
+            && self.roles_are_sound()
+            && self.seats_are_sound()
+    }
+
+    fn users_are_sound(&self) -> bool {
+        self.users
+            .iter()
+            .all(|user| user.ceiling <= 3 && user.clearance.grade <= 3)
+    }
+
+    fn entities_are_sound(&self) -> bool {
+        (0..ENTITIES)
+            .step_by(16)
+            .all(|root| self.is_sound_level(root))
+    }
+
+    /// Whether the entities of a root's level are sound.
+    fn is_sound_level(&self, root: usize) -> bool {
+        let entities = &self.entities[root..root + 16];
+        let sound_root = Entity {
+            live: true,
+            kind: CONTAINER,
+            parent: root as u8,
+            ..Entity::default()
+        };
+        // Siblings of one name have one key.
+        let key = |entity: &Entity| u32::from(entity.parent) << 16 | u32::from(entity.name);
+        let keys: [u32; 16] = std::array::from_fn(|place| key(&entities[place]));
+        entities[0] == sound_root
+            && (1..16).all(|place| {
+                let entity = &entities[place];
+                if entity.live {
+                    self.is_sound_entity(root + place, entity)
+                        && !keys[place + 1..].contains(&keys[place])
+                } else {
+                    *entity == Entity::default()
+                }
+            })
+    }
+
+    /// For a live entity that is no root; whether its name is its own is tested
+    /// elsewhere.
+    fn is_sound_entity(&self, e: usize, entity: &Entity) -> bool {
+        let d = usize::from(entity.parent);
+        if entity.kind > 1 || entity.label.grade > 3 || entity.name == 0 || d >= ENTITIES {
+            return false;
+        }
+        let parent = &self.entities[d];
+        parent.live
+            && parent.kind == CONTAINER
+            && entity_level(e) == entity_level(d)
+            && entity.label.dominates(parent.label)
+            && self.is_below_root(e)
+    }
+
+    /// Whether the chain of parents ends at a root. A level has sixteen
+    /// entities, so that a longer chain is a ring.
+    fn is_below_root(&self, e: usize) -> bool {
+        let mut at = e;
+        for _ in 0..16 {
+            if is_root(at) {
+                return true;
+            }
+            at = usize::from(self.entities[at].parent);
+            if at >= ENTITIES {
+                return false;
+            }
+        }
+        false
+    }
+
+    fn roles_are_sound(&self) -> bool {
+        let mut allowed = [0; ENTITIES];
+        for (allowed, entity) in allowed.iter_mut().zip(&self.entities) {
+            if entity.live {
+                *allowed = READ | WRITE | EXECUTE | OWN;
+            }
+        }
+        self.roles.iter().enumerate().all(|(p, role)| {
+            if !role.live {
+                return !is_keeper(p) && *role == Role::EMPTY;
+            }
+            let (up_to_level, above) = role.rights.split_at(16 * (level(p) + 1));
+            let excess = up_to_level
+                .iter()
+                .zip(&allowed)
+                .fold(0, |excess, (rights, allowed)| excess | rights & !allowed);
+            above.iter().fold(excess, |excess, rights| excess | rights) == 0
+        })
+    }
+
+    fn seats_are_sound(&self) -> bool {
+        let live_roles = self
+            .roles
+            .iter()
+            .enumerate()
+            .fold(0u16, |set, (p, role)| set | u16::from(role.live) << p);
+        self.seats.iter().enumerate().all(|(x, seat)| {
+            if !seat.live {
+                return *seat == Seat::default();
+            }
+            usize::from(seat.user) < USERS
+                && seat.label.grade <= 3
+                && seat.roles & !live_roles == 0
+                && members(seat.reading).all(|e| {
+                    let entity = &self.entities[e];
+                    entity.live && entity_level(e) >= level(x) && seat.label.dominates(entity.label)
+                })
+                && members(seat.writing).all(|e| {
+                    let entity = &self.entities[e];
+                    entity.live && entity_level(e) <= level(x) && seat.label == entity.label
+                })
+        })
+    }
+}
+
+fn holds_keeper_of(seat: &Seat, role: usize) -> bool {
+    seat.roles >> (4 * level(role)) & 1 != 0
+}
+
+/// The entities in a set.
+fn members(mut set: u64) -> impl Iterator<Item = usize> {
+    std::iter::from_fn(move || {
+        let e = (set != 0).then(|| set.trailing_zeros() as usize)?;
+        set &= set - 1;
+        Some(e)
+    })
+}

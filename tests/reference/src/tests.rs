@@ -1,0 +1,672 @@
+use crate::*;
+
+const NONE: UserRecord = UserRecord {
+    ceiling: 0,
+    level: 0,
+    cats: 0,
+};
+
+fn records(set: &[(usize, u32, u32, u32)]) -> [UserRecord; USERS] {
+    let mut records = [NONE; USERS];
+    for &(user, ceiling, level, cats) in set {
+        records[user] = UserRecord {
+            ceiling,
+            level,
+            cats,
+        };
+    }
+    records
+}
+
+/// Fresh tables over the users of the paper's morning.
+fn morning() -> Tables {
+    let (tables, answer) = Tables::fresh(&records(&[(0, 3, 3, 255), (1, 1, 1, 0)]));
+    assert_eq!(answer, 0);
+    tables
+}
+
+/// What a field that the request does not use is filled with: no range has it.
+const UNUSED: u32 = 77_777;
+
+fn of(call: u32, seat: u32) -> Request {
+    Request {
+        call,
+        seat,
+        user: UNUSED,
+        role: UNUSED,
+        entity: UNUSED,
+        parent: UNUSED,
+        kind: UNUSED,
+        name: UNUSED,
+        level: UNUSED,
+        cats: UNUSED,
+        rights: UNUSED,
+    }
+}
+
+fn login(seat: u32, user: u32, level: u32, cats: u32) -> Request {
+    Request {
+        user,
+        level,
+        cats,
+        ..of(call::LOGIN, seat)
+    }
+}
+
+fn logout(seat: u32) -> Request {
+    of(call::LOGOUT, seat)
+}
+
+fn with_role(call: u32, seat: u32, role: u32) -> Request {
+    Request {
+        role,
+        ..of(call, seat)
+    }
+}
+
+fn take(seat: u32, role: u32) -> Request {
+    with_role(call::TAKE, seat, role)
+}
+
+fn drop(seat: u32, role: u32) -> Request {
+    with_role(call::DROP, seat, role)
+}
+
+fn make(seat: u32, role: u32) -> Request {
+    with_role(call::MAKE, seat, role)
+}
+
+fn unmake(seat: u32, role: u32) -> Request {
+    with_role(call::UNMAKE, seat, role)
+}
+
+fn with_entity(call: u32, seat: u32, entity: u32) -> Request {
+    Request {
+        entity,
+        ..of(call, seat)
+    }
+}
+
+fn openr(seat: u32, entity: u32) -> Request {
+    with_entity(call::OPENR, seat, entity)
+}
+
+fn openw(seat: u32, entity: u32) -> Request {
+    with_entity(call::OPENW, seat, entity)
+}
+
+fn close(seat: u32, entity: u32) -> Request {
+    with_entity(call::CLOSE, seat, entity)
+}
+
+fn delete(seat: u32, entity: u32) -> Request {
+    with_entity(call::DELETE, seat, entity)
+}
+
+fn rename(seat: u32, entity: u32, name: u32) -> Request {
+    Request {
+        name,
+        ..with_entity(call::RENAME, seat, entity)
+    }
+}
+
+fn create(seat: u32, entity: u32, kind: u8, parent: u32, name: u32, role: u32) -> Request {
+    Request {
+        call: call::CREATE,
+        seat,
+        role,
+        entity,
+        parent,
+        kind: kind.into(),
+        name,
+        level: 0,
+        cats: 0,
+        ..of(call::CREATE, seat)
+    }
+}
+
+fn with_rights(call: u32, seat: u32, role: u32, entity: u32, rights: u32) -> Request {
+    Request {
+        role,
+        entity,
+        rights,
+        ..of(call, seat)
+    }
+}
+
+fn grant(seat: u32, role: u32, entity: u32, rights: u32) -> Request {
+    with_rights(call::GRANT, seat, role, entity, rights)
+}
+
+fn revoke(seat: u32, role: u32, entity: u32, rights: u32) -> Request {
+    with_rights(call::REVOKE, seat, role, entity, rights)
+}
+
+fn with_user(call: u32, seat: u32, role: u32, user: u32) -> Request {
+    Request {
+        role,
+        user,
+        ..of(call, seat)
+    }
+}
+
+fn list(seat: u32, role: u32, user: u32) -> Request {
+    with_user(call::LIST, seat, role, user)
+}
+
+fn unlist(seat: u32, role: u32, user: u32) -> Request {
+    with_user(call::UNLIST, seat, role, user)
+}
+
+/// Steps through the requests and asks for the answer of each; the tables stay
+/// sound, and a refusal leaves them as they were.
+#[track_caller]
+fn run(tables: &mut Tables, requests: &[(Request, u8)]) {
+    for (place, (request, answer)) in requests.iter().enumerate() {
+        let before = tables.clone();
+        let given = tables.step(request);
+        assert_eq!(given, *answer, "request {place}: {request:?}");
+        assert!(given == 0 || *tables == before, "request {place}");
+        assert!(tables.is_sound(), "request {place}");
+    }
+}
+
+/// The morning's tables with seat 12 (user 0, label 0/0) holding role 12 and
+/// having root 48 open for writing.
+fn at_work() -> Tables {
+    let mut tables = morning();
+    run(
+        &mut tables,
+        &[
+            (login(12, 0, 0, 0), 0),
+            (take(12, 12), 0),
+            (openw(12, 48), 0),
+        ],
+    );
+    tables
+}
+
+#[test]
+fn the_sample() {
+    let mut tables = Tables::fresh(&records(&[(0, 3, 3, 255)])).0;
+    run(
+        &mut tables,
+        &[
+            (login(12, 0, 0, 0), 0),
+            (take(12, 12), 0),
+            (openw(12, 48), 0),
+            (openw(12, 48), 16),
+            (logout(13), 5),
+        ],
+    );
+}
+
+#[test]
+fn one_morning() {
+    run(
+        &mut morning(),
+        &[
+            (login(12, 0, 0, 0), 0),
+            (login(13, 1, 0, 0), 4),
+            (login(4, 1, 0, 0), 0),
+            (take(12, 12), 0),
+            (take(4, 12), 12),
+            (openw(12, 48), 0),
+            (openr(4, 48), 13),
+            (openw(4, 48), 10),
+            (create(12, 49, OBJECT, 48, 7, 12), 0),
+            (create(12, 50, OBJECT, 48, 7, 12), 14),
+            (create(12, 33, OBJECT, 48, 7, 12), 10),
+            (delete(12, 48), 6),
+            (rename(12, 49, 7), 14),
+            (delete(12, 49), 0),
+        ],
+    );
+}
+
+#[test]
+fn edges() {
+    run(
+        &mut at_work(),
+        &[
+            (openr(12, 63), 7),
+            (openr(12, 64), 2),
+            (create(12, 63, OBJECT, 48, 65_535, 12), 0),
+            (create(12, 62, OBJECT, 48, 65_536, 12), 2),
+            (create(12, 62, OBJECT, 48, 0, 12), 2),
+            (create(12, 62, 2, 48, 1, 12), 2),
+            (create(12, 64, OBJECT, 48, 1, 12), 2),
+            (create(12, 62, OBJECT, 64, 1, 12), 2),
+            (create(12, 62, OBJECT, 48, 1, 16), 2),
+            (rename(12, 63, 65_536), 2),
+            (rename(12, 63, 0), 2),
+            (rename(12, 63, 1), 0),
+            (grant(12, 12, 63, 15), 0),
+            (grant(12, 12, 63, 16), 2),
+            (grant(12, 12, 63, 0), 2),
+            (revoke(12, 12, 63, 16), 2),
+            (login(13, 0, 3, 255), 0),
+            (login(14, 0, 4, 0), 2),
+            (login(14, 0, 0, 256), 2),
+            (login(14, 16, 0, 0), 2),
+            (login(16, 0, 0, 0), 2),
+            (take(15, 15), 5),
+            (take(12, 15), 7),
+            (take(12, 16), 2),
+            (list(12, 12, 15), 0),
+            (list(12, 12, 16), 2),
+            (of(16, 12), 2),
+            (of(u32::MAX, 12), 2),
+            (logout(u32::MAX), 2),
+            // A number out of range comes before a dead seat.
+            (openr(0, 64), 2),
+        ],
+    );
+}
+
+#[test]
+fn fresh_tables() {
+    let (tables, answer) = Tables::fresh(&records(&[(15, 3, 3, 255)]));
+    assert_eq!(answer, 0);
+    assert!(tables.is_sound());
+    assert_eq!(tables.users[15].ceiling, 3);
+    for (r, role) in tables.roles.iter().enumerate() {
+        assert_eq!(role.live, r % 4 == 0);
+        assert_eq!(role.users, u16::from(r % 4 == 0));
+        for (e, rights) in role.rights.iter().enumerate() {
+            let own_root = r % 4 == 0 && e == r * 4;
+            assert_eq!(*rights, if own_root { 15 } else { 0 });
+        }
+    }
+    let empty = Tables::fresh(&[NONE; USERS]);
+    assert_eq!(empty.1, 0);
+    for past in [(3, 4, 0, 0), (3, 0, 4, 0), (3, 0, 0, 256)] {
+        let (tables, answer) = Tables::fresh(&records(&[(0, 3, 3, 255), past]));
+        assert_eq!(answer, 2);
+        assert_eq!(tables, empty.0);
+    }
+}
+
+#[test]
+fn categories_are_sets() {
+    let (mut tables, _) = Tables::fresh(&records(&[(0, 3, 3, 4), (1, 3, 3, 7)]));
+    run(
+        &mut tables,
+        &[
+            (login(12, 0, 0, 3), 4),
+            (login(12, 1, 0, 3), 0),
+            (login(13, 1, 3, 4), 0),
+        ],
+    );
+}
+
+#[test]
+fn no_right_for_a_role_below_the_entity() {
+    let mut tables = at_work();
+    run(
+        &mut tables,
+        &[
+            (grant(12, 8, 48, 1), 10),
+            (revoke(12, 8, 48, 1), 10),
+            (grant(12, 12, 48, 1), 0),
+        ],
+    );
+    // A role above the entity may have rights on it.
+    run(
+        &mut tables,
+        &[(take(12, 0), 0), (grant(12, 12, 0, 5), 0), (drop(12, 0), 0)],
+    );
+    assert_eq!(tables.roles[12].rights[0], 5);
+}
+
+#[test]
+fn the_level_is_the_seat_s() {
+    // User 0 has ceiling 3, but its seat 0 has level 0.
+    let mut tables = morning();
+    run(
+        &mut tables,
+        &[
+            (login(0, 0, 0, 0), 0),
+            (take(0, 12), 0),
+            (openw(0, 48), 10),
+            (grant(0, 12, 48, 1), 10),
+            (make(0, 13), 10),
+            (list(0, 12, 1), 10),
+            (openr(0, 48), 0),
+            (login(12, 0, 0, 0), 0),
+            (take(12, 0), 0),
+            (openr(12, 0), 10),
+            (openw(12, 0), 0),
+        ],
+    );
+}
+
+#[test]
+fn a_deleted_number_keeps_no_rights_and_no_opens() {
+    let mut tables = at_work();
+    run(
+        &mut tables,
+        &[
+            (create(12, 49, OBJECT, 48, 7, 12), 0),
+            (grant(12, 12, 49, 3), 0),
+            (openr(12, 49), 0),
+            (openw(12, 49), 0),
+            (delete(12, 49), 0),
+            (openr(12, 49), 7),
+            (close(12, 49), 7),
+            (create(12, 49, OBJECT, 48, 8, 12), 0),
+            (openr(12, 49), 13),
+            (close(12, 49), 16),
+        ],
+    );
+    assert_eq!(tables.roles[12].rights[49], OWN);
+}
+
+#[test]
+fn a_rename_to_the_present_name() {
+    run(
+        &mut at_work(),
+        &[
+            (create(12, 49, OBJECT, 48, 7, 12), 0),
+            (create(12, 50, OBJECT, 48, 8, 12), 0),
+            (rename(12, 49, 7), 14),
+            (rename(12, 49, 8), 14),
+            (rename(12, 49, 9), 0),
+            (rename(12, 50, 7), 0),
+        ],
+    );
+}
+
+#[test]
+fn containers() {
+    let mut tables = at_work();
+    run(
+        &mut tables,
+        &[
+            (create(12, 49, CONTAINER, 48, 1, 12), 0),
+            (create(12, 50, OBJECT, 49, 1, 12), 13),
+            (openw(12, 49), 13),
+            (grant(12, 12, 49, 2), 0),
+            (openw(12, 49), 0),
+            (create(12, 50, OBJECT, 49, 1, 12), 13),
+            (grant(12, 12, 49, 4), 0),
+            (create(12, 50, OBJECT, 49, 1, 12), 0),
+            (create(12, 51, OBJECT, 50, 1, 12), 9),
+            (create(12, 51, OBJECT, 51, 1, 12), 7),
+            (create(12, 50, OBJECT, 49, 1, 12), 8),
+            (create(12, 51, OBJECT, 48, 2, 13), 7),
+            (create(12, 51, OBJECT, 48, 2, 8), 10),
+            (make(12, 13), 0),
+            (create(12, 51, OBJECT, 48, 2, 13), 12),
+            (delete(12, 49), 15),
+            (grant(12, 12, 50, 3), 0),
+            (openr(12, 50), 0),
+            (revoke(12, 12, 49, 4), 0),
+            // Open still, but out of reach.
+            (openr(12, 50), 13),
+            (openw(12, 50), 13),
+            (delete(12, 50), 13),
+            (grant(12, 12, 49, 4), 0),
+            (openr(12, 50), 16),
+            (delete(12, 50), 0),
+            (delete(12, 49), 0),
+            (close(12, 49), 7),
+        ],
+    );
+}
+
+#[test]
+fn different_roles_may_carry_one_chain() {
+    let mut tables = at_work();
+    run(
+        &mut tables,
+        &[
+            (create(12, 49, CONTAINER, 48, 1, 12), 0),
+            (grant(12, 12, 49, 6), 0),
+            (openw(12, 49), 0),
+            (create(12, 50, OBJECT, 49, 1, 12), 0),
+            (make(12, 13), 0),
+            (make(12, 14), 0),
+            (list(12, 13, 0), 0),
+            (list(12, 14, 0), 0),
+            (grant(12, 13, 48, 4), 0),
+            (grant(12, 14, 49, 4), 0),
+            (grant(12, 13, 50, 1), 0),
+            (login(0, 0, 0, 0), 0),
+            (take(0, 13), 0),
+            (openr(0, 50), 13),
+            (take(0, 14), 0),
+            (openr(0, 50), 0),
+            (drop(0, 13), 0),
+            (drop(0, 13), 16),
+            (close(0, 50), 0),
+            (close(0, 50), 16),
+            (openr(0, 50), 13),
+        ],
+    );
+}
+
+#[test]
+fn labels() {
+    let mut tables = at_work();
+    let labelled = |entity, parent, level, cats| Request {
+        level,
+        cats,
+        ..create(12, entity, CONTAINER, parent, entity, 12)
+    };
+    run(
+        &mut tables,
+        &[
+            (labelled(49, 48, 1, 3), 0),
+            (labelled(50, 49, 3, 4), 11),
+            (labelled(50, 49, 0, 3), 11),
+            (labelled(50, 49, 1, 7), 13),
+            (grant(12, 12, 49, 7), 0),
+            (openr(12, 49), 11),
+            (openw(12, 49), 11),
+            (login(13, 0, 3, 255), 0),
+            (take(13, 12), 0),
+            (openr(13, 49), 0),
+            (openw(13, 49), 11),
+            (login(14, 0, 1, 3), 0),
+            (take(14, 12), 0),
+            (openw(14, 49), 0),
+            (openr(14, 49), 0),
+            (close(14, 49), 0),
+        ],
+    );
+}
+
+#[test]
+fn roles() {
+    let mut tables = at_work();
+    run(
+        &mut tables,
+        &[
+            (make(12, 12), 8),
+            (make(12, 13), 0),
+            (make(12, 13), 8),
+            (make(12, 9), 12),
+            (take(12, 13), 12),
+            (list(12, 13, 0), 0),
+            (list(12, 13, 0), 16),
+            (take(12, 13), 0),
+            (take(12, 13), 16),
+            (unlist(12, 13, 0), 0),
+            (unlist(12, 13, 0), 16),
+            // Held and no longer listed.
+            (take(12, 13), 12),
+            (grant(12, 13, 48, 15), 0),
+            (unmake(12, 12), 6),
+            (unmake(12, 14), 7),
+            (unmake(12, 13), 0),
+            (drop(12, 13), 7),
+            (make(12, 13), 0),
+            (drop(12, 13), 16),
+            (list(12, 14, 0), 7),
+            (list(12, 8, 0), 12),
+            (drop(12, 12), 0),
+            (unmake(12, 13), 12),
+            // What is open stays open without the role.
+            (openw(12, 48), 13),
+            (close(12, 48), 0),
+            (logout(12), 0),
+            (logout(12), 5),
+        ],
+    );
+    assert_eq!(
+        tables.roles[13],
+        Role {
+            live: true,
+            ..Role::EMPTY
+        }
+    );
+    assert_eq!(tables.seats[12], Seat::default());
+}
+
+#[test]
+fn a_level_can_lock_itself_out() {
+    run(
+        &mut at_work(),
+        &[
+            (revoke(12, 12, 48, 8), 0),
+            (revoke(12, 12, 48, 8), 13),
+            (unlist(12, 12, 0), 0),
+            (logout(12), 0),
+            (login(12, 0, 0, 0), 0),
+            (take(12, 12), 12),
+        ],
+    );
+}
+
+/// Tables in which each kind of record is there.
+fn full() -> Tables {
+    let mut tables = at_work();
+    run(
+        &mut tables,
+        &[
+            (create(12, 49, CONTAINER, 48, 1, 12), 0),
+            (grant(12, 12, 49, 7), 0),
+            (openw(12, 49), 0),
+            (openr(12, 49), 0),
+            (create(12, 50, CONTAINER, 49, 1, 12), 0),
+            (create(12, 51, OBJECT, 49, 2, 12), 0),
+            (make(12, 13), 0),
+            (list(12, 13, 0), 0),
+            (take(12, 13), 0),
+        ],
+    );
+    tables
+}
+
+#[test]
+fn unsound_tables_give_1() {
+    let changes: &[fn(&mut Tables)] = &[
+        |t| t.users[5].ceiling = 4,
+        |t| t.users[5].clearance.grade = 4,
+        // Roots and keepers.
+        |t| t.entities[16] = Entity::default(),
+        |t| t.entities[16].live = false,
+        |t| t.entities[16].kind = OBJECT,
+        |t| t.entities[16].name = 1,
+        |t| t.entities[16].parent = 0,
+        |t| t.entities[16].label.grade = 1,
+        |t| t.entities[16].label.cats = 1,
+        |t| t.roles[4] = Role::EMPTY,
+        // Live entities.
+        |t| t.entities[51].kind = 2,
+        |t| t.entities[51].name = 0,
+        |t| t.entities[51].parent = 64,
+        |t| t.entities[51].parent = 255,
+        |t| t.entities[51].parent = 32,
+        |t| t.entities[51].parent = 52,
+        |t| t.entities[50].parent = 51,
+        |t| t.entities[51].name = 1,
+        |t| t.entities[51].label.grade = 4,
+        |t| t.entities[49].label.cats = 1,
+        |t| t.entities[49].parent = 50,
+        |t| t.entities[50].parent = 50,
+        // Records that are not live.
+        |t| t.entities[1].kind = 1,
+        |t| t.entities[1].name = 1,
+        |t| t.entities[1].parent = 16,
+        |t| t.entities[1].label.cats = 1,
+        |t| t.entities[1].label.grade = 1,
+        |t| t.roles[1].users = 1,
+        |t| t.roles[1].rights[0] = 1,
+        |t| t.seats[0].user = 1,
+        |t| t.seats[0].label.grade = 1,
+        |t| t.seats[0].label.cats = 1,
+        |t| t.seats[0].roles = 1,
+        |t| t.seats[0].reading = 1,
+        |t| t.seats[0].writing = 1,
+        // Rights.
+        |t| t.roles[12].rights[48] = 16,
+        |t| t.roles[12].rights[52] = 1,
+        |t| t.roles[8].rights[48] = 1,
+        // Seats.
+        |t| t.seats[12].user = 16,
+        |t| t.seats[12].label.grade = 4,
+        |t| t.seats[12].roles |= 1 << 1,
+        |t| t.seats[12].reading |= 1 << 52,
+        |t| t.seats[12].writing |= 1 << 52,
+        |t| t.seats[12].reading |= 1 << 32,
+        |t| {
+            t.seats[8] = Seat {
+                live: true,
+                writing: 1 << 48,
+                ..Seat::default()
+            }
+        },
+        |t| t.seats[12].label.cats = 1,
+        |t| {
+            t.entities[51].label.cats = 1;
+            t.seats[12].reading |= 1 << 51;
+        },
+        |t| {
+            t.entities[51].label.cats = 1;
+            t.seats[12].writing |= 1 << 51;
+        },
+    ];
+    let tables = full();
+    for (place, change) in changes.iter().enumerate() {
+        let mut changed = tables.clone();
+        change(&mut changed);
+        let before = changed.clone();
+        for request in [logout(12), logout(16), of(16, 0)] {
+            assert_eq!(changed.step(&request), 1, "change {place}");
+        }
+        assert_eq!(changed, before);
+    }
+}
+
+#[test]
+fn what_soundness_does_not_ask() {
+    let changes: &[fn(&mut Tables)] = &[
+        |t| t.roles[12].users = 0,
+        |t| t.roles[12].rights = [0; ENTITIES],
+        |t| t.users[0] = User::default(),
+        |t| {
+            t.entities[51].label = Label {
+                grade: 3,
+                cats: 255,
+            }
+        },
+        |t| t.roles[12].rights[0] = 15,
+        |t| t.seats[12].writing |= 1,
+        |t| {
+            t.seats[0] = Seat {
+                live: true,
+                roles: 1 << 12,
+                reading: 1 << 48,
+                ..Seat::default()
+            }
+        },
+    ];
+    for (place, change) in changes.iter().enumerate() {
+        let mut changed = full();
+        change(&mut changed);
+        assert!(changed.is_sound(), "change {place}");
+        assert_eq!(changed.step(&logout(12)), 0);
+    }
+}

@@ -1,0 +1,332 @@
+//! Runs the request program and matches what it prints.
+
+use std::io::Write;
+use std::process::{Command, Stdio};
+use std::thread;
+
+const NAMES: &str = "call seat user role entity parent kind name level cats rights ceiling";
+
+fn run_with(words: &[&str], input: &[u8]) -> String {
+    let mut program = Command::new(env!("CARGO_BIN_EXE_reference"))
+        .args(words)
+        .stdin(Stdio::piped())
+        .stdout(Stdio::piped())
+        .spawn()
+        .unwrap();
+    let mut stdin = program.stdin.take().unwrap();
+    let input = input.to_vec();
+    // The program may stop before it has read everything.
+    let writer = thread::spawn(move || drop(stdin.write_all(&input)));
+    let output = program.wait_with_output().unwrap();
+    writer.join().unwrap();
+    assert!(output.status.success());
+    String::from_utf8(output.stdout).unwrap()
+}
+
+fn run(input: &[u8]) -> String {
+    let output = run_with(&[], input);
+    assert_eq!(output, run_with(&["--test-each"], input));
+    output
+}
+
+/// The answers to the lines below the usual names line.
+fn answers(lines: &[&str]) -> Vec<u8> {
+    let input = format!("{NAMES}\n{}\n", lines.join("\n"));
+    let output = run(input.as_bytes());
+    let mut rows = output.strip_suffix('\n').unwrap().split('\n');
+    assert_eq!(rows.next(), Some("line answer"));
+    rows.enumerate()
+        .map(|(place, row)| {
+            let (line, answer) = row.split_once(' ').unwrap();
+            assert_eq!(line, (place + 2).to_string());
+            answer.parse().unwrap()
+        })
+        .collect()
+}
+
+#[track_caller]
+fn check(lines: &[(&str, u8)]) {
+    let (texts, expected): (Vec<&str>, Vec<u8>) = lines.iter().copied().unzip();
+    assert_eq!(answers(&texts), expected);
+}
+
+const BAD_START: &str = "line answer\n1 17\n";
+
+#[test]
+fn the_sample() {
+    let input = "\
+call seat user role entity parent kind name level cats rights ceiling
+user - 0 - - - - - 3 255 - 3
+login 12 0 - - - - - 0 0 - -
+take 12 - 12 - - - - - - - -
+openw 12 - - 48 - - - - - - -
+openw 12 - - 48 - - - - - - -
+logout 13 - - - - - - - - - -
+";
+    let output = "line answer\n2 0\n3 0\n4 0\n5 0\n6 16\n7 5\n";
+    assert_eq!(run(input.as_bytes()), output);
+    assert_eq!(run(input.trim_end().as_bytes()), output);
+}
+
+#[test]
+fn one_morning() {
+    check(&[
+        ("user - 0 - - - - - 3 255 - 3", 0),
+        ("user - 1 - - - - - 1 0 - 1", 0),
+        ("login 12 0 - - - - - 0 0 - -", 0),
+        ("login 13 1 - - - - - 0 0 - -", 4),
+        ("login 4 1 - - - - - 0 0 - -", 0),
+        ("take 12 - 12 - - - - - - - -", 0),
+        ("take 4 - 12 - - - - - - - -", 12),
+        ("openw 12 - - 48 - - - - - - -", 0),
+        ("openr 4 - - 48 - - - - - - -", 13),
+        ("openw 4 - - 48 - - - - - - -", 10),
+        ("create 12 - 12 49 48 0 7 0 0 - -", 0),
+        ("create 12 - 12 50 48 0 7 0 0 - -", 14),
+        ("create 12 - 12 33 48 0 7 0 0 - -", 10),
+        ("delete 12 - - 48 - - - - - - -", 6),
+        ("rename 12 - - 49 - - 7 - - - -", 14),
+        ("delete 12 - - 49 - - - - - - -", 0),
+    ]);
+}
+
+#[test]
+fn edges() {
+    check(&[
+        ("user - 0 - - - - - 3 255 - 3", 0),
+        ("login 12 0 - - - - - 4 0 - -", 2),
+        ("login 12 0 - - - - - 3 256 - -", 2),
+        ("login 12 0 - - - - - 00000 00000 - -", 0),
+        ("login 00013 00000 - - - - - 3 255 - -", 0),
+        ("login 000013 0 - - - - - 3 255 - -", 17),
+        ("take 12 - 12 - - - - - - - -", 0),
+        ("openw 12 - - 48 - - - - - - -", 0),
+        ("openr 12 - - 63 - - - - - - -", 7),
+        ("openr 12 - - 64 - - - - - - -", 2),
+        ("create 12 - 12 49 48 0 65535 0 0 - -", 0),
+        ("create 12 - 12 50 48 0 65536 0 0 - -", 2),
+        ("create 12 - 12 50 48 0 99999 0 0 - -", 2),
+        ("create 12 - 12 50 48 0 100000 0 0 - -", 17),
+        ("create 12 - 12 50 48 0 0 0 0 - -", 2),
+        ("create 12 - 12 50 48 2 1 0 0 - -", 2),
+        ("grant 12 - 12 49 - - - - - 15 -", 0),
+        ("grant 12 - 12 49 - - - - - 16 -", 2),
+        ("grant 12 - 12 49 - - - - - 0 -", 2),
+        ("revoke 12 - 12 49 - - - - - 8 -", 0),
+        ("revoke 12 - 12 49 - - - - - 1 -", 13),
+        ("close 12 - - 48 - - - - - - -", 0),
+        ("list 12 1 12 - - - - - - - -", 0),
+        ("unlist 12 1 12 - - - - - - - -", 0),
+        ("make 12 - 13 - - - - - - - -", 0),
+        ("unmake 12 - 13 - - - - - - - -", 0),
+        ("drop 12 - 12 - - - - - - - -", 0),
+        ("logout 12 - - - - - - - - - -", 0),
+    ]);
+}
+
+#[test]
+fn faults() {
+    let long = "9".repeat(300);
+    let edge = format!("logout 1 - - - - - - - - - {}", "-".repeat(255 - 26));
+    for line in [
+        "",
+        " ",
+        "logout",
+        "logout 12",
+        "logout 12 - - - - - - - - -",
+        "logout 12 - - - - - - - - - - -",
+        "logout 12 - - - - - - - - - - ",
+        " logout 12 - - - - - - - - - -",
+        "logout  12 - - - - - - - - - -",
+        "logout 12 - - - - - - - - -  -",
+        "logout 12 - - - - - - - - - -\r",
+        "logout\t12 - - - - - - - - - -",
+        "logout 12 - - - - - - - - - --",
+        "logout 12 - - - - - - - - - -0",
+        "logout -1 - - - - - - - - - -",
+        "logout +1 - - - - - - - - - -",
+        "logout 1a - - - - - - - - - -",
+        "logout 0x1 - - - - - - - - - -",
+        "logout a - - - - - - - - - -",
+        "logout / - - - - - - - - - -",
+        "logout : - - - - - - - - - -",
+        "logout 1. - - - - - - - - - -",
+        "logout 000001 - - - - - - - - - -",
+        "logout - - - - - - - - - - -",
+        "logout 12 0 - - - - - - - - -",
+        "logout 99 0 - - - - - - - - -",
+        "logout 12 - - - - - - - - - 0",
+        "login 12 0 - - - - - 0 - - -",
+        "login 12 0 - - - - - 0 0 - 0",
+        "Logout 12 - - - - - - - - - -",
+        "logou 12 - - - - - - - - - -",
+        "logouts 12 - - - - - - - - - -",
+        "logout1 12 - - - - - - - - - -",
+        "1 12 - - - - - - - - - -",
+        "- 12 - - - - - - - - - -",
+        "12 logout - - - - - - - - - -",
+        "logout 12 - - - - - logout - - - -",
+        "logout\0 12 - - - - - - - - - -",
+        "logout 12\0 - - - - - - - - - -",
+        "logout 12 - - - - - - - - - -\0",
+        "\u{fc}ser - 0 - - - - - 3 255 - 3",
+        "logout 12 - - \u{a0} - - - - - - -",
+        &long,
+        &edge,
+    ] {
+        check(&[(line, 17), ("logout 12 - - - - - - - - - -", 5)]);
+    }
+}
+
+#[test]
+fn user_lines() {
+    check(&[
+        ("user - 0 - - - - - 3 255 - 3", 0),
+        ("user - 0 - - - - - 4 255 - 3", 2),
+        ("user - 0 - - - - - 3 256 - 3", 2),
+        ("user - 0 - - - - - 3 255 - 4", 2),
+        ("user - 16 - - - - - 3 255 - 3", 2),
+        ("user - 1 - - - - - 3 255 - 3", 0),
+        ("user - 1 - - - - - 0 1 - 2", 0),
+        ("user 0 0 - - - - - 3 255 - 3", 17),
+        ("user - - - - - - - 3 255 - 3", 17),
+        ("user - 0 - - - - - 3 255 - -", 17),
+        ("nothing", 17),
+        ("login - 0 - - - - - 0 0 - -", 17),
+        ("user - 2 - - - - - 0 0 - 1", 0),
+        // Refused, but readable.
+        ("login 99 0 - - - - - 0 0 - -", 2),
+        ("user - 3 - - - - - 3 255 - 3", 17),
+        ("user - 16 - - - - - 3 255 - 3", 17),
+        ("login 12 3 - - - - - 0 0 - -", 4),
+        ("login 12 0 - - - - - 3 255 - -", 0),
+        ("login 13 1 - - - - - 0 0 - -", 4),
+        ("login 8 1 - - - - - 0 2 - -", 4),
+        ("login 8 1 - - - - - 0 1 - -", 0),
+        ("login 4 2 - - - - - 0 0 - -", 0),
+        ("login 5 3 - - - - - 0 0 - -", 4),
+        ("login 0 3 - - - - - 0 0 - -", 0),
+    ]);
+}
+
+#[test]
+fn names_lines() {
+    assert_eq!(run(b""), BAD_START);
+    assert_eq!(run(b"\n"), BAD_START);
+    for bad in [
+        "call seat user role entity parent kind name level cats rights",
+        "call seat user role entity parent kind name level cats rights ceiling ",
+        " call seat user role entity parent kind name level cats rights ceiling",
+        "call  seat user role entity parent kind name level cats rights ceiling",
+        "call seat user role entity parent kind name level cats rights rights",
+        "call seat user role entity parent kind name level cats rights ceiling call",
+        "call seat user role entity parent kind name level cats rights Ceiling",
+        "call seat user role entity parent kind name level cats rights ceiling\r",
+        "call seat user role entity parent kind name level cats rights ceiling\0",
+        "logout 12 - - - - - - - - - -",
+    ] {
+        assert_eq!(run(bad.as_bytes()), BAD_START);
+        let more = format!("{bad}\nlogout 12 - - - - - - - - - -\n");
+        assert_eq!(run(more.as_bytes()), BAD_START);
+    }
+    assert_eq!(run(&[b'c'; 200_000]), BAD_START);
+    assert_eq!(run(NAMES.as_bytes()), "line answer\n");
+    assert_eq!(run(format!("{NAMES}\n").as_bytes()), "line answer\n");
+    assert_eq!(
+        run(format!("{NAMES}\n\n").as_bytes()),
+        "line answer\n2 17\n"
+    );
+}
+
+#[test]
+fn names_in_any_order() {
+    let names: Vec<&str> = NAMES.split(' ').collect();
+    let lines = [
+        "user - 0 - - - - - 3 255 - 3",
+        "login 12 0 - - - - - 1 2 - -",
+        "login 12 0 - - - - - 1 2 - 3",
+        "take 12 - 12 - - - - - - - -",
+        "openw 12 - - 48 - - - - - - -",
+        "openr 12 - - 48 - - - - - - -",
+        "logout 13 - - - - - - - - - -",
+        "logout 12 - - - - - - - - - -",
+    ];
+    let output = "line answer\n2 0\n3 0\n4 17\n5 0\n6 11\n7 0\n8 5\n9 0\n";
+    // 5 and 7 have no divisor in common with 12.
+    for stride in [1, 5, 7, 11] {
+        for start in 0..12 {
+            let turn = |line: &str| {
+                let values: Vec<&str> = line.split(' ').collect();
+                let turned: Vec<&str> = (0..12)
+                    .map(|place| values[(start + stride * place) % 12])
+                    .collect();
+                turned.join(" ")
+            };
+            let mut input = turn(&names.join(" "));
+            for line in lines {
+                input += "\n";
+                input += &turn(line);
+            }
+            assert_eq!(run(input.as_bytes()), output);
+        }
+    }
+}
+
+#[test]
+fn sixty_five_thousand_lines() {
+    for lines in [65_533, 65_534, 65_535, 70_000] {
+        let input = format!(
+            "{NAMES}\n{}",
+            "logout 13 - - - - - - - - - -\n".repeat(lines)
+        );
+        let mut output = String::from("line answer\n");
+        for line in 2..=(lines + 1).min(65_535) {
+            output += &format!("{line} 5\n");
+        }
+        assert_eq!(run(input.as_bytes()), output);
+    }
+}
+
+/// Lines of all lengths, so that the ends of the blocks read fall everywhere.
+#[test]
+fn long_lines() {
+    let mut input = format!("{NAMES}\n").into_bytes();
+    let mut output = String::from("line answer\n");
+    let mut line = 1;
+    let mut put = |input: &mut Vec<u8>, text: &[u8], answer: u8| {
+        input.extend_from_slice(text);
+        input.push(b'\n');
+        line += 1;
+        output += &format!("{line} {answer}\n");
+    };
+    for length in (0..2_000).chain([65_534, 65_535, 65_536, 65_537, 131_072, 1_000_000]) {
+        put(&mut input, &vec![b'-'; length], 17);
+        put(&mut input, b"logout 13 - - - - - - - - - -", 5);
+        let mut text = b"logout 13 - - - - - - - - - -".to_vec();
+        text.resize(text.len() + length, b' ');
+        put(&mut input, &text, if length == 0 { 5 } else { 17 });
+    }
+    put(&mut input, &[b'x'; 300_000], 17);
+    assert_eq!(run(&input), output);
+    input.pop();
+    assert_eq!(run(&input), output);
+}
+
+/// Nobody reads the answers: the program ends without a word.
+#[test]
+fn a_closed_output() {
+    let mut program = Command::new(env!("CARGO_BIN_EXE_reference"))
+        .stdin(Stdio::piped())
+        .stdout(Stdio::piped())
+        .stderr(Stdio::piped())
+        .spawn()
+        .unwrap();
+    drop(program.stdout.take());
+    let mut stdin = program.stdin.take().unwrap();
+    let input = format!("{NAMES}\n{}", "nothing\n".repeat(60_000));
+    let _ = stdin.write_all(input.as_bytes());
+    drop(stdin);
+    let output = program.wait_with_output().unwrap();
+    assert!(output.status.success());
+    assert!(output.stderr.is_empty());
+}
