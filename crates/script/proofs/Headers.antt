@@ -5,18 +5,16 @@
 --     map-at                                                  an element of a list of results
 --     names-count, name-among                                 a good header has twelve, and each name among them
 --     placeOf, place-lt, place-at, at-name, at-lt, at-place   `at` and the place of a name are inverse
---     row-at                                                  a row has under each name the value that stands there
+--     under-at                                                the value under a name
 -- Assumes nothing.
 use Prim.Native.Nat.{ℕ, zero, suc, _≤_, _<_}
 use mathlib.Core.Path.{_≡_, refl, ap, sym, _∙_}
 use mathlib.Core.Bool.{Bool, true, false, cond, _||_}
 use mathlib.Core.List.{List, [], _∷_, map}
 use native.Mathlib.Decide.{decLt}
-use native.Mathlib.Nat.{mod-eq-of-lt}
 use native.Mathlib.Omega.{arith}
 use lib.Dec.{eqb, ltb}
-use lib.ListN.{length, getD, set, length-set}
-use lib.Seq.{getD-set-same, getD-set-other}
+use lib.ListN.{length, getD}
 use borrow.Author.Tests.{eqb-true, lt-ltb, le-ltb}
 use Rattle.bitset.specs.Tests.{all}
 use Rattle.bitset.specs.Tests.Laws.{all-e, every-at, clash}
@@ -24,7 +22,6 @@ use Rattle.guard.proofs.Laws.Pigeons.{Meet, pigeons}
 use Rattle.script.specs.Text.{bytes, same}
 use Rattle.script.specs.Names.{names, column, among, isNames, under}
 use Rattle.script.specs.Slices.{Ordered}
-use Rattle.script.specs.Rows.{codeAt, gathered}
 use Rattle.script.proofs.Keys.{same-eq, same-self}
 
 none-below : (n : ℕ) → n < 0 → ⊥
@@ -155,26 +152,6 @@ module _ {h : List (List ℕ)} {at : List ℕ} (o : Ordered h at) where
   pub at-place : (j : ℕ) → j < 12 → placeOf h (getD at j 0) ≡ j
   at-place j l = let (i, m, e) = at-name j l in ap (λ (k : ℕ). placeOf h (getD at k 0)) (sym e) ∙ ap (placeOf h) (place-at i m) ∙ e
 
-  gathered-length : (vs : List (List ℕ)) (n : ℕ) → length (gathered at vs n) ≡ 12
-  unfolding gathered
-  gathered-length vs zero = refl
-  gathered-length vs (suc n) = simp length-set (gathered-length vs n)
-
-  gathered-at : (vs : List (List ℕ)) (n i : ℕ) → n ≤ 12 → i < 12 → placeOf h i < n → getD (gathered at vs n) i 0 ≡ codeAt i (getD vs (placeOf h i) [])
-  unfolding gathered
-  gathered-at vs zero i m l k = absurd (none-below _ k)
-  gathered-at vs (suc n) i m l k = rw (mod-eq-of-lt (at-lt n (omega arith))) (go (decLt (placeOf h i) n) (gathered-at vs n i (omega arith) l))
-    where
-      go : Dec (placeOf h i < n) → (placeOf h i < n → getD (gathered at vs n) i 0 ≡ codeAt i (getD vs (placeOf h i) []))
-          → getD (set (gathered at vs n) (getD at n 0) (codeAt (getD at n 0) (getD vs n []))) i 0 ≡ codeAt i (getD vs (placeOf h i) [])
-      go (yes q) f = getD-set-other (gathered at vs n) (getD at n 0) i _ 0 (λ e. apart q (ap (placeOf h) e ∙ at-place n (omega arith))) ∙ f q
-      go (no q) f =
-          let here : placeOf h i ≡ n = omega arith in
-          let this : getD at n 0 ≡ i = ap (λ (j : ℕ). getD at j 0) (sym here) ∙ place-at i l in
-          rw (this, here) (getD-set-same (gathered at vs n) i _ 0 (omega (arith, gathered-length vs n)))
-
-  pub row-at : (vs : List (List ℕ)) (i : ℕ) → i < 12 → getD (gathered at vs 12) i 0 ≡ codeAt i (getD (under h vs) i [])
+  pub under-at : (vs : List (List ℕ)) (i : ℕ) → i < 12 → getD (under h vs) i [] ≡ getD vs (placeOf h i) []
   unfolding under placeOf
-  row-at vs i l =
-      gathered-at vs 12 i (omega arith) l (place-lt i l)
-      ∙ ap (codeAt i) (sym (map-at (λ (n : List ℕ). getD vs (column n h) []) names i [] [] (rw names-length l)))
+  under-at vs i l = map-at (λ (n : List ℕ). getD vs (column n h) []) names i [] [] (rw names-length l)

@@ -21,7 +21,7 @@ use Rattle.bitset.specs.Tests.Laws.{both}
 use Rattle.script.specs.Text.{bytes, same}
 use Rattle.script.specs.Names.{names, column}
 use Rattle.script.specs.Line.{words}
-use Rattle.script.specs.Keys.{packed, keyOf}
+use Rattle.script.specs.Keys.{packed, keyOf, spot}
 
 -- ---- the loop that makes a key: k is the first i bytes
 pub record Packed (s : List ℕ) (k i : ℕ) : Type 0 where
@@ -56,7 +56,7 @@ module _ {s : List ℕ} {k i : ℕ} (r : Packed s k i) where
   packed-end f l = rw (le-leb (length s) 7 f) (sym (r .key ∙ (rw (drop-of-length-le s l))))
 
 -- ---- two texts of one key
-abbrev Bytes : List ℕ → Type 0
+abbrev pub Bytes : List ℕ → Type 0
 Bytes s = (i : ℕ) → getD s i 0 < 256
 
 aligned : (n m : ℕ) (s t : List ℕ) → Bytes s → Bytes t → length s ≡ length t → packed n s ≡ packed m t → (n ≡ m) × (s ≡ t)
@@ -130,13 +130,9 @@ abbrev allBytes : List ℕ → Bool
 allBytes [] = true
 allBytes (b ∷ s) = ltb b 256 && allBytes s
 
-abbrev short : List (List ℕ) → Bool
+abbrev pub short : List (List ℕ) → Bool
 short [] = true
 short (q ∷ qs) = leb (length q) 7 && (allBytes q && short qs)
-
-abbrev spot : ℕ → List ℕ → ℕ
-spot k [] = 0
-spot k (n ∷ ns) = cond (eqb k n) 0 (suc (spot k ns))
 
 and-l : (a b : Bool) → (a && b) ≡ true → a ≡ true
 and-l true b h = refl
@@ -151,7 +147,7 @@ bytes-all [] h i = omega arith
 bytes-all (b ∷ q) h zero = ltb-true b 256 (and-l (ltb b 256) (allBytes q) h)
 bytes-all (b ∷ q) h (suc i) = bytes-all q (and-r (ltb b 256) (allBytes q) h) i
 
-by-key : (s : List ℕ) (qs : List (List ℕ)) → Bytes s → short qs ≡ true → spot (keyOf s) (map keyOf qs) ≡ column s qs
+pub by-key : (s : List ℕ) (qs : List (List ℕ)) → Bytes s → short qs ≡ true → spot (keyOf s) (map keyOf qs) ≡ column s qs
 unfolding column
 by-key s [] p h = refl
 by-key s (q ∷ qs) p h =
@@ -163,18 +159,18 @@ by-key s (q ∷ qs) p h =
     rw (e, f)
 
 -- k is none of the numbers
-abbrev Misses : Type 0 → ℕ → List ℕ → Type 0
+abbrev pub Misses : Type 0 → ℕ → List ℕ → Type 0
 Misses A k [] = A
 Misses A k (n ∷ ns) = Misses (A × (k ≡ n → ⊥)) k ns
 
-spot-none : {A : Type 0} (k : ℕ) (ns : List ℕ) → Misses A k ns → A × (spot k ns ≡ length ns)
+pub spot-none : {A : Type 0} (k : ℕ) (ns : List ℕ) → Misses A k ns → A × (spot k ns ≡ length ns)
 spot-none k [] a = (a, refl)
 spot-none k (n ∷ ns) m = let h = spot-none k ns m in (h .0 .0, rw (ne-eqb k n (h .0 .1), h .1))
 
 -- ns are the keys of qs
 pub record Keyed (qs : List (List ℕ)) (ns : List ℕ) : Type 0 where
-  keys : map keyOf qs ≡ ns
-  fit : short qs ≡ true
+  pub keys : map keyOf qs ≡ ns
+  pub fit : short qs ≡ true
 
 -- s is a slice's bytes and k its key
 module _ {qs : List (List ℕ)} {ns : List ℕ} (y : Keyed qs ns) (s : List ℕ) {k : ℕ} (p : (i : ℕ) → Fits w8 (getD s i 0)) (h : k ≡ keyOf s) where
@@ -208,7 +204,7 @@ pub name-keys : Keyed names nameKeys
 unfolding names bytes keyOf packed
 name-keys = record { keys = refl; fit = refl }
 
-abbrev wordKeys : List ℕ
+abbrev pub wordKeys : List ℕ
 wordKeys =
     0x16c6f67696e
     ∷ 0x16c6f676f7574

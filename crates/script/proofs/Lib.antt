@@ -2,10 +2,18 @@ pub mod Sample
 pub mod Texts
 pub mod Keys
 pub mod Parts
+pub mod Spans
+pub mod Codes
 pub mod Taking
-pub mod Rows
 pub mod Headers
+pub mod Gathers
+pub mod Words
+pub mod Finding
+pub mod Rows
+pub mod Stores
 pub mod Reading
+pub mod Unread
+pub mod Asking
 pub mod Orders
 pub mod Lines
 pub mod Short
@@ -17,6 +25,6 @@ pub mod Runs
 pub mod Steps
 pub mod Moves
 pub mod Batches
-pub mod Gathering
+pub mod Loading
 pub mod Outputs
 pub mod Theorem

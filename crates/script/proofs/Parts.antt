@@ -90,7 +90,7 @@ pub to-end : (n : ℕ) (l : List ℕ) → take (length l - n) (drop n l) ≡ dro
 to-end n l = take-all (length l - n) (drop n l) (rw length-drop (omega arith))
 
 -- by the first value of what is left
-first-value : (s : List ℕ) → getD (values s) 0 [] ≡ before 32 s
+pub first-value : (s : List ℕ) → getD (values s) 0 [] ≡ before 32 s
 first-value s = go (decLt (length (before 32 s)) (length s))
   where
     go : Dec (length (before 32 s) < length s) → getD (values s) 0 [] ≡ before 32 s

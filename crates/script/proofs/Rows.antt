@@ -1,56 +1,152 @@
--- The row of a line: each value under its name.
---     code-word, code-value                                         the code of a value
---     Filled, filled-start, filled-more, filled-end, filled-over    a loop that stores each value under its name
+-- How far a loop over the values of a line is.
+--     Filled, filled-start                              the numbers so far stand under their names
+--     row-over, row-other                               too many values; a value of no form
+--     code-here, end-most                               the value there
+--     inside, next-left                                 a space behind it: the next value
+--     line-end, count                                   none: the line's length, and how many values it has
 -- Assumes nothing.
-use Prim.Native.Nat.{ℕ, _+_, _-_, _%_, _≤_, _<_}
+use Prim.Native.Nat.{ℕ, zero, suc, _+_, _≤_, _<_}
 use mathlib.Core.Path.{_≡_, refl, ap, sym, _∙_}
-use mathlib.Core.Bool.{false}
-use mathlib.Core.List.{List}
-use native.Mathlib.Numerals.{add-one}
-use lib.Dec.{eqb}
-use lib.ListN.{length, getD, set, take, drop, replicate}
-use borrow.Author.Tests.{eqb-true, ne-eqb}
+use mathlib.Core.Bool.{Bool, true, false, _&&_}
+use mathlib.Core.List.{List, [], _∷_}
+use native.Mathlib.Decide.{decLt}
+use native.Mathlib.Nat.{add-zero}
+use native.Mathlib.Omega.{arith}
+use lib.Dec.{eqb, leb}
+use lib.ListN.{length, getD, drop, length-drop}
+use lib.Seq.{getD-drop, drop-drop}
+use borrow.Author.Tests.{eqb-true, eqb-false, ne-eqb, lt-leb}
+use Rattle.bitset.specs.Sets.{with}
 use Rattle.script.specs.Text.{values}
-use Rattle.script.specs.Names.{column}
-use Rattle.script.specs.Line.{valueOf, words}
-use Rattle.script.specs.Slices.{before}
-use Rattle.script.specs.Rows.{coded, codeAt, gathered, IsRow}
-use Rattle.script.specs.declared.line.Value.{Value}
-use Rattle.script.proofs.Parts.{Reached, reached-start, reached-here, reached-end, reached-over, reached-next}
+use Rattle.script.specs.Slices.{before, after, leading}
+use Rattle.script.specs.Rows.{codeAt, IsFound, nameAt, codeIn, blank, gathered, marked, fine, IsRow}
+use Rattle.script.specs.declared.row.Found.{Found}
+use Rattle.script.proofs.Parts.{values-more, values-last, values-some, first-value, after-drop}
+use Rattle.script.proofs.Spans.{before-drop, before-rest, lead-most, lead-more, lead-last}
+use Rattle.script.proofs.Codes.{other-form}
 
--- ---- codes
-pub code-word : (i : ℕ) (v : List ℕ) (n : ℕ) → i ≡ 0 → n ≡ column v words → n ≡ codeAt i v
-unfolding codeAt
-code-word i v n h e = rw h e
+-- ---- a value of no form
+fine-not : (at : List ℕ) (vs : List (List ℕ)) (j n : ℕ) → j < n → 100000 < codeIn at vs j → fine at vs n ≡ false
+unfolding fine
+fine-not at vs j zero l h = absurd (none l)
+  where
+    none : j < 0 → ⊥
+    none k = omega arith
+fine-not at vs j (suc n) l h = go (decLt j n) (λ k. fine-not at vs j n k h)
+  where
+    last : (b : Bool) → (b && false) ≡ false
+    last true = refl
+    last false = refl
 
-pub code-value : (i : ℕ) (v : List ℕ) (x r : Value) → (i ≡ 0 → ⊥) → r ≡ valueOf v → r ≡ x → coded x ≡ codeAt i v
-unfolding codeAt
-code-value i v x r h e k = rw (ne-eqb i 0 h, ← e, k)
+    go : Dec (j < n) → (j < n → fine at vs n ≡ false) → (fine at vs n && leb (codeIn at vs n) 100000) ≡ false
+    go (yes k) ih = rw (ih k)
+    go (no k) ih = let e : n ≡ j = omega arith in rw (e, lt-leb (codeIn at vs j) 100000 h) (last (fine at vs j))
 
--- ---- the loop
-pub record Filled (s at vals : List ℕ) (from j : ℕ) : Type 0 where
-  pub reached : Reached s from j
-  pub holds : vals ≡ gathered at (values s) j
+-- ---- the loop, over a line l = before 10 s
+pub record Filled (s at vals : List ℕ) (given from j : ℕ) : Type 0 where
+  pub within : from ≤ length (before 10 s)
+  pub less : j ≤ from
+  pub left : drop j (values (before 10 s)) ≡ values (drop from (before 10 s))
+  pub holds : j ≤ 12 → vals ≡ gathered at (values (before 10 s)) j
+  pub marks : j ≤ 12 → given ≡ marked at (values (before 10 s)) j
+  pub good : j ≤ 12 → fine at (values (before 10 s)) j ≡ true
 
-pub filled-start : (s at : List ℕ) → Filled s at (replicate 12 0) 0 0
-unfolding gathered
-filled-start s at = record { reached = reached-start s; holds = refl }
+pub filled-start : (s at vals : List ℕ) → vals ≡ blank → Filled s at vals 0 0 0
+unfolding gathered marked fine
+filled-start s at vals h =
+    record {
+      within = omega arith;
+      less = omega arith;
+      left = refl;
+      holds = λ l. h;
+      marks = λ l. refl;
+      good = λ l. refl;
+    }
 
-module _ {s at vals : List ℕ} {from j e n : ℕ} (p : Filled s at vals from j) (f : e ≡ length (before 32 (take (length s - from) (drop from s))))
-    (c : n ≡ codeAt (getD at j 0 % 12) (take e (take (length s - from) (drop from s)))) where
-  stored : set vals (getD at j 0 % 12) n ≡ gathered at (values s) (j + 1)
-  unfolding gathered
-  stored = rw (add-one, c, reached-here (p .reached) f, p .holds)
+module _ {s at vals : List ℕ} {given from j : ℕ} (p : Filled s at vals given from j) where
+  abbrev l : List ℕ
+  l = before 10 s
 
-  pub filled-more : e < length (take (length s - from) (drop from s)) → j + 1 < 12 → Filled s at (set vals (getD at j 0 % 12) n) (from + e + 1) (j + 1)
-  filled-more h k = record { reached = reached-next (p .reached) f h k; holds = stored }
+  abbrev vs : List (List ℕ)
+  vs = values (before 10 s)
 
-  pub filled-end : length (take (length s - from) (drop from s)) ≤ e → IsRow at s (record { good = eqb (j + 1) 12; vals = set vals (getD at j 0 % 12) n })
-  filled-end h =
+  rest : drop from l ≡ before 10 (drop from s)
+  rest = before-drop 10 from s (p .within)
+
+  here : getD vs j [] ≡ leading (drop from s)
+  here =
+      sym (ap (λ (n : ℕ). getD vs n []) (add-zero j))
+      ∙ sym (getD-drop j vs 0 [])
+      ∙ ap (λ (k : List (List ℕ)). getD k 0 []) (p .left)
+      ∙ first-value (drop from l)
+      ∙ ap (before 32) rest
+
+  -- too many values
+  pub row-over : {n g : ℕ} → 12 ≤ j → n ≡ from + length (before 10 (drop from s)) → IsRow at l vals (record { good = false; given = g; len = n })
+  row-over {n} {g} h e =
       record {
-        twelve = ap (λ (m : ℕ). eqb m 12) (sym (reached-end (p .reached) f h));
-        holds = λ k. stored ∙ ap (gathered at (values s)) (eqb-true (j + 1) 12 k);
+        long = e ∙ before-rest 10 from s (p .within);
+        twelve = rw (ne-eqb (length vs) 12 (many h));
+        holds = λ z. cc;
+        marks = λ z. cc;
       }
+    where
+      many : 12 ≤ j → length vs ≡ 12 → ⊥
+      many h z = omega (arith, ap length (p .left), length-drop j vs, values-some (drop from l))
 
-  pub filled-over : e < length (take (length s - from) (drop from s)) → 12 ≤ j + 1 → IsRow at s (record { good = false; vals = set vals (getD at j 0 % 12) n })
-  filled-over h k = record { twelve = sym (reached-over (p .reached) f h k); holds = λ z. cc }
+  module _ {f : Found} (q : IsFound (nameAt at j) s from f) where
+    pub code-here : codeIn at vs j ≡ f .code
+    unfolding codeIn
+    code-here = ap (codeAt (nameAt at j)) here ∙ sym (q .code)
+
+    pub end-most : f .end ≤ length l
+    end-most = omega (arith, q .end, lead-most (drop from s), before-rest 10 from s (p .within))
+
+    -- a value of no form
+    pub row-other : {n g : ℕ} → j < 12 → f .form ≡ 2 → n ≡ f .end + length (before 10 (drop (f .end) s)) → IsRow at l vals (record { good = false; given = g; len = n })
+    row-other {n} {g} h o e =
+        record {
+          long = e ∙ before-rest 10 (f .end) s end-most;
+          twelve = rw (fine-not at vs j 12 h (rw code-here (other-form (f .code) (sym (q .form) ∙ o)))) (last (eqb (length vs) 12));
+          holds = λ z. cc;
+          marks = λ z. cc;
+        }
+      where
+        last : (b : Bool) → false ≡ (b && false)
+        last true = refl
+        last false = refl
+
+    -- a space behind it
+    module _ (m : f .more ≡ true) where
+      space : getD (drop from s) (length (leading (drop from s))) 0 ≡ 32
+      space = getD-drop from s _ 0 ∙ ap (λ (n : ℕ). getD s n 0) (sym (q .end)) ∙ eqb-true _ _ (sym (q .more) ∙ m)
+
+      pub inside : f .end + 1 ≤ length l
+      inside = omega (arith, q .end, lead-more (drop from s) space, before-rest 10 from s (p .within))
+
+      pub next-left : drop (j + 1) vs ≡ values (drop (f .end + 1) l)
+      next-left =
+          let k : length (before 32 (drop from l)) < length (drop from l) = rw rest (lead-more (drop from s) space) in
+          let v : drop j vs ≡ before 32 (drop from l) ∷ values (after 32 (drop from l)) = p .left ∙ values-more (drop from l) k in
+          let w : drop (suc (length (before 32 (drop from l)))) (drop from l) ≡ after 32 (drop from l) = after-drop 32 (drop from l) in
+          sym (drop-drop 1 j vs)
+          ∙ ap (drop 1) v
+          ∙ ap values (sym w ∙ drop-drop _ from l ∙ ap (λ (n : ℕ). drop n l) onward)
+        where
+          onward : from + suc (length (before 32 (drop from l))) ≡ f .end + 1
+          onward = omega (arith, q .end, ap (λ (k : List ℕ). length (before 32 k)) rest)
+
+    -- the line ends with it
+    module _ (m : f .more ≡ false) where
+      no-space : getD (drop from s) (length (leading (drop from s))) 0 ≡ 32 → ⊥
+      no-space e =
+          eqb-false _ _ (sym (q .more) ∙ m) (ap (λ (n : ℕ). getD s n 0) (q .end) ∙ sym (getD-drop from s _ 0) ∙ e)
+
+      pub line-end : f .end ≡ length l
+      line-end = omega (arith, q .end, lead-last (drop from s) no-space, lead-most (drop from s), before-rest 10 from s (p .within))
+
+      pub count : length vs ≡ j + 1
+      count =
+          let k : length (drop from l) ≤ length (before 32 (drop from l)) = rw rest (lead-last (drop from s) no-space) in
+          let v : drop j vs ≡ before 32 (drop from l) ∷ [] = p .left ∙ values-last (drop from l) k in
+          omega (arith, ap length v, length-drop j vs)

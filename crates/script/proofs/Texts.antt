@@ -39,12 +39,12 @@ module _ (d : ℕ) (s : List ℕ) (i : ℕ) (h : length (before d s) ≡ i + len
   find-end l = sym (h ∙ (rw (drop-of-length-le s l, add-zero)))
 
 -- ---- values
-not-dash : (s : List ℕ) → (getD s 0 0 ≡ 45 → ⊥) → same s (bytes "-") ≡ false
+pub not-dash : (s : List ℕ) → (getD s 0 0 ≡ 45 → ⊥) → same s (bytes "-") ≡ false
 unfolding same bytes
 not-dash [] h = refl
 not-dash (b ∷ s) h = rw (ne-eqb b 45 h)
 
-no-dash : (s : List ℕ) → 1 < length s → same s (bytes "-") ≡ false
+pub no-dash : (s : List ℕ) → 1 < length s → same s (bytes "-") ≡ false
 unfolding same bytes
 no-dash [] h = absurd (omega arith)
 no-dash (a ∷ []) h = absurd (omega arith)
@@ -74,7 +74,7 @@ module _ (s : List ℕ) (many : 0 < length s) (few : length s ≤ 5) (first : ge
   unfolding valueOf every
   bad-other h = rw (not-dash s first, le-leb 1 (length s) many, le-leb (length s) 5 few, h)
 
-  good-digits : allDigits s ≡ true → Digits (number 0 s) ≡ valueOf s
+  pub good-digits : allDigits s ≡ true → Digits (number 0 s) ≡ valueOf s
   unfolding valueOf every
   good-digits h = rw (not-dash s first, le-leb 1 (length s) many, le-leb (length s) 5 few, h)
 

@@ -1,5 +1,5 @@
--- A line's place in a batch of requests: the request that it asks, or for a line that asks nothing of the tables one of none
--- of the sixteen kinds. The report does not cite it, so a reader of the paper need not read it.
+-- A line's place in a batch of requests: its request, or for a line that asks nothing of the tables one of none of the
+-- sixteen kinds.
 use Rattle.guard.specs.declared.Request.{Request}
 use Rattle.script.specs.declared.line.Line.{Line}
 use Rattle.script.specs.declared.line.Line.the-variants.{Ask, SetUser, Bad}

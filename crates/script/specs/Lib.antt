@@ -6,6 +6,6 @@ pub mod Report
 pub mod Slices
 pub mod Keys
 pub mod Rows
-pub mod Run
 pub mod Entry
+pub mod Run
 pub mod Batches

@@ -2,7 +2,7 @@
 -- need not read them.
 use Prim.Native.Nat.{ℕ, _+_, _<_}
 use mathlib.Core.Path.{_≡_}
-use mathlib.Core.Bool.{Bool, true, cond}
+use mathlib.Core.Bool.{true, cond}
 use mathlib.Core.List.{List, [], _∷_}
 use lib.Dec.{eqb}
 use lib.ListN.{length, getD}
@@ -17,6 +17,10 @@ before d (b ∷ s) = cond (eqb b d) [] (b ∷ before d s)
 unfoldable pub after : ℕ → List ℕ → List ℕ
 after d [] = []
 after d (b ∷ s) = cond (eqb b d) s (after d s)
+
+-- the first value of the first line
+abbrev pub leading : List ℕ → List ℕ
+leading s = before 32 (before 10 s)
 
 -- l with the elements vs in place of those from i on; and a store that ends at r
 unfoldable pub written : List ℕ → ℕ → List ℕ → List ℕ

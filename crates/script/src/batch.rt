@@ -47,7 +47,8 @@ pub fn gather(s: &[u8], at: [u8; 12], most: usize) -> Gathered
     requires { ⌜ most ≤ 256 ⌝ }
     ensures { λ g. ⌜ Batched at (now (s .entry)) most g ⌝ }
 {
-    let mut requests = [line::NOTHING; 64];
+    let none = line::nothing();
+    let mut requests = [none; 64];
     let mut marks = [false; 256];
     let mut count = 0;
     let mut lines = 0;

@@ -4,11 +4,11 @@ ghost use mathlib.Core.Path.{_≡_};
 ghost use mathlib.Core.List.{[]};
 ghost use Rattle.bitset.specs.Sets.{has};
 ghost use Rattle.script.specs.Line.{Numbers, these, used, asks};
-ghost use Rattle.script.specs.Rows.{decoded, takenAs, takeFrom, ahead, members};
+ghost use Rattle.script.specs.Rows.{takenAs, takeFrom, ahead, members};
 use crate::line::Line;
 use guard::Request;
 
-// What a field's code is taken as.
+// What a field is taken as.
 pub enum Taken {
     Number(u32),
     Fault,
@@ -30,71 +30,70 @@ pub enum Half {
     Fault,
 }
 
-// For each word the fields that it uses: bit i is the i-th name behind `call`, so from the right seat, user, role, entity,
-// parent, kind, name, level, cats, rights, ceiling.
+// For each word the fields that it uses: bit i is the i-th name, `call` being 0, so from the right none, seat, user, role,
+// entity, parent, kind, name, level, cats, rights, ceiling.
 const USES: [u16; 17] = [
-    0b00110000011, // login
-    0b00000000001, // logout
-    0b00000000101, // take
-    0b00000000101, // drop
-    0b00000001001, // openr
-    0b00000001001, // openw
-    0b00000001001, // close
-    0b00111111101, // create
-    0b00000001001, // delete
-    0b00001001001, // rename
-    0b01000001101, // grant
-    0b01000001101, // revoke
-    0b00000000111, // list
-    0b00000000111, // unlist
-    0b00000000101, // make
-    0b00000000101, // unmake
-    0b10110000010, // user
+    0b001100000110, // login
+    0b000000000010, // logout
+    0b000000001010, // take
+    0b000000001010, // drop
+    0b000000010010, // openr
+    0b000000010010, // openw
+    0b000000010010, // close
+    0b001111111010, // create
+    0b000000010010, // delete
+    0b000010010010, // rename
+    0b010000011010, // grant
+    0b010000011010, // revoke
+    0b000000001110, // list
+    0b000000001110, // unlist
+    0b000000001010, // make
+    0b000000001010, // unmake
+    0b101100000100, // user
 ];
 
 pub fn uses(word: u32) -> u16
     requires { ⌜ word < 17 ⌝ }
-    ensures { λ r. ⌜ members r 0 11 ≡ used word ⌝ }
+    ensures { λ r. ⌜ members r 1 11 ≡ used word ⌝ }
 {
     USES[word as usize]
 }
 
-// A field i that the word uses must be a number, and any other a dash.
-fn field(code: u32, uses: u16, i: u32) -> Taken
-    ensures { λ r. ⌜ r ≡ takenAs (has uses i) (decoded code) ⌝ }
+// A field i that the word uses must be a number, and any other a dash, which stands as 0.
+fn field(n: u32, given: u16, uses: u16, i: u32) -> Taken
+    ensures { λ r. ⌜ r ≡ takenAs (has uses i) (has given i) n ⌝ }
 {
-    if bitset::has16(uses, i) {
-        if code < 100000 {
-            return Taken::Number(code);
-        }
+    let used = bitset::has16(uses, i);
+    let number = bitset::has16(given, i);
+    if used & !number {
         return Taken::Fault;
     }
-    if code == 100000 {
-        return Taken::Number(0);
+    if number & !used {
+        return Taken::Fault;
     }
-    Taken::Fault
+    Taken::Number(n)
 }
 
 // The first six fields.
-pub fn first(vals: [u32; 12], uses: u16) -> Half
-    ensures { λ r. ⌜ ((rest : Numbers) → takeFrom uses vals 0 6 rest ≡ ahead r rest) ⌝ }
+pub fn first(vals: &[u32; 16], given: u16, uses: u16) -> Half
+    ensures { λ r. ⌜ ((rest : Numbers) → takeFrom uses given (now (vals .entry)) 1 6 rest ≡ ahead r rest) ⌝ }
 {
-    let Taken::Number(seat) = field(vals[1], uses, 0) else {
+    let Taken::Number(seat) = field(vals[1], given, uses, 1) else {
         return Half::Fault;
     };
-    let Taken::Number(user) = field(vals[2], uses, 1) else {
+    let Taken::Number(user) = field(vals[2], given, uses, 2) else {
         return Half::Fault;
     };
-    let Taken::Number(role) = field(vals[3], uses, 2) else {
+    let Taken::Number(role) = field(vals[3], given, uses, 3) else {
         return Half::Fault;
     };
-    let Taken::Number(entity) = field(vals[4], uses, 3) else {
+    let Taken::Number(entity) = field(vals[4], given, uses, 4) else {
         return Half::Fault;
     };
-    let Taken::Number(parent) = field(vals[5], uses, 4) else {
+    let Taken::Number(parent) = field(vals[5], given, uses, 5) else {
         return Half::Fault;
     };
-    let Taken::Number(kind) = field(vals[6], uses, 5) else {
+    let Taken::Number(kind) = field(vals[6], given, uses, 6) else {
         return Half::Fault;
     };
     Half::Numbers(Six {
@@ -108,22 +107,22 @@ pub fn first(vals: [u32; 12], uses: u16) -> Half
 }
 
 // The other five, and what the line asks.
-pub fn second(word: u32, six: Six, vals: [u32; 12], uses: u16) -> Line
-    ensures { λ r. ⌜ r ≡ asks word (ahead (Half.Numbers six) (takeFrom uses vals 6 5 (these []))) ⌝ }
+pub fn second(word: u32, six: Six, vals: &[u32; 16], given: u16, uses: u16) -> Line
+    ensures { λ r. ⌜ r ≡ asks word (ahead (Half.Numbers six) (takeFrom uses given (now (vals .entry)) 7 5 (these []))) ⌝ }
 {
-    let Taken::Number(name) = field(vals[7], uses, 6) else {
+    let Taken::Number(name) = field(vals[7], given, uses, 7) else {
         return Line::Bad;
     };
-    let Taken::Number(level) = field(vals[8], uses, 7) else {
+    let Taken::Number(level) = field(vals[8], given, uses, 8) else {
         return Line::Bad;
     };
-    let Taken::Number(cats) = field(vals[9], uses, 8) else {
+    let Taken::Number(cats) = field(vals[9], given, uses, 9) else {
         return Line::Bad;
     };
-    let Taken::Number(rights) = field(vals[10], uses, 9) else {
+    let Taken::Number(rights) = field(vals[10], given, uses, 10) else {
         return Line::Bad;
     };
-    let Taken::Number(ceiling) = field(vals[11], uses, 10) else {
+    let Taken::Number(ceiling) = field(vals[11], given, uses, 11) else {
         return Line::Bad;
     };
     if word == 16 {

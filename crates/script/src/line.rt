@@ -2,14 +2,15 @@
 ghost use Prim.Native.Nat.{ℕ};
 ghost use mathlib.Core.Path.{_≡_};
 ghost use mathlib.Core.List.{List};
-ghost use Rattle.script.specs.Line.{readLine};
 ghost use lib.ListN.{length};
+ghost use Rattle.script.specs.Line.{readLine};
 ghost use Rattle.script.specs.Slices.{before, Ordered};
-ghost use Rattle.script.specs.Entry.{entry};
+ghost use Rattle.script.specs.Rows.{blank, IsRow};
+ghost use Rattle.script.specs.Entry.{entry, nothing as noRequest};
 use crate::fields;
 use crate::fields::Half;
 use crate::row;
-use crate::text;
+use crate::row::Row;
 use guard::Request;
 
 // A value: 1 to 5 decimal digits, a dash, or anything else.
@@ -26,57 +27,64 @@ pub enum Line {
     Bad,
 }
 
-// What a line asks, under a good header.
-pub fn read(s: &[u8], at: [u8; 12]) -> Line
-    ensures { λ r. ⌜ ((h : List (List ℕ)) → Ordered h at → r ≡ readLine h (now (s .entry))) ⌝ }
-{
-    if 255 < s.len() {
-        return Line::Bad;
-    }
-    let row = row::read_row(s, at);
-    if !row.good {
-        return Line::Bad;
-    }
-    let vals = row.vals;
-    let word = vals[0];
-    if 16 < word {
-        return Line::Bad;
-    }
-    let uses = fields::uses(word);
-    let Half::Numbers(six) = fields::first(vals, uses) else {
-        return Line::Bad;
-    };
-    fields::second(word, six, vals, uses)
-}
-
 // The first line of some input, as a request of a batch, and its length.
 pub struct Front {
     pub request: Request,
     pub len: usize,
 }
 
-// What stands in a batch for a line that asks nothing of the tables: a request of none of the sixteen kinds.
-pub const NOTHING: Request = Request {
-    call: 16,
-    seat: 0,
-    user: 0,
-    role: 0,
-    entity: 0,
-    parent: 0,
-    kind: 0,
-    name: 0,
-    level: 0,
-    cats: 0,
-    rights: 0,
-};
-
-fn entry(l: Line) -> Request
-    ensures { λ q. ⌜ q ≡ entry l ⌝ }
+// The row of no values: no word, and 0 under each other name.
+fn empty() -> [u32; 16]
+    ensures { λ r. ⌜ r ≡ blank ⌝ }
 {
-    match l {
-        Line::Ask(q) => q,
-        Line::SetUser(_, _, _, _) => NOTHING,
-        Line::Bad => NOTHING,
+    let mut vals = [0u32; 16];
+    vals[0] = 17;
+    vals
+}
+
+// What the line of a row asks.
+fn asked(row: Row, vals: &[u32; 16]) -> Line
+    ensures { λ r. ⌜ ((h : List (List ℕ)) (at l : List ℕ) → Ordered h at → IsRow at l (now (vals .entry)) row → r ≡ readLine h l) ⌝ }
+{
+    if !row.good | (255 < row.len) {
+        return Line::Bad;
+    }
+    let word = vals[0];
+    if 16 < word {
+        return Line::Bad;
+    }
+    let uses = fields::uses(word);
+    let Half::Numbers(six) = fields::first(vals, row.given, uses) else {
+        return Line::Bad;
+    };
+    fields::second(word, six, vals, row.given, uses)
+}
+
+// What the line at the front of `s` asks, under a good header.
+pub fn read(s: &[u8], at: [u8; 12]) -> Line
+    ensures { λ r. ⌜ ((h : List (List ℕ)) → Ordered h at → r ≡ readLine h (before 10 (now (s .entry)))) ⌝ }
+{
+    let mut vals = empty();
+    let row = row::read_row(s, &at, &mut vals);
+    asked(row, &vals)
+}
+
+// The request of a line that asks nothing of the tables: one of none of the sixteen kinds.
+pub fn nothing() -> Request
+    ensures { λ r. ⌜ r ≡ noRequest ⌝ }
+{
+    Request {
+        call: 16,
+        seat: 0,
+        user: 0,
+        role: 0,
+        entity: 0,
+        parent: 0,
+        kind: 0,
+        name: 0,
+        level: 0,
+        cats: 0,
+        rights: 0,
     }
 }
 
@@ -84,8 +92,19 @@ fn entry(l: Line) -> Request
 pub fn next(s: &[u8], at: [u8; 12]) -> Front
     ensures { λ r. ⌜ (r .len ≡ length (before 10 (now (s .entry)))) × ((h : List (List ℕ)) → Ordered h at → r .request ≡ entry (readLine h (before 10 (now (s .entry))))) ⌝ }
 {
-    let len = text::find(s, 10);
-    let l = read(&s[..len], at);
-    let request = entry(l);
-    Front { request, len }
+    let mut vals = empty();
+    let row = row::read_row(s, &at, &mut vals);
+    let len = row.len;
+    let l = asked(row, &vals);
+    match l {
+        Line::Ask(request) => Front { request, len },
+        Line::SetUser(_, _, _, _) => {
+            let request = nothing();
+            Front { request, len }
+        }
+        Line::Bad => {
+            let request = nothing();
+            Front { request, len }
+        }
+    }
 }

@@ -14,6 +14,7 @@ ghost use mathlib.Core.Path.{_≡_};
 ghost use mathlib.Core.Bool.{true, false};
 ghost use lib.ListN.{length};
 ghost use Rattle.script.specs.Report.{lastLine};
+ghost use Rattle.script.specs.Slices.{before};
 ghost use Rattle.script.specs.Run.{atNames, atLines, unbegun, isOver, Spoken, Named, Stepped, Finished};
 
 // Where a run stands: the bench (its tables, and whether a readable line with a word other than `user` has come), the
@@ -43,7 +44,7 @@ pub struct Ran {
 
 // Answers one line of values.
 fn answer_values(mut r: Runner, s: &[u8], out: &mut [u8]) -> Said
-    requires { ⌜ (12 ≤ length (now out)) × (r .done < lastLine) ⌝ }
+    requires { ⌜ (12 ≤ length (now out)) × (r .done < lastLine) × (before 10 (now s) ≡ now s) ⌝ }
     ensures { λ x. ⌜ Spoken r (now (s .entry)) (now (out .entry)) (now (out .exit)) x ⌝ }
 {
     let at = r.at;

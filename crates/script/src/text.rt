@@ -2,13 +2,13 @@
 ghost use Prim.Native.Nat.{_+_, _/_, _%_, _<_, _≤_};
 ghost use mathlib.Core.Path.{_≡_};
 ghost use mathlib.Core.List.{[], _∷_};
-ghost use lib.ListN.{length};
+ghost use lib.ListN.{length, getD, take, drop};
 ghost use Rattle.script.specs.Text.{place, decimal};
 ghost use Rattle.script.specs.Names.{names, column};
 ghost use Rattle.script.specs.Line.{valueOf, words};
 ghost use Rattle.script.specs.Report.{heading, lineText};
-ghost use Rattle.script.specs.Slices.{before, Put};
-ghost use Rattle.script.specs.Keys.{keyOf};
+ghost use Rattle.script.specs.Slices.{before, leading, Put};
+ghost use Rattle.script.specs.Keys.{keyOf, wordOf, Begins};
 use crate::line::Value;
 
 // Where the first byte `d` stands, or the length.
@@ -23,6 +23,33 @@ pub fn find(s: &[u8], d: u8) -> usize
         i += 1;
     }
     i
+}
+
+// Where the first value ends: before a space, byte 10 or the end.
+pub fn span(s: &[u8]) -> usize
+    ensures { λ r. ⌜ r ≡ length (leading (now (s .entry))) ⌝ }
+{
+    let mut i = 0;
+    while i < s.len() {
+        let b = s[i];
+        if b == 32 {
+            return i;
+        }
+        if b == 10 {
+            return i;
+        }
+        i += 1;
+    }
+    i
+}
+
+// Where the line ends that goes on at `from`.
+pub fn end_of(s: &[u8], from: usize) -> usize
+    requires { ⌜ from ≤ length (now s) ⌝ }
+    ensures { λ r. ⌜ r ≡ from + length (before 10 (drop from (now (s .entry)))) ⌝ }
+{
+    let e = find(&s[from..], 10);
+    from + e
 }
 
 // A value of a line.
@@ -95,11 +122,10 @@ pub fn name_at(s: &[u8]) -> u8
     }
 }
 
-// Which of the seventeen words it is, 17 for none.
-pub fn word_at(s: &[u8]) -> u8
-    ensures { λ r. ⌜ r ≡ column (now (s .entry)) words ⌝ }
+// Which of the seventeen words has the key, 17 for none.
+pub fn word_of(k: u64) -> u32
+    ensures { λ r. ⌜ r ≡ wordOf k ⌝ }
 {
-    let k = key(s);
     match k {
         0x1_6c6f67696e => 0, // login
         0x1_6c6f676f7574 => 1, // logout
@@ -120,6 +146,64 @@ pub fn word_at(s: &[u8]) -> u8
         0x1_75736572 => 16, // user
         _ => 17,
     }
+}
+
+// Which of the seventeen words it is, 17 for none.
+pub fn word_at(s: &[u8]) -> u32
+    ensures { λ r. ⌜ r ≡ column (now (s .entry)) words ⌝ }
+{
+    let k = key(s);
+    word_of(k)
+}
+
+// The key of four to six bytes with a space behind them, and how many they are: the words are that long. 0 where no space
+// stands there.
+pub struct Short {
+    pub key: u64,
+    pub len: usize,
+}
+
+// The byte there.
+pub fn byte(s: &[u8], at: usize) -> u64
+    requires { ⌜ at < length (now s) ⌝ }
+    ensures { λ r. ⌜ (r ≡ getD (now (s .entry)) at 0) × (r < 256) ⌝ }
+{
+    s[at] as u64
+}
+
+// The key of four bytes.
+fn key4(s: &[u8], from: usize) -> u64
+    requires { ⌜ from + 3 < length (now s) ⌝ }
+    ensures { λ r. ⌜ (r ≡ keyOf (take 4 (drop from (now (s .entry))))) × (r < 8589934592) ⌝ }
+{
+    let a = byte(s, from);
+    let b = byte(s, from + 1);
+    let c = byte(s, from + 2);
+    let d = byte(s, from + 3);
+    256 * (256 * (256 * (256 + a) + b) + c) + d
+}
+
+// The key of what may be a word at `from`.
+pub fn word_key(s: &[u8], from: usize) -> Short
+    requires { ⌜ from + 6 < length (now s) ⌝ }
+    ensures { λ r. ⌜ Begins (drop from (now (s .entry))) (r .key) (r .len) ⌝ }
+{
+    let k4 = key4(s, from);
+    let a = byte(s, from + 4);
+    if a == 32 {
+        return Short { key: k4, len: 4 };
+    }
+    let k5 = 256 * k4 + a;
+    let b = byte(s, from + 5);
+    if b == 32 {
+        return Short { key: k5, len: 5 };
+    }
+    let k6 = 256 * k5 + b;
+    let c = byte(s, from + 6);
+    if c == 32 {
+        return Short { key: k6, len: 6 };
+    }
+    Short { key: 0, len: 0 }
 }
 
 // Four bytes from `at` on.

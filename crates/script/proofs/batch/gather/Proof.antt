@@ -1,10 +1,10 @@
--- `gather`: the loop over lines keeps Taken (Gathering). Assumes nothing.
+-- `gather`: the loop over lines keeps Taken (Loading). Assumes nothing.
 use Prim.Native.Nat.{_-_, _≤_}
 use mathlib.Core.Path.{_≡_, refl}
 use lib.ListN.{length}
 use native.Mathlib.Omega.{arith}
 use borrow.Author.Needs.{needs}
-use Rattle.script.proofs.Gathering.{Taken, taken-none, taken-next, taken-all, in-turn, one-fits}
+use Rattle.script.proofs.Loading.{Taken, taken-none, taken-next, taken-all, in-turn, one-fits}
 use Rattle.script.proofs.batch.gather.Statement.{statement}
 use Rattle.script.proofs.batch.gather.Tie as tie
 
@@ -13,6 +13,9 @@ Inv-loop s at most requests₀ marks₀ count₀ lines₀ used₀ requests marks
 
 abbrev μ-loop : tie.MeasureT-loop
 μ-loop s at most requests₀ marks₀ count₀ lines₀ used₀ requests marks count lines used = most - lines
+
+nothing-requires : tie.Need-nothing-requires Inv-loop μ-loop
+nothing-requires c κs = search needs
 
 loop-holds : tie.Need-loop-holds Inv-loop μ-loop
 loop-holds c = (search needs, search needs, search needs, search needs, taken-none _ _ _ _)
@@ -36,16 +39,16 @@ mul-requests : tie.Need-mul-requests Inv-loop μ-loop
 mul-requests c = search needs
 
 array-set-from-requests : tie.Need-array-set-from-requests Inv-loop μ-loop
-array-set-from-requests c = let turn = in-turn (c .before .before .before .before .before .before .before .loop .lines) (c .before .before .before .before .before .before .before .before .before .args .most) (c .before .before .before .before .before .before .before .loop .count) (c .before .before .before .before .before .before .loop-test .taken) in let low = turn .0 in let free = turn .1 in search needs
+array-set-from-requests c = let turn = in-turn (c .before .before .before .before .before .before .before .loop .lines) (c .before .before .before .before .before .before .before .before .before .before .args .most) (c .before .before .before .before .before .before .before .loop .count) (c .before .before .before .before .before .before .loop-test .taken) in let low = turn .0 in let free = turn .1 in search needs
 
 array-write-marks : tie.Need-array-write-marks Inv-loop μ-loop
-array-write-marks c = let turn = in-turn (c .before .before .before .before .before .before .before .loop .lines) (c .before .before .before .before .before .before .before .before .before .args .most) (c .before .before .before .before .before .before .before .loop .count) (c .before .before .before .before .before .before .loop-test .taken) in let low = turn .0 in let free = turn .1 in search needs
+array-write-marks c = let turn = in-turn (c .before .before .before .before .before .before .before .loop .lines) (c .before .before .before .before .before .before .before .before .before .before .args .most) (c .before .before .before .before .before .before .before .loop .count) (c .before .before .before .before .before .before .loop-test .taken) in let low = turn .0 in let free = turn .1 in search needs
 
 one-if-requires : tie.Need-one-if-requires Inv-loop μ-loop
 one-if-requires c κs = search needs
 
 add-count : tie.Need-add-count Inv-loop μ-loop
-add-count c = let turn = in-turn (c .before .before .before .before .before .before .before .before .loop .lines) (c .before .before .before .before .before .before .before .before .before .before .args .most) (c .before .before .before .before .before .before .before .before .loop .count) (c .before .before .before .before .before .before .before .loop-test .taken) in let low = turn .0 in let free = turn .1 in let fits = one-fits _ (c .one-if .ensures) (turn .1) in search needs
+add-count c = let turn = in-turn (c .before .before .before .before .before .before .before .before .loop .lines) (c .before .before .before .before .before .before .before .before .before .before .before .args .most) (c .before .before .before .before .before .before .before .before .loop .count) (c .before .before .before .before .before .before .before .loop-test .taken) in let low = turn .0 in let free = turn .1 in let fits = one-fits _ (c .one-if .ensures) (turn .1) in search needs
 
 add-lines : tie.Need-add-lines Inv-loop μ-loop
 add-lines c = search needs
@@ -57,11 +60,11 @@ add-used-2 : tie.Need-add-used-2 Inv-loop μ-loop
 add-used-2 c = search needs
 
 loop-less : tie.Need-loop-less Inv-loop μ-loop
-loop-less c = let turn = in-turn (c .before .before .before .before .before .before .before .before .before .loop .lines) (c .before .before .before .before .before .before .before .before .before .before .before .args .most) (c .before .before .before .before .before .before .before .before .before .loop .count) (c .before .before .before .before .before .before .before .before .loop-test .taken) in let low = turn .0 in let free = turn .1 in omega (arith, turn .0)
+loop-less c = let turn = in-turn (c .before .before .before .before .before .before .before .before .before .loop .lines) (c .before .before .before .before .before .before .before .before .before .before .before .before .args .most) (c .before .before .before .before .before .before .before .before .before .loop .count) (c .before .before .before .before .before .before .before .before .loop-test .taken) in let low = turn .0 in let free = turn .1 in omega (arith, turn .0)
 
 loop-again : tie.Need-loop-again Inv-loop μ-loop
 loop-again c =
-    let turn = in-turn (c .before .before .before .before .before .before .before .before .before .loop .lines) (c .before .before .before .before .before .before .before .before .before .before .before .args .most) (c .before .before .before .before .before .before .before .before .before .loop .count) (c .before .before .before .before .before .before .before .before .loop-test .taken) in let low = turn .0 in let free = turn .1 in
+    let turn = in-turn (c .before .before .before .before .before .before .before .before .before .loop .lines) (c .before .before .before .before .before .before .before .before .before .before .before .before .args .most) (c .before .before .before .before .before .before .before .before .before .loop .count) (c .before .before .before .before .before .before .before .before .loop-test .taken) in let low = turn .0 in let free = turn .1 in
     let more = c .before .one-if .ensures in
     (search needs, search needs, omega (arith, turn .0), one-fits _ more (turn .1), taken-next (c .before .before .before .before .before .before .before .before .before .loop .inv .4) (omega (arith, turn .1)) (omega (arith, turn .0)) (c .before .before .before .before .before .before .next .ensures .0) (c .before .before .before .before .before .before .next .ensures .1) (c .before .before .before .before .if1 .left) refl more)
 
@@ -74,6 +77,7 @@ gather-spec =
     (tie.spec
     Inv-loop
     μ-loop
+    nothing-requires
     loop-holds
     sub-rest
     part-rest-start

@@ -2,6 +2,7 @@
 -- number too or a fault. Assumes nothing.
 use Prim.Native.Nat.{ℕ}
 use mathlib.Core.List.{List, [], _∷_, _++_}
+use denote.Ref.{now}
 use borrow.Author.Needs.{needs}
 use Rattle.script.specs.Rows.{ahead}
 use Rattle.script.proofs.Taking.{Took, took-none, took, faulty}
@@ -9,61 +10,61 @@ use Rattle.script.proofs.fields.first.Statement.{statement}
 use Rattle.script.proofs.fields.first.Tie as tie
 
 abbrev start : tie.After-known-told → tie.Start
-start c = c .before .before .before .before
+start c = c .before .before .before .before .before
 
 abbrev nums : tie.After-known-told → List ℕ
 nums c = c .before .seat .given .0 .0 ∷ []
 
-got : (c : tie.After-known-told) → Took (start c .args .uses) (start c .args .t1) 0 1 (nums c)
+got : (c : tie.After-known-told) → Took (start c .args .uses) (start c .args .given) (now (start c .args .vals)) 1 1 (nums c)
 got c = took took-none (c .before .before .before .field .ensures) (c .before .seat .given .1)
 
 abbrev start2 : tie.After-known-told2 → tie.Start
-start2 c = start (c .before .before .before .before)
+start2 c = start (c .before .before .before .before .before)
 
 abbrev nums2 : tie.After-known-told2 → List ℕ
-nums2 c = nums (c .before .before .before .before) ++ (c .before .user .given .0 .0 ∷ [])
+nums2 c = nums (c .before .before .before .before .before) ++ (c .before .user .given .0 .0 ∷ [])
 
-got2 : (c : tie.After-known-told2) → Took (start2 c .args .uses) (start2 c .args .t1) 0 2 (nums2 c)
-got2 c = took (got (c .before .before .before .before)) (c .before .before .before .field2 .ensures) (c .before .user .given .1)
+got2 : (c : tie.After-known-told2) → Took (start2 c .args .uses) (start2 c .args .given) (now (start2 c .args .vals)) 1 2 (nums2 c)
+got2 c = took (got (c .before .before .before .before .before)) (c .before .before .before .field2 .ensures) (c .before .user .given .1)
 
 abbrev start3 : tie.After-known-told3 → tie.Start
-start3 c = start2 (c .before .before .before .before)
+start3 c = start2 (c .before .before .before .before .before)
 
 abbrev nums3 : tie.After-known-told3 → List ℕ
-nums3 c = nums2 (c .before .before .before .before) ++ (c .before .role .given .0 .0 ∷ [])
+nums3 c = nums2 (c .before .before .before .before .before) ++ (c .before .role .given .0 .0 ∷ [])
 
-got3 : (c : tie.After-known-told3) → Took (start3 c .args .uses) (start3 c .args .t1) 0 3 (nums3 c)
-got3 c = took (got2 (c .before .before .before .before)) (c .before .before .before .field3 .ensures) (c .before .role .given .1)
+got3 : (c : tie.After-known-told3) → Took (start3 c .args .uses) (start3 c .args .given) (now (start3 c .args .vals)) 1 3 (nums3 c)
+got3 c = took (got2 (c .before .before .before .before .before)) (c .before .before .before .field3 .ensures) (c .before .role .given .1)
 
 abbrev start4 : tie.After-known-told4 → tie.Start
-start4 c = start3 (c .before .before .before .before)
+start4 c = start3 (c .before .before .before .before .before)
 
 abbrev nums4 : tie.After-known-told4 → List ℕ
-nums4 c = nums3 (c .before .before .before .before) ++ (c .before .entity .given .0 .0 ∷ [])
+nums4 c = nums3 (c .before .before .before .before .before) ++ (c .before .entity .given .0 .0 ∷ [])
 
-got4 : (c : tie.After-known-told4) → Took (start4 c .args .uses) (start4 c .args .t1) 0 4 (nums4 c)
-got4 c = took (got3 (c .before .before .before .before)) (c .before .before .before .field4 .ensures) (c .before .entity .given .1)
+got4 : (c : tie.After-known-told4) → Took (start4 c .args .uses) (start4 c .args .given) (now (start4 c .args .vals)) 1 4 (nums4 c)
+got4 c = took (got3 (c .before .before .before .before .before)) (c .before .before .before .field4 .ensures) (c .before .entity .given .1)
 
 abbrev start5 : tie.After-known-told5 → tie.Start
-start5 c = start4 (c .before .before .before .before)
+start5 c = start4 (c .before .before .before .before .before)
 
 abbrev nums5 : tie.After-known-told5 → List ℕ
-nums5 c = nums4 (c .before .before .before .before) ++ (c .before .parent .given .0 .0 ∷ [])
+nums5 c = nums4 (c .before .before .before .before .before) ++ (c .before .parent .given .0 .0 ∷ [])
 
-got5 : (c : tie.After-known-told5) → Took (start5 c .args .uses) (start5 c .args .t1) 0 5 (nums5 c)
-got5 c = took (got4 (c .before .before .before .before)) (c .before .before .before .field5 .ensures) (c .before .parent .given .1)
+got5 : (c : tie.After-known-told5) → Took (start5 c .args .uses) (start5 c .args .given) (now (start5 c .args .vals)) 1 5 (nums5 c)
+got5 c = took (got4 (c .before .before .before .before .before)) (c .before .before .before .field5 .ensures) (c .before .parent .given .1)
 
 abbrev start6 : tie.After-known-told6 → tie.Start
-start6 c = start5 (c .before .before .before .before)
+start6 c = start5 (c .before .before .before .before .before)
 
 abbrev nums6 : tie.After-known-told6 → List ℕ
-nums6 c = nums5 (c .before .before .before .before) ++ (c .before .kind .given .0 .0 ∷ [])
+nums6 c = nums5 (c .before .before .before .before .before) ++ (c .before .kind .given .0 .0 ∷ [])
 
-got6 : (c : tie.After-known-told6) → Took (start6 c .args .uses) (start6 c .args .t1) 0 6 (nums6 c)
-got6 c = took (got5 (c .before .before .before .before)) (c .before .before .before .field6 .ensures) (c .before .kind .given .1)
+got6 : (c : tie.After-known-told6) → Took (start6 c .args .uses) (start6 c .args .given) (now (start6 c .args .vals)) 1 6 (nums6 c)
+got6 c = took (got5 (c .before .before .before .before .before)) (c .before .before .before .field6 .ensures) (c .before .kind .given .1)
 
-array-read-field : tie.Need-array-read-field
-array-read-field c = search needs
+element-copy-out-field : tie.Need-element-copy-out-field
+element-copy-out-field c = search needs
 
 field-requires : tie.Need-field-requires
 field-requires c κs = search needs
@@ -78,8 +79,8 @@ returns : tie.Need-returns
 unfolding ahead
 returns c = faulty took-none (c .before .before .field .ensures) (c .enum-told .given .1) 5
 
-array-read-field-2 : tie.Need-array-read-field-2
-array-read-field-2 c = search needs
+element-copy-out-field-2 : tie.Need-element-copy-out-field-2
+element-copy-out-field-2 c = search needs
 
 field-requires-2 : tie.Need-field-requires-2
 field-requires-2 c κs = search needs
@@ -92,10 +93,10 @@ enum-told-2 c = search needs
 
 returns-2 : tie.Need-returns-2
 unfolding ahead
-returns-2 c = faulty (got (c .before .before .before)) (c .before .before .field2 .ensures) (c .enum-told2 .given .1) 4
+returns-2 c = faulty (got (c .before .before .before .before)) (c .before .before .field2 .ensures) (c .enum-told2 .given .1) 4
 
-array-read-field-3 : tie.Need-array-read-field-3
-array-read-field-3 c = search needs
+element-copy-out-field-3 : tie.Need-element-copy-out-field-3
+element-copy-out-field-3 c = search needs
 
 field-requires-3 : tie.Need-field-requires-3
 field-requires-3 c κs = search needs
@@ -108,10 +109,10 @@ enum-told-3 c = search needs
 
 returns-3 : tie.Need-returns-3
 unfolding ahead
-returns-3 c = faulty (got2 (c .before .before .before)) (c .before .before .field3 .ensures) (c .enum-told3 .given .1) 3
+returns-3 c = faulty (got2 (c .before .before .before .before)) (c .before .before .field3 .ensures) (c .enum-told3 .given .1) 3
 
-array-read-field-4 : tie.Need-array-read-field-4
-array-read-field-4 c = search needs
+element-copy-out-field-4 : tie.Need-element-copy-out-field-4
+element-copy-out-field-4 c = search needs
 
 field-requires-4 : tie.Need-field-requires-4
 field-requires-4 c κs = search needs
@@ -124,10 +125,10 @@ enum-told-4 c = search needs
 
 returns-4 : tie.Need-returns-4
 unfolding ahead
-returns-4 c = faulty (got3 (c .before .before .before)) (c .before .before .field4 .ensures) (c .enum-told4 .given .1) 2
+returns-4 c = faulty (got3 (c .before .before .before .before)) (c .before .before .field4 .ensures) (c .enum-told4 .given .1) 2
 
-array-read-field-5 : tie.Need-array-read-field-5
-array-read-field-5 c = search needs
+element-copy-out-field-5 : tie.Need-element-copy-out-field-5
+element-copy-out-field-5 c = search needs
 
 field-requires-5 : tie.Need-field-requires-5
 field-requires-5 c κs = search needs
@@ -140,10 +141,10 @@ enum-told-5 c = search needs
 
 returns-5 : tie.Need-returns-5
 unfolding ahead
-returns-5 c = faulty (got4 (c .before .before .before)) (c .before .before .field5 .ensures) (c .enum-told5 .given .1) 1
+returns-5 c = faulty (got4 (c .before .before .before .before)) (c .before .before .field5 .ensures) (c .enum-told5 .given .1) 1
 
-array-read-field-6 : tie.Need-array-read-field-6
-array-read-field-6 c = search needs
+element-copy-out-field-6 : tie.Need-element-copy-out-field-6
+element-copy-out-field-6 c = search needs
 
 field-requires-6 : tie.Need-field-requires-6
 field-requires-6 c κs = search needs
@@ -156,7 +157,7 @@ enum-told-6 c = search needs
 
 returns-6 : tie.Need-returns-6
 unfolding ahead
-returns-6 c = faulty (got5 (c .before .before .before)) (c .before .before .field6 .ensures) (c .enum-told6 .given .1) 0
+returns-6 c = faulty (got5 (c .before .before .before .before)) (c .before .before .field6 .ensures) (c .enum-told6 .given .1) 0
 
 returns-7 : tie.Need-returns-7
 unfolding ahead
@@ -166,32 +167,32 @@ pub first-spec : {M : Type 1} → statement M
 first-spec =
     tie.close
     (tie.spec
-    array-read-field
+    element-copy-out-field
     field-requires
     enum-known-seat
     enum-told
     returns
-    array-read-field-2
+    element-copy-out-field-2
     field-requires-2
     enum-known-user
     enum-told-2
     returns-2
-    array-read-field-3
+    element-copy-out-field-3
     field-requires-3
     enum-known-role
     enum-told-3
     returns-3
-    array-read-field-4
+    element-copy-out-field-4
     field-requires-4
     enum-known-entity
     enum-told-4
     returns-4
-    array-read-field-5
+    element-copy-out-field-5
     field-requires-5
     enum-known-parent
     enum-told-5
     returns-5
-    array-read-field-6
+    element-copy-out-field-6
     field-requires-6
     enum-known-kind
     enum-told-6

@@ -2,6 +2,7 @@
 -- number too or a fault. Assumes nothing.
 use Prim.Native.Nat.{ℕ}
 use mathlib.Core.List.{List, [], _∷_, _++_}
+use denote.Ref.{now}
 use borrow.Author.Needs.{needs}
 use Rattle.script.specs.Line.{these, joined}
 use Rattle.script.specs.Rows.{front}
@@ -10,52 +11,52 @@ use Rattle.script.proofs.fields.second.Statement.{statement}
 use Rattle.script.proofs.fields.second.Tie as tie
 
 abbrev start : tie.After-known-told → tie.Start
-start c = c .before .before .before .before
+start c = c .before .before .before .before .before
 
 abbrev nums : tie.After-known-told → List ℕ
 nums c = c .before .name .given .0 .0 ∷ []
 
-got : (c : tie.After-known-told) → Took (start c .args .uses) (start c .args .t3) 6 1 (nums c)
+got : (c : tie.After-known-told) → Took (start c .args .uses) (start c .args .given) (now (start c .args .vals)) 7 1 (nums c)
 got c = took took-none (c .before .before .before .field .ensures) (c .before .name .given .1)
 
 abbrev start2 : tie.After-known-told2 → tie.Start
-start2 c = start (c .before .before .before .before)
+start2 c = start (c .before .before .before .before .before)
 
 abbrev nums2 : tie.After-known-told2 → List ℕ
-nums2 c = nums (c .before .before .before .before) ++ (c .before .level .given .0 .0 ∷ [])
+nums2 c = nums (c .before .before .before .before .before) ++ (c .before .level .given .0 .0 ∷ [])
 
-got2 : (c : tie.After-known-told2) → Took (start2 c .args .uses) (start2 c .args .t3) 6 2 (nums2 c)
-got2 c = took (got (c .before .before .before .before)) (c .before .before .before .field2 .ensures) (c .before .level .given .1)
+got2 : (c : tie.After-known-told2) → Took (start2 c .args .uses) (start2 c .args .given) (now (start2 c .args .vals)) 7 2 (nums2 c)
+got2 c = took (got (c .before .before .before .before .before)) (c .before .before .before .field2 .ensures) (c .before .level .given .1)
 
 abbrev start3 : tie.After-known-told3 → tie.Start
-start3 c = start2 (c .before .before .before .before)
+start3 c = start2 (c .before .before .before .before .before)
 
 abbrev nums3 : tie.After-known-told3 → List ℕ
-nums3 c = nums2 (c .before .before .before .before) ++ (c .before .cats .given .0 .0 ∷ [])
+nums3 c = nums2 (c .before .before .before .before .before) ++ (c .before .cats .given .0 .0 ∷ [])
 
-got3 : (c : tie.After-known-told3) → Took (start3 c .args .uses) (start3 c .args .t3) 6 3 (nums3 c)
-got3 c = took (got2 (c .before .before .before .before)) (c .before .before .before .field3 .ensures) (c .before .cats .given .1)
+got3 : (c : tie.After-known-told3) → Took (start3 c .args .uses) (start3 c .args .given) (now (start3 c .args .vals)) 7 3 (nums3 c)
+got3 c = took (got2 (c .before .before .before .before .before)) (c .before .before .before .field3 .ensures) (c .before .cats .given .1)
 
 abbrev start4 : tie.After-known-told4 → tie.Start
-start4 c = start3 (c .before .before .before .before)
+start4 c = start3 (c .before .before .before .before .before)
 
 abbrev nums4 : tie.After-known-told4 → List ℕ
-nums4 c = nums3 (c .before .before .before .before) ++ (c .before .rights .given .0 .0 ∷ [])
+nums4 c = nums3 (c .before .before .before .before .before) ++ (c .before .rights .given .0 .0 ∷ [])
 
-got4 : (c : tie.After-known-told4) → Took (start4 c .args .uses) (start4 c .args .t3) 6 4 (nums4 c)
-got4 c = took (got3 (c .before .before .before .before)) (c .before .before .before .field4 .ensures) (c .before .rights .given .1)
+got4 : (c : tie.After-known-told4) → Took (start4 c .args .uses) (start4 c .args .given) (now (start4 c .args .vals)) 7 4 (nums4 c)
+got4 c = took (got3 (c .before .before .before .before .before)) (c .before .before .before .field4 .ensures) (c .before .rights .given .1)
 
 abbrev start5 : tie.After-known-told5 → tie.Start
-start5 c = start4 (c .before .before .before .before)
+start5 c = start4 (c .before .before .before .before .before)
 
 abbrev nums5 : tie.After-known-told5 → List ℕ
-nums5 c = nums4 (c .before .before .before .before) ++ (c .before .ceiling .given .0 .0 ∷ [])
+nums5 c = nums4 (c .before .before .before .before .before) ++ (c .before .ceiling .given .0 .0 ∷ [])
 
-got5 : (c : tie.After-known-told5) → Took (start5 c .args .uses) (start5 c .args .t3) 6 5 (nums5 c)
-got5 c = took (got4 (c .before .before .before .before)) (c .before .before .before .field5 .ensures) (c .before .ceiling .given .1)
+got5 : (c : tie.After-known-told5) → Took (start5 c .args .uses) (start5 c .args .given) (now (start5 c .args .vals)) 7 5 (nums5 c)
+got5 c = took (got4 (c .before .before .before .before .before)) (c .before .before .before .field5 .ensures) (c .before .ceiling .given .1)
 
-array-read-field : tie.Need-array-read-field
-array-read-field c = search needs
+element-copy-out-field : tie.Need-element-copy-out-field
+element-copy-out-field c = search needs
 
 field-requires : tie.Need-field-requires
 field-requires c κs = search needs
@@ -69,8 +70,8 @@ enum-told c = search needs
 returns : tie.Need-returns
 returns c = asks-bad _ _ _ (faulty took-none (c .before .before .field .ensures) (c .enum-told .given .1) 4 _)
 
-array-read-field-2 : tie.Need-array-read-field-2
-array-read-field-2 c = search needs
+element-copy-out-field-2 : tie.Need-element-copy-out-field-2
+element-copy-out-field-2 c = search needs
 
 field-requires-2 : tie.Need-field-requires-2
 field-requires-2 c κs = search needs
@@ -82,10 +83,10 @@ enum-told-2 : tie.Need-enum-told-2
 enum-told-2 c = search needs
 
 returns-2 : tie.Need-returns-2
-returns-2 c = asks-bad _ _ _ (faulty (got (c .before .before .before)) (c .before .before .field2 .ensures) (c .enum-told2 .given .1) 3 _)
+returns-2 c = asks-bad _ _ _ (faulty (got (c .before .before .before .before)) (c .before .before .field2 .ensures) (c .enum-told2 .given .1) 3 _)
 
-array-read-field-3 : tie.Need-array-read-field-3
-array-read-field-3 c = search needs
+element-copy-out-field-3 : tie.Need-element-copy-out-field-3
+element-copy-out-field-3 c = search needs
 
 field-requires-3 : tie.Need-field-requires-3
 field-requires-3 c κs = search needs
@@ -97,10 +98,10 @@ enum-told-3 : tie.Need-enum-told-3
 enum-told-3 c = search needs
 
 returns-3 : tie.Need-returns-3
-returns-3 c = asks-bad _ _ _ (faulty (got2 (c .before .before .before)) (c .before .before .field3 .ensures) (c .enum-told3 .given .1) 2 _)
+returns-3 c = asks-bad _ _ _ (faulty (got2 (c .before .before .before .before)) (c .before .before .field3 .ensures) (c .enum-told3 .given .1) 2 _)
 
-array-read-field-4 : tie.Need-array-read-field-4
-array-read-field-4 c = search needs
+element-copy-out-field-4 : tie.Need-element-copy-out-field-4
+element-copy-out-field-4 c = search needs
 
 field-requires-4 : tie.Need-field-requires-4
 field-requires-4 c κs = search needs
@@ -112,10 +113,10 @@ enum-told-4 : tie.Need-enum-told-4
 enum-told-4 c = search needs
 
 returns-4 : tie.Need-returns-4
-returns-4 c = asks-bad _ _ _ (faulty (got3 (c .before .before .before)) (c .before .before .field4 .ensures) (c .enum-told4 .given .1) 1 _)
+returns-4 c = asks-bad _ _ _ (faulty (got3 (c .before .before .before .before)) (c .before .before .field4 .ensures) (c .enum-told4 .given .1) 1 _)
 
-array-read-field-5 : tie.Need-array-read-field-5
-array-read-field-5 c = search needs
+element-copy-out-field-5 : tie.Need-element-copy-out-field-5
+element-copy-out-field-5 c = search needs
 
 field-requires-5 : tie.Need-field-requires-5
 field-requires-5 c κs = search needs
@@ -127,7 +128,7 @@ enum-told-5 : tie.Need-enum-told-5
 enum-told-5 c = search needs
 
 returns-5 : tie.Need-returns-5
-returns-5 c = asks-bad _ _ _ (faulty (got4 (c .before .before .before)) (c .before .before .field5 .ensures) (c .enum-told5 .given .1) 0 _)
+returns-5 c = asks-bad _ _ _ (faulty (got4 (c .before .before .before .before)) (c .before .before .field5 .ensures) (c .enum-told5 .given .1) 0 _)
 
 returns-6 : tie.Need-returns-6
 unfolding front joined
@@ -141,27 +142,27 @@ pub second-spec : {M : Type 1} → statement M
 second-spec =
     tie.close
     (tie.spec
-    array-read-field
+    element-copy-out-field
     field-requires
     enum-known-name
     enum-told
     returns
-    array-read-field-2
+    element-copy-out-field-2
     field-requires-2
     enum-known-level
     enum-told-2
     returns-2
-    array-read-field-3
+    element-copy-out-field-3
     field-requires-3
     enum-known-cats
     enum-told-3
     returns-3
-    array-read-field-4
+    element-copy-out-field-4
     field-requires-4
     enum-known-rights
     enum-told-4
     returns-4
-    array-read-field-5
+    element-copy-out-field-5
     field-requires-5
     enum-known-ceiling
     enum-told-5

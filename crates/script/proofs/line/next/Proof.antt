@@ -1,27 +1,54 @@
--- `next` reads the line up to byte 10. Assumes nothing.
-use mathlib.Core.Path.{ap, _∙_}
-use Rattle.script.specs.Line.{readLine}
-use Rattle.script.specs.Entry.{entry}
-use Rattle.script.proofs.Parts.{before-take, part-length}
+-- `script::line::next` meets its contract: the request of the line's row. Assumes nothing.
 use borrow.Author.Needs.{needs}
+use Rattle.script.proofs.Asking.{entry-ask, entry-user, entry-bad}
 use Rattle.script.proofs.line.next.Statement.{statement}
 use Rattle.script.proofs.line.next.Tie as tie
 
-find-requires : tie.Need-find-requires
-find-requires c κs = search needs
+empty-requires : tie.Need-empty-requires
+empty-requires c κs = search needs
 
-slice-aggregate-read : tie.Need-slice-aggregate-read
-slice-aggregate-read c = part-length 10 _ _ (c .before .find .ensures)
+read-row-requires : tie.Need-read-row-requires
+read-row-requires c κs = search needs
 
-read-requires : tie.Need-read-requires
-read-requires c κs = search needs
+asked-requires : tie.Need-asked-requires
+asked-requires c κs = search needs
 
-entry-requires : tie.Need-entry-requires
-entry-requires c κs = search needs
+enum-known-l : tie.Need-enum-known-l
+enum-known-l c = search needs
+
+enum-told : tie.Need-enum-told
+enum-told c = search needs
+
+nothing-requires : tie.Need-nothing-requires
+nothing-requires c κs = search needs
+
+enum-told-2 : tie.Need-enum-told-2
+enum-told-2 c = search needs
+
+nothing-requires-2 : tie.Need-nothing-requires-2
+nothing-requires-2 c κs = search needs
 
 returns : tie.Need-returns
-returns c = (search needs, λ h o. c .entry .ensures ∙ ap entry (c .before .read .ensures h o ∙ ap (readLine h) (rw (c .before .before .before .find .ensures) (before-take 10 _))))
+returns c = (c .before .before .before .before .before .read-row .ensures .long, λ h o. entry-ask (c .before .before .before .asked .ensures h _ _ o (c .before .before .before .before .before .read-row .ensures)) (c .before .l .given .1))
+
+returns-2 : tie.Need-returns-2
+returns-2 c = (c .before .before .before .before .before .read-row .ensures .long, λ h o. entry-user (c .before .before .before .asked .ensures h _ _ o (c .before .before .before .before .before .read-row .ensures)) (c .before .enum-told .given .1) (c .nothing .ensures))
+
+returns-3 : tie.Need-returns-3
+returns-3 c = (c .before .before .before .before .before .read-row .ensures .long, λ h o. entry-bad (c .before .before .before .asked .ensures h _ _ o (c .before .before .before .before .before .read-row .ensures)) (c .before .enum-told2 .given .1) (c .nothing2 .ensures))
 
 pub next-spec : {M : Type 1} → statement M
 next-spec =
-    tie.close (tie.spec find-requires slice-aggregate-read read-requires entry-requires returns)
+    tie.close
+    (tie.spec
+    empty-requires
+    read-row-requires
+    asked-requires
+    enum-known-l
+    enum-told
+    nothing-requires
+    enum-told-2
+    nothing-requires-2
+    returns
+    returns-2
+    returns-3)

@@ -1,56 +1,128 @@
--- `script::row::code_at` meets its contract: the word's number under `call`, and else the code of the value. Assumes
--- nothing.
+-- `script::row::code_at` meets its contract: what stands at the front is told by its first bytes. Assumes nothing.
+use denote.Ref.{now}
 use borrow.Author.Needs.{needs}
-use Rattle.script.specs.Rows.{coded}
-use Rattle.script.specs.declared.line.Value.the-variants.{Digits, Dash, Other}
-use Rattle.script.proofs.Rows.{code-word, code-value}
+use native.Mathlib.Omega.{arith}
+use Rattle.script.proofs.Finding.{found-one, found-two, found-last, found-word}
 use Rattle.script.proofs.row.code_at.Statement.{statement}
 use Rattle.script.proofs.row.code_at.Tie as tie
 
-word-at-requires : tie.Need-word-at-requires
-word-at-requires c κs = search needs
+add-if2 : tie.Need-add-if2
+add-if2 c = search needs
 
-cast-result : tie.Need-cast-result
-cast-result c = search needs
+word-key-requires : tie.Need-word-key-requires
+word-key-requires c κs = search needs
+
+word-of-requires : tie.Need-word-of-requires
+word-of-requires c κs = search needs
+
+add-t13 : tie.Need-add-t13
+add-t13 c = search needs
 
 returns : tie.Need-returns
-returns c = code-word _ _ _ (c .before .if1 .taken) (c .word-at .ensures)
+returns c = found-word (c .before .before .before .before .before .before .before .args .i) (c .before .before .before .before .before .before .before .args .from) _ _ _ (now (c .before .before .before .before .before .before .before .args .s)) (c .before .before .before .before .before .if1 .taken) (c .before .before .before .before .if2 .taken) (λ k. c .before .before .before .before .before .before .shared-slice-known .given k .fits) (c .before .before .before .word-key .ensures) (c .before .before .word-of .ensures) (c .before .if3 .taken)
 
-value-requires : tie.Need-value-requires
-value-requires c κs = search needs
+add-if4 : tie.Need-add-if4
+add-if4 c = search needs
 
-enum-known-v : tie.Need-enum-known-v
-enum-known-v c = search needs
+byte-requires : tie.Need-byte-requires
+byte-requires c κs = search needs
 
-enum-told : tie.Need-enum-told
-enum-told c = search needs
+is-digit-requires : tie.Need-is-digit-requires
+is-digit-requires c κs = search needs
 
-enum-told-2 : tie.Need-enum-told-2
-enum-told-2 c = search needs
+add-byte : tie.Need-add-byte
+add-byte c = search needs
+
+byte-requires-2 : tie.Need-byte-requires-2
+byte-requires-2 c κs = search needs
+
+sub-t20 : tie.Need-sub-t20
+sub-t20 c = omega (arith, c .before .before .before .is-digit .ensures (c .before .before .if5 .taken))
+
+cast-t21 : tie.Need-cast-t21
+cast-t21 c = search needs
+
+add-t22 : tie.Need-add-t22
+add-t22 c = search needs
 
 returns-2 : tie.Need-returns-2
-unfolding coded
-returns-2 c = code-value _ _ (Digits (c .before .v .given .0 .0)) _ (c .before .before .before .before .if1 .left) (c .before .before .before .value .ensures) (c .before .v .given .1)
+returns-2 c = found-one (c .before .before .before .before .before .before .before .before .args .i) (c .before .before .before .before .before .before .before .before .args .from) _ _ (now (c .before .before .before .before .before .before .before .before .args .s)) (c .before .before .before .before .before .if4 .taken) (c .before .before .before .before .byte .ensures .0) (c .before .byte2 .ensures .0) (c .before .before .before .before .before .before .if1 .left) (c .before .before .before .is-digit .ensures (c .before .before .if5 .taken)) (c .if6 .taken)
+
+is-digit-requires-2 : tie.Need-is-digit-requires-2
+is-digit-requires-2 c κs = search needs
+
+add-if8 : tie.Need-add-if8
+add-if8 c = search needs
+
+shared-slice-read-if8 : tie.Need-shared-slice-read-if8
+shared-slice-read-if8 c = search needs
+
+sub-t28 : tie.Need-sub-t28
+sub-t28 c = omega (arith, c .before .before .before .before .before .before .before .is-digit .ensures (c .before .before .before .before .before .before .if5 .taken))
+
+mul-t29 : tie.Need-mul-t29
+mul-t29 c = search needs
+
+sub-t30 : tie.Need-sub-t30
+sub-t30 c = omega (arith, c .before .before .before .is-digit2 .ensures (c .before .before .if7 .taken))
+
+add-t31 : tie.Need-add-t31
+add-t31 c = search needs
+
+cast-t32 : tie.Need-cast-t32
+cast-t32 c = search needs
+
+add-t33 : tie.Need-add-t33
+add-t33 c = search needs
 
 returns-3 : tie.Need-returns-3
-unfolding coded
-returns-3 c = code-value _ _ Dash _ (c .before .before .before .if1 .left) (c .before .before .value .ensures) (c .enum-told .given .1)
+returns-3 c = found-two (c .before .before .before .before .before .before .before .before .before .before .before .before .args .i) (c .before .before .before .before .before .before .before .before .before .before .before .before .args .from) _ _ (now (c .before .before .before .before .before .before .before .before .before .before .before .before .args .s)) (c .before .before .before .before .before .before .before .before .before .if4 .taken) (c .before .before .before .before .before .before .before .before .byte .ensures .0) (c .before .before .before .before .before .byte2 .ensures .0) (c .before .before .before .before .before .before .before .before .before .before .if1 .left) (c .before .before .before .before .before .before .before .is-digit .ensures (c .before .before .before .before .before .before .if5 .taken)) (c .before .before .before .is-digit2 .ensures (c .before .before .if7 .taken)) (c .if8 .taken)
+
+pair-requires : tie.Need-pair-requires
+pair-requires c κs = search needs
+
+add-t36 : tie.Need-add-t36
+add-t36 c = search needs
 
 returns-4 : tie.Need-returns-4
-unfolding coded
-returns-4 c = code-value _ _ Other _ (c .before .before .before .if1 .left) (c .before .before .value .ensures) (c .enum-told2 .given .1)
+returns-4 c = found-last (c .before .before .before .before .before .before .before .before .args .i) (c .before .before .before .before .before .before .before .before .args .from) _ (now (c .before .before .before .before .before .before .before .before .args .s)) (c .before .before .before .before .before .if4 .taken) (c .before .pair .ensures .0) (c .before .pair .ensures .1) (c .if9 .taken)
+
+any-at-requires : tie.Need-any-at-requires
+any-at-requires c κs = search needs
+
+returns-5 : tie.Need-returns-5
+returns-5 c = search needs
 
 pub code-at-spec : {M : Type 1} → statement M
 code-at-spec =
     tie.close
     (tie.spec
-    word-at-requires
-    cast-result
+    add-if2
+    word-key-requires
+    word-of-requires
+    add-t13
     returns
-    value-requires
-    enum-known-v
-    enum-told
-    enum-told-2
+    add-if4
+    byte-requires
+    is-digit-requires
+    add-byte
+    byte-requires-2
+    sub-t20
+    cast-t21
+    add-t22
     returns-2
+    is-digit-requires-2
+    add-if8
+    shared-slice-read-if8
+    sub-t28
+    mul-t29
+    sub-t30
+    add-t31
+    cast-t32
+    add-t33
     returns-3
-    returns-4)
+    pair-requires
+    add-t36
+    returns-4
+    any-at-requires
+    returns-5)

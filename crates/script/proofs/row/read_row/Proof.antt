@@ -1,72 +1,101 @@
--- `script::row::read_row` meets its contract. The loop's invariant: the values so far stand under their names. The measure is
--- what is left of the line. Assumes nothing.
+-- `script::row::read_row` meets its contract. The loop's invariant: the numbers so far stand under their names. The measure is
+-- what is left of the slice. Assumes nothing.
 use Prim.Native.Nat.{_-_}
+use native.Mathlib.Omega.{arith}
 use lib.ListN.{length}
 use borrow.Author.Needs.{needs}
-use Rattle.script.proofs.Parts.{part-length}
-use Rattle.script.proofs.Rows.{Filled, filled-start, filled-more, filled-end, filled-over}
+use borrow.Author.Tests.{not-true, not-false}
+use Rattle.script.proofs.Rows.{Filled, filled-start, row-other, row-over}
+use Rattle.script.proofs.Stores.{filled-number, filled-dash, row-number, row-dash, filled-slice, found-slice, found-less, filled-skip}
 use Rattle.script.proofs.row.read_row.Statement.{statement}
 use Rattle.script.proofs.row.read_row.Tie as tie
 
 abbrev Inv-loop : tie.InvT-loop
-Inv-loop s at vals₀ from₀ j₀ vals from j = Filled s at vals from j
+Inv-loop s at vals₀ given₀ from₀ j₀ vals given from j = Filled s at vals given from j
 
 abbrev μ-loop : tie.MeasureT-loop
-μ-loop s at vals₀ from₀ j₀ vals from j = length s - from
+μ-loop s at vals₀ given₀ from₀ j₀ vals given from j = length s - from
 
 loop-holds : tie.Need-loop-holds Inv-loop μ-loop
-loop-holds c = filled-start _ _
+loop-holds c = filled-start _ _ _ (c .before .pre)
 
-sub-rest : tie.Need-sub-rest Inv-loop μ-loop
-sub-rest c = search needs
+add-if1 : tie.Need-add-if1 Inv-loop μ-loop
+add-if1 c = omega (arith, filled-slice (c .loop .inv), c .loop .inv .less)
 
-part-rest-start : tie.Need-part-rest-start Inv-loop μ-loop
-part-rest-start c = search needs
+pair-requires : tie.Need-pair-requires Inv-loop μ-loop
+pair-requires c κs = omega arith
 
-part-rest-end : tie.Need-part-rest-end Inv-loop μ-loop
-part-rest-end c = search needs
+add-from : tie.Need-add-from Inv-loop μ-loop
+add-from c = omega arith
 
-find-requires : tie.Need-find-requires Inv-loop μ-loop
-find-requires c κs = search needs
+add-j : tie.Need-add-j Inv-loop μ-loop
+add-j c = omega (arith, filled-slice (c .before .before .before .loop .inv), c .before .before .before .loop .inv .less)
 
-array-read-i : tie.Need-array-read-i Inv-loop μ-loop
-array-read-i c = search needs
+loop-less : tie.Need-loop-less Inv-loop μ-loop
+loop-less c = omega arith
+
+loop-again : tie.Need-loop-again Inv-loop μ-loop
+loop-again c = filled-skip (c .before .before .before .loop .inv) (c .before .before .if1 .taken) (c .before .pair .ensures) (c .if2 .taken)
+
+end-of-requires : tie.Need-end-of-requires Inv-loop μ-loop
+end-of-requires c κs = omega (arith, filled-slice (c .before .before .loop .inv), c .before .before .loop .inv .less)
+
+returns : tie.Need-returns Inv-loop μ-loop
+returns c = row-over (c .before .before .before .loop .inv) (c .before .if3 .taken) (c .end-of .ensures)
+
+element-copy-out-i : tie.Need-element-copy-out-i Inv-loop μ-loop
+element-copy-out-i c = search needs
 
 cast-i : tie.Need-cast-i Inv-loop μ-loop
 cast-i c = search needs
 
-slice-aggregate-code-at : tie.Need-slice-aggregate-code-at Inv-loop μ-loop
-slice-aggregate-code-at c = part-length 32 _ _ (c .before .find .ensures)
-
 code-at-requires : tie.Need-code-at-requires Inv-loop μ-loop
-code-at-requires c κs = search needs
+code-at-requires c κs = omega (arith, filled-slice (c .before .before .before .loop .inv), c .before .before .before .loop .inv .less)
+
+add-j-2 : tie.Need-add-j-2 Inv-loop μ-loop
+add-j-2 c = omega arith
+
+cast-vals : tie.Need-cast-vals Inv-loop μ-loop
+cast-vals c = search needs
 
 mul-vals : tie.Need-mul-vals Inv-loop μ-loop
 mul-vals c = search needs
 
-array-write-vals : tie.Need-array-write-vals Inv-loop μ-loop
-array-write-vals c = search needs
+element-write-vals : tie.Need-element-write-vals Inv-loop μ-loop
+element-write-vals c = search needs
 
-add-j : tie.Need-add-j Inv-loop μ-loop
-add-j c = search needs
-
-returns : tie.Need-returns Inv-loop μ-loop
-returns c = filled-end (c .before .before .before .before .before .loop .inv) (c .before .before .before .find .ensures) (c .before .code-at .ensures) (c .if1 .taken)
+with16-requires : tie.Need-with16-requires Inv-loop μ-loop
+with16-requires c κs = search needs
 
 returns-2 : tie.Need-returns-2 Inv-loop μ-loop
-returns-2 c = filled-over (c .before .before .before .before .before .before .loop .inv) (c .before .before .before .before .find .ensures) (c .before .before .code-at .ensures) (c .before .if1 .left) (c .if2 .taken)
-
-add-from : tie.Need-add-from Inv-loop μ-loop
-add-from c = search needs
+returns-2 c = row-number (c .before .before .before .before .before .before .before .before .before .loop .inv) (c .before .before .before .before .before .code-at .ensures) (c .before .before .before .if4 .taken) (c .before .before .with16 .ensures) (not-true _ (c .if5 .taken)) (omega arith)
 
 add-from-2 : tie.Need-add-from-2 Inv-loop μ-loop
-add-from-2 c = search needs
+add-from-2 c = omega (arith, found-less (c .before .before .before .before .before .before .before .before .before .loop .inv) (c .before .before .before .before .before .code-at .ensures) (not-false _ (c .if5 .left)))
 
-loop-less : tie.Need-loop-less Inv-loop μ-loop
-loop-less c = search needs
+loop-less-2 : tie.Need-loop-less-2 Inv-loop μ-loop
+loop-less-2 c = omega (arith, found-less (c .before .before .before .before .before .before .before .before .before .loop .inv) (c .before .before .before .before .before .code-at .ensures) (not-false _ (c .if5 .left)))
 
-loop-again : tie.Need-loop-again Inv-loop μ-loop
-loop-again c = filled-more (c .before .before .before .before .before .before .loop .inv) (c .before .before .before .before .find .ensures) (c .before .before .code-at .ensures) (c .before .if1 .left) (c .if2 .left)
+loop-again-2 : tie.Need-loop-again-2 Inv-loop μ-loop
+loop-again-2 c = filled-number (c .before .before .before .before .before .before .before .before .before .loop .inv) (c .before .before .before .before .before .code-at .ensures) (c .before .before .before .if4 .taken) (c .before .before .with16 .ensures) (not-false _ (c .if5 .left)) (omega arith)
+
+end-of-requires-2 : tie.Need-end-of-requires-2 Inv-loop μ-loop
+end-of-requires-2 c κs = omega (arith, found-slice (c .before .before .before .before .before .before .before .before .loop .inv) (c .before .before .before .before .code-at .ensures))
+
+returns-3 : tie.Need-returns-3 Inv-loop μ-loop
+returns-3 c = row-other (c .before .before .before .before .before .before .before .before .before .loop .inv) (c .before .before .before .before .before .code-at .ensures) (omega arith) (c .before .if6 .taken) (c .end-of2 .ensures)
+
+returns-4 : tie.Need-returns-4 Inv-loop μ-loop
+returns-4 c = row-dash (c .before .before .before .before .before .before .before .before .before .before .loop .inv) (c .before .before .before .before .before .before .code-at .ensures) (c .before .before .before .before .if4 .left) (c .before .before .if6 .left) (not-true _ (c .if7 .taken)) (omega arith)
+
+add-from-3 : tie.Need-add-from-3 Inv-loop μ-loop
+add-from-3 c = omega (arith, found-less (c .before .before .before .before .before .before .before .before .before .before .loop .inv) (c .before .before .before .before .before .before .code-at .ensures) (not-false _ (c .if7 .left)))
+
+loop-less-3 : tie.Need-loop-less-3 Inv-loop μ-loop
+loop-less-3 c = omega (arith, found-less (c .before .before .before .before .before .before .before .before .before .before .loop .inv) (c .before .before .before .before .before .before .code-at .ensures) (not-false _ (c .if7 .left)))
+
+loop-again-3 : tie.Need-loop-again-3 Inv-loop μ-loop
+loop-again-3 c = filled-dash (c .before .before .before .before .before .before .before .before .before .before .loop .inv) (c .before .before .before .before .before .before .code-at .ensures) (c .before .before .before .before .if4 .left) (c .before .before .if6 .left) (not-false _ (c .if7 .left))
 
 pub read-row-spec : {M : Type 1} → statement M
 read-row-spec =
@@ -75,20 +104,29 @@ read-row-spec =
     Inv-loop
     μ-loop
     loop-holds
-    sub-rest
-    part-rest-start
-    part-rest-end
-    find-requires
-    array-read-i
-    cast-i
-    slice-aggregate-code-at
-    code-at-requires
-    mul-vals
-    array-write-vals
-    add-j
-    returns
-    returns-2
+    add-if1
+    pair-requires
     add-from
-    add-from-2
+    add-j
     loop-less
-    loop-again)
+    loop-again
+    end-of-requires
+    returns
+    element-copy-out-i
+    cast-i
+    code-at-requires
+    add-j-2
+    cast-vals
+    mul-vals
+    element-write-vals
+    with16-requires
+    returns-2
+    add-from-2
+    loop-less-2
+    loop-again-2
+    end-of-requires-2
+    returns-3
+    returns-4
+    add-from-3
+    loop-less-3
+    loop-again-3)

@@ -1,4 +1,6 @@
 -- `answer_values` reads a line of values, answers it and writes the answer. Assumes nothing.
+use mathlib.Core.Path.{ap, _∙_}
+use Rattle.script.specs.Line.{readLine}
 use Rattle.script.proofs.Replies.{said-low, said-next, said-text}
 use borrow.Author.Needs.{needs}
 use Rattle.script.proofs.runner.answer_values.Statement.{statement}
@@ -23,7 +25,7 @@ returns : tie.Need-returns
 returns c =
     record {
       asked = c .before .before .before .before .before .before .before .before .read .result;
-      read = c .before .before .before .before .before .before .before .before .read .ensures;
+      read = λ header o. c .before .before .before .before .before .before .before .before .read .ensures header o ∙ ap (readLine header) (c .before .before .before .before .before .before .before .before .before .before .before .before .pre .2);
       next = said-next _ _ _ (c .before .before .before .before .before .before .answer-line .ensures);
       puts = said-text _ _ _ (c .before .before .before .before .before .before .answer-line .ensures) (c .before .before .before .put-line .ensures);
     }

@@ -2,6 +2,7 @@
 use mathlib.Core.Path.{sym}
 use lib.Seq.{length-take-le}
 use native.Mathlib.Omega.{arith}
+use Rattle.script.proofs.Spans.{before-part, before-all}
 use Rattle.script.proofs.Steps.{no-room, no-line, line-waits, idle-step, found-step, none-step, whole-step, long-step, last-step}
 use borrow.Author.Needs.{needs}
 use Rattle.script.proofs.runner.values_step.Statement.{statement}
@@ -35,7 +36,7 @@ slice-aggregate-answer-values : tie.Need-slice-aggregate-answer-values
 slice-aggregate-answer-values c = sym (length-take-le _ _ (omega arith))
 
 answer-values-requires : tie.Need-answer-values-requires
-answer-values-requires c κs = search needs
+answer-values-requires c κs = (search needs, search needs, before-part 10 _ (c .before .before .before .before .before .find .ensures))
 
 add-t21 : tie.Need-add-t21
 add-t21 c = search needs
@@ -47,7 +48,7 @@ returns-5 : tie.Need-returns-5
 returns-5 c = whole-step _ _ _ (c .before .before .before .before .before .before .before .before .before .find .ensures) (c .before .before .before .before .before .before .before .before .before .before .before .before .before .before .pre) (c .before .before .before .before .before .before .before .before .if2 .left) (c .before .before .before .before .before .before .before .before .before .before .if1 .left) (c .before .before .before .before .before .before .before .if4 .left) (c .before .before .before .before .before .before .if5 .taken) (c .before .before .before .answer-values .ensures)
 
 answer-values-requires-2 : tie.Need-answer-values-requires-2
-answer-values-requires-2 c κs = search needs
+answer-values-requires-2 c κs = (search needs, search needs, before-all 10 _ (c .before .before .before .before .before .find .ensures) (c .before .before .if5 .left))
 
 same-length-2 : tie.Need-same-length-2
 same-length-2 c = search needs
@@ -56,7 +57,7 @@ returns-6 : tie.Need-returns-6
 returns-6 c = long-step _ _ _ (c .before .before .before .before .before .before .before .before .before .find .ensures) (c .before .before .before .before .before .before .before .before .before .before .before .before .before .before .pre) (c .before .before .before .before .before .before .before .before .if2 .left) (c .before .before .before .before .before .before .before .before .before .before .if1 .left) (c .before .before .before .before .before .before .before .if4 .left) (c .before .before .before .before .before .before .if5 .left) (c .before .before .before .before .before .if6 .taken) (c .before .before .before .answer-values2 .ensures)
 
 answer-values-requires-3 : tie.Need-answer-values-requires-3
-answer-values-requires-3 c κs = search needs
+answer-values-requires-3 c κs = (search needs, search needs, before-all 10 _ (c .before .before .before .before .before .before .find .ensures) (c .before .before .before .if5 .left))
 
 same-length-3 : tie.Need-same-length-3
 same-length-3 c = search needs

@@ -1,86 +1,19 @@
 -- `script::text::word_at` finds the place among the words by the key. Assumes nothing.
-use Rattle.script.proofs.Keys.{word-keys, at-key, at-none}
 use borrow.Author.Needs.{needs}
+use mathlib.Core.Path.{ap, _∙_}
+use Rattle.script.specs.Keys.{wordOf}
+use Rattle.script.proofs.Words.{word-text}
 use Rattle.script.proofs.text.word_at.Statement.{statement}
 use Rattle.script.proofs.text.word_at.Tie as tie
 
 key-requires : tie.Need-key-requires
 key-requires c κs = search needs
 
+word-of-requires : tie.Need-word-of-requires
+word-of-requires c κs = search needs
+
 returns : tie.Need-returns
-returns c = at-key word-keys _ (c .before .before .shared-slice-known .given) (c .before .key .ensures) (c .match .keys1)
-
-returns-2 : tie.Need-returns-2
-returns-2 c = at-key word-keys _ (c .before .before .shared-slice-known .given) (c .before .key .ensures) (c .match .keys2)
-
-returns-3 : tie.Need-returns-3
-returns-3 c = at-key word-keys _ (c .before .before .shared-slice-known .given) (c .before .key .ensures) (c .match .keys3)
-
-returns-4 : tie.Need-returns-4
-returns-4 c = at-key word-keys _ (c .before .before .shared-slice-known .given) (c .before .key .ensures) (c .match .keys4)
-
-returns-5 : tie.Need-returns-5
-returns-5 c = at-key word-keys _ (c .before .before .shared-slice-known .given) (c .before .key .ensures) (c .match .keys5)
-
-returns-6 : tie.Need-returns-6
-returns-6 c = at-key word-keys _ (c .before .before .shared-slice-known .given) (c .before .key .ensures) (c .match .keys6)
-
-returns-7 : tie.Need-returns-7
-returns-7 c = at-key word-keys _ (c .before .before .shared-slice-known .given) (c .before .key .ensures) (c .match .keys7)
-
-returns-8 : tie.Need-returns-8
-returns-8 c = at-key word-keys _ (c .before .before .shared-slice-known .given) (c .before .key .ensures) (c .match .keys8)
-
-returns-9 : tie.Need-returns-9
-returns-9 c = at-key word-keys _ (c .before .before .shared-slice-known .given) (c .before .key .ensures) (c .match .keys9)
-
-returns-10 : tie.Need-returns-10
-returns-10 c = at-key word-keys _ (c .before .before .shared-slice-known .given) (c .before .key .ensures) (c .match .keys10)
-
-returns-11 : tie.Need-returns-11
-returns-11 c = at-key word-keys _ (c .before .before .shared-slice-known .given) (c .before .key .ensures) (c .match .keys11)
-
-returns-12 : tie.Need-returns-12
-returns-12 c = at-key word-keys _ (c .before .before .shared-slice-known .given) (c .before .key .ensures) (c .match .keys12)
-
-returns-13 : tie.Need-returns-13
-returns-13 c = at-key word-keys _ (c .before .before .shared-slice-known .given) (c .before .key .ensures) (c .match .keys13)
-
-returns-14 : tie.Need-returns-14
-returns-14 c = at-key word-keys _ (c .before .before .shared-slice-known .given) (c .before .key .ensures) (c .match .keys14)
-
-returns-15 : tie.Need-returns-15
-returns-15 c = at-key word-keys _ (c .before .before .shared-slice-known .given) (c .before .key .ensures) (c .match .keys15)
-
-returns-16 : tie.Need-returns-16
-returns-16 c = at-key word-keys _ (c .before .before .shared-slice-known .given) (c .before .key .ensures) (c .match .keys16)
-
-returns-17 : tie.Need-returns-17
-returns-17 c = at-key word-keys _ (c .before .before .shared-slice-known .given) (c .before .key .ensures) (c .match .keys17)
-
-returns-18 : tie.Need-returns-18
-returns-18 c = at-none word-keys _ (c .before .before .shared-slice-known .given) (c .before .key .ensures) (c .match .rest)
+returns c = c .word-of .ensures ∙ ap wordOf (c .before .key .ensures) ∙ word-text _ (λ i. c .before .before .shared-slice-known .given i .fits)
 
 pub word-at-spec : {M : Type 1} → statement M
-word-at-spec =
-    tie.close
-    (tie.spec
-    key-requires
-    returns
-    returns-2
-    returns-3
-    returns-4
-    returns-5
-    returns-6
-    returns-7
-    returns-8
-    returns-9
-    returns-10
-    returns-11
-    returns-12
-    returns-13
-    returns-14
-    returns-15
-    returns-16
-    returns-17
-    returns-18)
+word-at-spec = tie.close (tie.spec key-requires word-of-requires returns)

@@ -1,4 +1,4 @@
--- The loop that gathers lines into a batch.
+-- The loop that loads lines into a batch.
 --     batch-on               one line on, from anywhere
 --     Taken                  so far `used` bytes are taken
 --     taken-none, taken-next, taken-all     the loop's beginning, one line more, and its end

@@ -1,0 +1,123 @@
+-- What a line asks, by its row.
+--     read-bad, read-unknown, read-halves      a line that can't be read; an unknown word; the two halves of the fields
+--     asks-by, asks-fault                      what the first half is
+--     entry-ask, entry-user, entry-bad         the line's place in a batch
+-- Assumes nothing.
+use Prim.Native.Nat.{ℕ, _≤_, _<_}
+use mathlib.Core.Path.{_≡_, refl, ap, sym, _∙_}
+use mathlib.Core.Bool.{Bool, true, false, not, cond, _&&_, _||_, true≢false}
+use mathlib.Core.List.{List, []}
+use lib.Dec.{leb, ltb, eqb}
+use lib.ListN.{length, getD, length-map}
+use borrow.Author.Tests.{le-leb, lt-leb, ltb-true, ltb-false}
+use Rattle.bitset.specs.Tests.{every}
+use Rattle.guard.specs.declared.Request.{Request}
+use Rattle.script.specs.Text.{values}
+use Rattle.script.specs.Names.{names, under}
+use Rattle.script.specs.Line.{used, Numbers, these, asks, lineOf, readLine}
+use Rattle.script.specs.Slices.{Ordered}
+use Rattle.script.specs.Entry.{nothing, entry}
+use Rattle.script.specs.Rows.{fine, IsRow, takeFrom, ahead, members}
+use Rattle.script.specs.declared.line.Line.{Line}
+use Rattle.script.specs.declared.line.Line.the-variants.{Ask, SetUser, Bad}
+use Rattle.script.specs.declared.fields.Half.{Half}
+use Rattle.script.specs.declared.fields.Half.the-variants.{Fault as Broken}
+use Rattle.script.specs.declared.row.Row.{Row}
+use Rattle.script.proofs.Taking.{take-split}
+use Rattle.script.proofs.Headers.{names-length}
+use Rattle.script.proofs.Gathers.{row-number, row-given, row-form, row-none}
+use Rattle.script.proofs.Reading.{Held, line-unknown, line-known}
+use Rattle.script.proofs.Unread.{line-none}
+
+either-way : (b : Bool) {x : Line} → Bad ≡ x → Bad ≡ cond b x Bad
+either-way true e = e
+either-way false e = refl
+
+and-true : (a b : Bool) → (a && b) ≡ true → (a ≡ true) × (b ≡ true)
+and-true true b h = (refl, h)
+and-true false b h = absurd (true≢false (sym h))
+
+read-long : (h : List (List ℕ)) (l : List ℕ) → 255 < length l → Bad ≡ readLine h l
+unfolding readLine every
+read-long h l k = rw (lt-leb (length l) 255 k)
+
+module _ {h : List (List ℕ)} {at l vals : List ℕ} {r : Row} (o : Ordered h at) (d : IsRow at l vals r) where
+  count : length (under h (values l)) ≡ 12
+  unfolding under
+  count = length-map names _ ∙ names-length
+
+  read-none : r .good ≡ false → Bad ≡ readLine h l
+  unfolding readLine every
+  read-none k = go (leb (length l) 255) (eqb (length (values l)) 12) (fine at (values l) 12) refl (sym (d .twelve) ∙ k)
+    where
+      go : (a b f : Bool) → fine at (values l) 12 ≡ f → (b && f) ≡ false → Bad ≡ cond (a && (b && true)) (lineOf (under h (values l))) Bad
+      go a true false e z = let (i, m, n) = row-none o (values l) e in either-way (a && true) (line-none (under h (values l)) i count m n)
+      go a true true e z = absurd (true≢false z)
+      go true false f e z = refl
+      go false false f e z = refl
+
+  pub read-bad : (not (r .good) || ltb 255 (r .len)) ≡ true → Bad ≡ readLine h l
+  read-bad k = go (r .good) refl (ltb 255 (r .len)) refl k
+    where
+      go : (a : Bool) → r .good ≡ a → (b : Bool) → ltb 255 (r .len) ≡ b → (not a || b) ≡ true → Bad ≡ readLine h l
+      go false e b f z = read-none e
+      go true e true f z = read-long h l (rw (← d .long) (ltb-true 255 (r .len) f))
+      go true e false f z = absurd (true≢false (sym z))
+
+  module _ (k : (not (r .good) || ltb 255 (r .len)) ≡ false) where
+    good : (r .good ≡ true) × (length l ≤ 255)
+    good = go (r .good) refl (ltb 255 (r .len)) refl k
+      where
+        go : (a : Bool) → r .good ≡ a → (b : Bool) → ltb 255 (r .len) ≡ b → (not a || b) ≡ false → (r .good ≡ true) × (length l ≤ 255)
+        go true e false f z = (e, rw (← d .long) (ltb-false 255 (r .len) f))
+        go true e true f z = absurd (true≢false z)
+        go false e b f z = absurd (true≢false z)
+
+    parts : (eqb (length (values l)) 12 ≡ true) × (fine at (values l) 12 ≡ true)
+    parts = and-true _ _ (sym (d .twelve) ∙ good .0)
+
+    read-good : lineOf (under h (values l)) ≡ readLine h l
+    unfolding readLine every
+    read-good = rw (le-leb (length l) 255 (good .1), parts .0)
+
+    held : Held (under h (values l)) vals (r .given)
+    held =
+        record {
+          twelve = count;
+          number = λ i m. rw (d .holds (good .0)) (row-number o (values l) i m);
+          mark = λ i m. rw (d .marks (good .0)) (row-given o (values l) i m);
+          form = λ i m. row-form o (values l) i m (parts .1);
+        }
+
+    pub read-unknown : 16 < getD vals 0 0 → Bad ≡ readLine h l
+    read-unknown m = line-unknown _ _ _ held m ∙ read-good
+
+    read-known : (u : ℕ) → getD vals 0 0 ≤ 16 → members u 1 11 ≡ used (getD vals 0 0)
+        → asks (getD vals 0 0) (takeFrom u (r .given) vals 1 11 (these [])) ≡ readLine h l
+    read-known u m e = line-known _ _ _ u held m e ∙ read-good
+
+    pub read-halves : (u : ℕ) (x : Half) → getD vals 0 0 ≤ 16 → members u 1 11 ≡ used (getD vals 0 0)
+        → ((rest : Numbers) → takeFrom u (r .given) vals 1 6 rest ≡ ahead x rest)
+        → asks (getD vals 0 0) (ahead x (takeFrom u (r .given) vals 7 5 (these []))) ≡ readLine h l
+    read-halves u x m e f = ap (asks (getD vals 0 0)) (sym (f _) ∙ sym (take-split u (r .given) vals 1 6 5 (these []))) ∙ read-known u m e
+
+pub asks-by : (w : ℕ) (x y : Half) (rest : Numbers) → x ≡ y → asks w (ahead y rest) ≡ asks w (ahead x rest)
+asks-by w x y rest e = rw e
+
+pub asks-fault : (w : ℕ) (x : Half) (rest : Numbers) → x ≡ Broken → Bad ≡ asks w (ahead x rest)
+unfolding asks ahead
+asks-fault w x rest e = rw e
+
+-- ---- as a request of a batch
+module _ {x y : Line} (h : x ≡ y) where
+  pub entry-ask : {q : Request} → x ≡ Ask q → q ≡ entry y
+  unfolding entry
+  entry-ask e = rw (← h, e)
+
+  pub entry-user : {q : Request} {a b c d : ℕ} → x ≡ SetUser a b c d → q ≡ nothing → q ≡ entry y
+  unfolding entry
+  entry-user e k = rw (← h, e) k
+
+  pub entry-bad : {q : Request} → x ≡ Bad → q ≡ nothing → q ≡ entry y
+  unfolding entry
+  entry-bad e k = rw (← h, e) k

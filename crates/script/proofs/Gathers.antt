@@ -1,0 +1,161 @@
+-- The row of a line under a good header: each name's value, from the place where the name stands.
+--     fine-at, fine-not                       each value has a form, or one has none
+--     row-number, row-given, row-form         a name's number, whether it is given, and that it has a form
+--     row-none                                a name whose value has no form
+-- Assumes nothing.
+use Prim.Native.Nat.{ℕ, zero, suc, _%_, _≤_, _<_}
+use mathlib.Core.Path.{_≡_, refl, ap, sym, _∙_}
+use mathlib.Core.Bool.{Bool, true, false, cond, _&&_, and-eq-true-iff}
+use mathlib.Core.List.{List, []}
+use native.Mathlib.Decide.{decLt}
+use native.Mathlib.Nat.{mod-eq-of-lt}
+use native.Mathlib.Omega.{arith}
+use lib.Dec.{leb, ltb}
+use lib.ListN.{length, getD, set, length-set}
+use lib.Seq.{getD-set-same, getD-set-other}
+use borrow.Author.Tests.{leb-true, leb-false}
+use Rattle.bitset.specs.Sets.{has, with}
+use Rattle.bitset.specs.Sets.Laws.{has-none, has-with-same, has-with-other}
+use Rattle.script.specs.Names.{under}
+use Rattle.script.specs.Slices.{Ordered}
+use Rattle.script.specs.Rows.{codeAt, nameAt, codeIn, blank, gathered, marked, fine}
+use Rattle.script.proofs.Headers.{placeOf, place-lt, place-at, at-lt, at-place, under-at}
+
+none-below : (n : ℕ) → n < 0 → ⊥
+none-below n h = omega arith
+
+-- ---- each value has a form
+module _ (at : List ℕ) (vs : List (List ℕ)) where
+  fine-at : (n k : ℕ) → fine at vs n ≡ true → k < n → codeIn at vs k ≤ 100000
+  unfolding fine
+  fine-at zero k h l = absurd (none-below k l)
+  fine-at (suc n) k h l = go (decLt k n) (fine-at n k)
+    where
+      go : Dec (k < n) → (fine at vs n ≡ true → k < n → codeIn at vs k ≤ 100000) → codeIn at vs k ≤ 100000
+      go (yes m) ih = ih (and-eq-true-iff (fine at vs n) (leb (codeIn at vs n) 100000) .0 h .0) m
+      go (no m) ih =
+          let e : k ≡ n = omega arith in
+          rw e (leb-true (codeIn at vs n) 100000 (and-eq-true-iff (fine at vs n) (leb (codeIn at vs n) 100000) .0 h .1))
+
+  fine-none : (n : ℕ) → fine at vs n ≡ false → (k : ℕ) × (k < n) × (100000 < codeIn at vs k)
+  unfolding fine
+  fine-none zero h = absurd (clash h)
+    where
+      clash : true ≡ false → ⊥
+      clash e = let z : _≡_ {A = ℕ} 0 1 = cc in omega arith
+  fine-none (suc n) h = go (leb (codeIn at vs n) 100000) refl (fine at vs n) refl h (fine-none n)
+    where
+      go : (a : Bool) → leb (codeIn at vs n) 100000 ≡ a → (b : Bool) → fine at vs n ≡ b → (b && a) ≡ false
+          → (fine at vs n ≡ false → (k : ℕ) × (k < n) × (100000 < codeIn at vs k))
+          → (k : ℕ) × (k < suc n) × (100000 < codeIn at vs k)
+      go false e b f h ih = (n, omega arith, leb-false (codeIn at vs n) 100000 e)
+      go true e true f h ih = let z : _≡_ {A = ℕ} 0 1 = cc in absurd (omega arith)
+      go true e false f h ih = let (k, l, m) = ih f in (k, omega arith, m)
+
+  gathered-length : (n : ℕ) → length (gathered at vs n) ≡ 16
+  unfolding gathered blank
+  gathered-length zero = refl
+  gathered-length (suc n) = go (ltb (codeIn at vs n) 100000) (gathered-length n)
+    where
+      go : (b : Bool) → length (gathered at vs n) ≡ 16
+          → length (cond b (set (gathered at vs n) (nameAt at n) (codeIn at vs n)) (gathered at vs n)) ≡ 16
+      go true ih = length-set (gathered at vs n) (nameAt at n) (codeIn at vs n) ∙ ih
+      go false ih = ih
+
+-- ---- under a good header
+apart : {a b : ℕ} → a < b → a ≡ b → ⊥
+apart h e = omega arith
+
+module _ {h : List (List ℕ)} {at : List ℕ} (o : Ordered h at) (vs : List (List ℕ)) where
+  name-at : (n : ℕ) → n < 12 → nameAt at n ≡ getD at n 0
+  name-at n l = mod-eq-of-lt (omega (arith, at-lt o n l))
+
+  -- a name that stands elsewhere
+  other : (n i : ℕ) → n < 12 → (placeOf h i ≡ n → ⊥) → i ≡ nameAt at n → ⊥
+  other n i l k e = k (ap (placeOf h) (e ∙ name-at n l) ∙ at-place o n l)
+
+  gathered-before : (n i : ℕ) → n ≤ 12 → n ≤ placeOf h i → getD (gathered at vs n) i 0 ≡ getD blank i 0
+  unfolding gathered
+  gathered-before zero i m k = refl
+  gathered-before (suc n) i m k = go (ltb (codeIn at vs n) 100000) (gathered-before n i (omega arith) (omega arith))
+    where
+      later : suc n ≤ placeOf h i → placeOf h i ≡ n → ⊥
+      later k e = omega arith
+
+      go : (b : Bool) → getD (gathered at vs n) i 0 ≡ getD blank i 0
+          → getD (cond b (set (gathered at vs n) (nameAt at n) (codeIn at vs n)) (gathered at vs n)) i 0 ≡ getD blank i 0
+      go true ih = getD-set-other (gathered at vs n) (nameAt at n) i _ 0 (other n i (omega arith) (later k)) ∙ ih
+      go false ih = ih
+
+  marked-before : (n i : ℕ) → n ≤ 12 → n ≤ placeOf h i → has (marked at vs n) i ≡ false
+  unfolding marked
+  marked-before zero i m k = has-none i
+  marked-before (suc n) i m k = go (ltb (codeIn at vs n) 100000) (marked-before n i (omega arith) (omega arith))
+    where
+      later : suc n ≤ placeOf h i → placeOf h i ≡ n → ⊥
+      later k e = omega arith
+
+      go : (b : Bool) → has (marked at vs n) i ≡ false → has (cond b (with (marked at vs n) (nameAt at n)) (marked at vs n)) i ≡ false
+      go true ih = has-with-other (marked at vs n) (nameAt at n) i (other n i (omega arith) (later k)) ∙ ih
+      go false ih = ih
+
+  module _ (i : ℕ) (l : i < 12) where
+    here : (n : ℕ) → placeOf h i ≡ n → nameAt at n ≡ i
+    here n e = ap (λ (k : ℕ). getD at k 0 % 16) (sym e) ∙ ap (λ (k : ℕ). k % 16) (place-at o i l) ∙ mod-eq-of-lt (omega arith)
+
+    gathered-at : (n : ℕ) → n ≤ 12 → placeOf h i < n
+        → getD (gathered at vs n) i 0 ≡ cond (ltb (codeIn at vs (placeOf h i)) 100000) (codeIn at vs (placeOf h i)) (getD blank i 0)
+    unfolding gathered
+    gathered-at zero m k = absurd (none-below _ k)
+    gathered-at (suc n) m k = go (decLt (placeOf h i) n) (ltb (codeIn at vs n) 100000) refl (gathered-at n (omega arith))
+      where
+        go : Dec (placeOf h i < n) → (b : Bool) → ltb (codeIn at vs n) 100000 ≡ b
+            → (placeOf h i < n → getD (gathered at vs n) i 0 ≡ cond (ltb (codeIn at vs (placeOf h i)) 100000) (codeIn at vs (placeOf h i)) (getD blank i 0))
+            → getD (cond b (set (gathered at vs n) (nameAt at n) (codeIn at vs n)) (gathered at vs n)) i 0
+            ≡ cond (ltb (codeIn at vs (placeOf h i)) 100000) (codeIn at vs (placeOf h i)) (getD blank i 0)
+        go (yes q) true e ih = getD-set-other (gathered at vs n) (nameAt at n) i _ 0 (other n i (omega arith) (apart q)) ∙ ih q
+        go (yes q) false e ih = ih q
+        go (no q) true e ih =
+            let this : placeOf h i ≡ n = omega arith in
+            rw (this, e, here n this) (getD-set-same (gathered at vs n) i _ 0 (omega (arith, gathered-length at vs n)))
+        go (no q) false e ih =
+            let this : placeOf h i ≡ n = omega arith in
+            rw (this, e) (gathered-before n i (omega arith) (omega arith))
+
+    marked-at : (n : ℕ) → n ≤ 12 → placeOf h i < n → has (marked at vs n) i ≡ ltb (codeIn at vs (placeOf h i)) 100000
+    unfolding marked
+    marked-at zero m k = absurd (none-below _ k)
+    marked-at (suc n) m k = go (decLt (placeOf h i) n) (ltb (codeIn at vs n) 100000) refl (marked-at n (omega arith))
+      where
+        go : Dec (placeOf h i < n) → (b : Bool) → ltb (codeIn at vs n) 100000 ≡ b
+            → (placeOf h i < n → has (marked at vs n) i ≡ ltb (codeIn at vs (placeOf h i)) 100000)
+            → has (cond b (with (marked at vs n) (nameAt at n)) (marked at vs n)) i ≡ ltb (codeIn at vs (placeOf h i)) 100000
+        go (yes q) true e ih = has-with-other (marked at vs n) (nameAt at n) i (other n i (omega arith) (apart q)) ∙ ih q
+        go (yes q) false e ih = ih q
+        go (no q) true e ih =
+            let this : placeOf h i ≡ n = omega arith in
+            rw (this, e, here n this) (has-with-same (marked at vs n) i)
+        go (no q) false e ih =
+            let this : placeOf h i ≡ n = omega arith in
+            rw (this, e) (marked-before n i (omega arith) (omega arith))
+
+    code-under : codeIn at vs (placeOf h i) ≡ codeAt i (getD (under h vs) i [])
+    unfolding codeIn
+    code-under = rw (here (placeOf h i) refl, under-at o vs i l)
+
+    pub row-number : getD (gathered at vs 12) i 0
+        ≡ cond (ltb (codeAt i (getD (under h vs) i [])) 100000) (codeAt i (getD (under h vs) i [])) (getD blank i 0)
+    row-number = rw (← code-under) (gathered-at 12 (omega arith) (place-lt o i l))
+
+    pub row-given : has (marked at vs 12) i ≡ ltb (codeAt i (getD (under h vs) i [])) 100000
+    row-given = rw (← code-under) (marked-at 12 (omega arith) (place-lt o i l))
+
+    pub row-form : fine at vs 12 ≡ true → codeAt i (getD (under h vs) i []) ≤ 100000
+    row-form f = rw (← code-under) (fine-at at vs 12 (placeOf h i) f (place-lt o i l))
+
+  pub row-none : fine at vs 12 ≡ false → (i : ℕ) × (i < 12) × (100000 < codeAt i (getD (under h vs) i []))
+  row-none f =
+      let (k, l, m) = fine-none at vs 12 f in
+      let i = getD at k 0 in
+      let n : i < 12 = at-lt o k l in
+      (i, n, rw (← code-under i n, at-place o k l) m)

@@ -1,0 +1,73 @@
+-- `script::text::word_key` meets its contract: the key of four bytes, and of one and of two more. Assumes nothing.
+use borrow.Author.Needs.{needs}
+use native.Mathlib.Omega.{arith}
+use lib.ListN.{length-drop}
+use denote.Ref.{now}
+use Rattle.script.proofs.Words.{key-next, begins}
+use Rattle.script.proofs.text.word_key.Statement.{statement}
+use Rattle.script.proofs.text.word_key.Tie as tie
+
+key4-requires : tie.Need-key4-requires
+key4-requires c κs = search needs
+
+add-byte : tie.Need-add-byte
+add-byte c = search needs
+
+byte-requires : tie.Need-byte-requires
+byte-requires c κs = search needs
+
+returns : tie.Need-returns
+returns c = begins (now (c .before .before .before .before .args .s)) (c .before .before .before .before .args .from) 4 _ _ (omega arith) (c .before .before .key4 .ensures .0) (c .before .byte .ensures .0) (c .if1 .taken)
+
+mul-k5 : tie.Need-mul-k5
+mul-k5 c = search needs
+
+add-k5 : tie.Need-add-k5
+add-k5 c = search needs
+
+add-byte-2 : tie.Need-add-byte-2
+add-byte-2 c = search needs
+
+byte-requires-2 : tie.Need-byte-requires-2
+byte-requires-2 c κs = search needs
+
+returns-2 : tie.Need-returns-2
+returns-2 c = begins (now (c .before .before .before .before .before .before .args .s)) (c .before .before .before .before .before .before .args .from) 5 _ _ (omega arith) (key-next (now (c .before .before .before .before .before .before .args .s)) (c .before .before .before .before .before .before .args .from) 4 _ _ (omega arith) (omega (arith, length-drop (c .before .before .before .before .before .before .args .from) (now (c .before .before .before .before .before .before .args .s)))) (c .before .before .before .before .key4 .ensures .0) (c .before .before .before .byte .ensures .0)) (c .before .byte2 .ensures .0) (c .if2 .taken)
+
+mul-k6 : tie.Need-mul-k6
+mul-k6 c = search needs
+
+add-k6 : tie.Need-add-k6
+add-k6 c = search needs
+
+add-byte-3 : tie.Need-add-byte-3
+add-byte-3 c = search needs
+
+byte-requires-3 : tie.Need-byte-requires-3
+byte-requires-3 c κs = search needs
+
+returns-3 : tie.Need-returns-3
+returns-3 c = begins (now (c .before .before .before .before .before .before .before .before .args .s)) (c .before .before .before .before .before .before .before .before .args .from) 6 _ _ (omega arith) (key-next (now (c .before .before .before .before .before .before .before .before .args .s)) (c .before .before .before .before .before .before .before .before .args .from) 5 _ _ (omega arith) (omega (arith, length-drop (c .before .before .before .before .before .before .before .before .args .from) (now (c .before .before .before .before .before .before .before .before .args .s)))) (key-next (now (c .before .before .before .before .before .before .before .before .args .s)) (c .before .before .before .before .before .before .before .before .args .from) 4 _ _ (omega arith) (omega (arith, length-drop (c .before .before .before .before .before .before .before .before .args .from) (now (c .before .before .before .before .before .before .before .before .args .s)))) (c .before .before .before .before .before .before .key4 .ensures .0) (c .before .before .before .before .before .byte .ensures .0)) (c .before .before .before .byte2 .ensures .0)) (c .before .byte3 .ensures .0) (c .if3 .taken)
+
+returns-4 : tie.Need-returns-4
+returns-4 c = search needs
+
+pub word-key-spec : {M : Type 1} → statement M
+word-key-spec =
+    tie.close
+    (tie.spec
+    key4-requires
+    add-byte
+    byte-requires
+    returns
+    mul-k5
+    add-k5
+    add-byte-2
+    byte-requires-2
+    returns-2
+    mul-k6
+    add-k6
+    add-byte-3
+    byte-requires-3
+    returns-3
+    returns-4)
