@@ -30,21 +30,21 @@ unfolding run answers
 answers-snoc t [] q = refl
 answers-snoc t (p ∷ log) q = ap (λ (l : List ℕ). answer t p ∷ l) (answers-snoc (next t p) log q)
 
-length-answers : (t : Tables) (log : List Request) → length (answers t log) ≡ length log
+pub length-answers : (t : Tables) (log : List Request) → length (answers t log) ≡ length log
 unfolding answers
 length-answers t [] = refl
 length-answers t (q ∷ log) = ap suc (length-answers (next t q) log)
 
-pub padded-store : (l : List ℕ) (n v : ℕ) → length l ≡ n → n < 64
-    → set (l ++ replicate (64 - n) 0) n v ≡ (l ++ (v ∷ [])) ++ replicate (64 - (n + 1)) 0
+pub padded-store : (l : List ℕ) (n v : ℕ) → length l ≡ n → n < 256
+    → set (l ++ replicate (256 - n) 0) n v ≡ (l ++ (v ∷ [])) ++ replicate (256 - (n + 1)) 0
 padded-store l n v e h =
-    let more : 64 - n ≡ suc (64 - (n + 1)) = omega arith in
-    rw more (set-at l 0 (replicate (64 - (n + 1)) 0) v n e ∙ sym (append-snoc l v (replicate (64 - (n + 1)) 0)))
+    let more : 256 - n ≡ suc (256 - (n + 1)) = omega arith in
+    rw more (set-at l 0 (replicate (256 - (n + 1)) 0) v n e ∙ sym (append-snoc l v (replicate (256 - (n + 1)) 0)))
 
-pub ones-more : (i : ℕ) → i < 64 → set {A = ℕ} (replicate i 1 ++ replicate (64 - i) 0) i 1 ≡ replicate (i + 1) 1 ++ replicate (64 - (i + 1)) 0
+pub ones-more : (i : ℕ) → i < 256 → set {A = ℕ} (replicate i 1 ++ replicate (256 - i) 0) i 1 ≡ replicate (i + 1) 1 ++ replicate (256 - (i + 1)) 0
 ones-more i h =
     padded-store (replicate i 1) i 1 (length-replicate i 1) h
-    ∙ ap (λ (l : List ℕ). l ++ replicate (64 - (i + 1)) 0) (replicate-append-replicate i 1 1)
+    ∙ ap (λ (l : List ℕ). l ++ replicate (256 - (i + 1)) 0) (replicate-append-replicate i 1 1)
 
 -- what a read of an array of requests has past its end
 abbrev pub noRequest : Request
@@ -54,14 +54,14 @@ noRequest = record { call = 0; seat = 0; user = 0; role = 0; entity = 0; parent 
 pub record Held (t₀ : Tables) (requests : List Request) (i : ℕ) (t : Tables) (told : List ℕ) : Type 0 where
   pub ran : t ≡ run t₀ (take i requests)
   pub isSound : sound t ≡ true
-  pub said : told ≡ answers t₀ (take i requests) ++ replicate (64 - i) 0
+  pub said : told ≡ answers t₀ (take i requests) ++ replicate (256 - i) 0
 
-pub held-none : (t : Tables) (requests : List Request) → sound t ≡ true → Held t requests 0 t (replicate 64 0)
+pub held-none : (t : Tables) (requests : List Request) → sound t ≡ true → Held t requests 0 t (replicate 256 0)
 unfolding run answers
 held-none t requests h = record { ran = refl; isSound = h; said = refl }
 
 module _ (t₀ : Tables) (requests : List Request) (i : ℕ) (t : Tables) (told : List ℕ) (d : Request)
-    (held : Held t₀ requests i t told) (o : Outcome) (stepped : o ≡ step t (getD requests i d)) (low : i < length requests) (high : i < 64)
+    (held : Held t₀ requests i t told) (o : Outcome) (stepped : o ≡ step t (getD requests i d)) (low : i < length requests) (high : i < 256)
   where
     one-more : take (i + 1) requests ≡ take i requests ++ (getD requests i d ∷ [])
     one-more = rw add-one (take-suc requests i d low)

@@ -8,6 +8,7 @@ pub mod Deciding
 pub mod Sweeps
 pub mod Filling
 pub mod Scans
-pub mod Scanning
+pub mod Scoping
 pub mod Stepping
+pub mod Doing
 pub mod Batches

@@ -1,6 +1,5 @@
--- Laws of the scans: what a walk over the roles held finds, and what a walk over the entities of a level does. The laws of
--- the scan for an open are in Opens.
---     right-given, reach-given                                  what 13 asks, of the roles that the session holds
+-- Laws of the scans: what a walk over the roles held finds, and what a walk over the entities of a level does. The rights given
+-- on a level are in Given, the climb over them in Climb.
 --     contains-one                                              a single right is one bit
 --     Walk, walk-start, walk-in, walk-more, walk-end            the roles, from the lowest of a level to the last one held
 --     Roles, roles-start, roles-more, roles-all                 whether one of those walked over gives a right
@@ -16,26 +15,18 @@ use native.Mathlib.Omega.{arith}
 use lib.Pow.{pow-mono, shr-shr}
 use borrow.Author.Tests.{eqb-true, eq-eqb, le-leb, lt-leb}
 use Rattle.bitset.specs.Tests.{every, some}
-use Rattle.bitset.specs.Tests.Laws.{both, clash, of-not-true, every-at, some-i, some-e, some-none, some-more, some-no-i}
+use Rattle.bitset.specs.Tests.Laws.{both, clash, of-not-true, every-at, some-i, some-e, some-more, some-no-i}
 use Rattle.bitset.specs.Sets.{has, contains, from}
 use Rattle.bitset.specs.Sets.Laws.{has-none, has-one, contains-has, has-contains}
 use Rattle.bitset.specs.Sets.Shift.{has-from, from-has, from-zero}
-use Rattle.guard.specs.Level.{entitiesPerLevel}
-use Rattle.guard.specs.Tables.{sessionAt, rightsOn, execute, hasRight, isChild}
-use Rattle.guard.specs.Chain.{climbs, parentOf, reaches}
+use Rattle.guard.specs.Tables.{rightsOn, isChild}
 use Rattle.guard.specs.Sound.{sound}
 use Rattle.guard.specs.Scan.{giver, gives}
 use Rattle.guard.specs.declared.Tables.{Tables}
 use Rattle.guard.proofs.Laws.Sound.{parent-level}
-pub mod Opens
-
-pub right-given : (t : Tables) (x right e : ℕ) → hasRight t x right e ≡ gives t (sessionAt t x .roles) right e
-unfolding hasRight gives
-right-given t x right e = refl
-
-pub reach-given : (t : Tables) (x e : ℕ) → reaches t x e ≡ climbs (parentOf t) (gives t (sessionAt t x .roles) execute) entitiesPerLevel e
-unfolding reaches hasRight gives
-reach-given t x e = refl
+pub mod Given
+pub mod Climb
+pub mod Kin
 
 pub contains-one : (x k : ℕ) → contains x (2 ^ k) ≡ has x k
 contains-one x k =
@@ -112,16 +103,23 @@ module _ (t : Tables) (held right e : ℕ) where
 -- ---- the entities of a level
 -- one of the first m entities of p's level meets the test
 pub record Block (test : ℕ → Bool) (p m : ℕ) (found : Bool) : Type 0 where
+  pub least : 1 ≤ m
   pub most : m ≤ 16
   pub so-far : found ≡ some m (λ i. test (p / 16 * 16 + i))
 
 module _ (test : ℕ → Bool) (p : ℕ) where
-  pub block-start : Block test p 0 false
-  block-start = record { most = omega arith; so-far = sym (some-none (λ i. test (p / 16 * 16 + i))) }
+  -- the lowest is the root, which does not meet it
+  pub block-start : test (p / 16 * 16) ≡ false → Block test p 1 false
+  block-start root =
+      record {
+        least = omega arith;
+        most = omega arith;
+        so-far = sym (some-no-i 1 _ (λ i l. let z : i ≡ 0 = omega arith in rw (z, add-zero (p / 16 * 16)) root));
+      }
 
   pub block-more : (m : ℕ) (found one : Bool) → Block test p m found → one ≡ test (p / 16 * 16 + m) → m < 16 → Block test p (m + 1) (found || one)
   block-more m found one seen h l =
-      record { most = omega arith; so-far = rw (seen .so-far, h) (sym (some-more m (λ i. test (p / 16 * 16 + i)))) }
+      record { least = omega arith; most = omega arith; so-far = rw (seen .so-far, h) (sym (some-more m (λ i. test (p / 16 * 16 + i)))) }
 
   -- a test that children of p alone meet: they lie in p's level
   module _ (t : Tables) (ok : sound t ≡ true) (inside : p < 64) (child : (f : ℕ) → test f ≡ true → isChild t p f ≡ true) where

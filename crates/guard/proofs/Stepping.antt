@@ -1,59 +1,82 @@
 -- From what `step` and `run` look at to the step of the definitions.
 --     viewOf                        the records that a request concerns, as the code gathers them
---     seen-of, scanned-of           they are what deciding asks for
---     parent-small                  an entity's parent is a number of an entity
---     refuses, does                 a decision, made, is the step
+--     Concerned, seen-of            they are what deciding asks for
+--     Found, scanned-of             what the scans find is what 13, 14 and 15 ask
+--     refuses, does                 a number, and where it is 0 what the rule does, are the step
 -- Assumes nothing.
-use Prim.Native.Nat.{ℕ, _<_, _≤_}
-use mathlib.Core.Path.{_≡_, refl, sym, ap, ap₂, _∙_}
-use mathlib.Core.Bool.{Bool, true, false, not, cond, _&&_, true≢false}
-use mathlib.Core.List.{List, [], _∷_, map}
-use mathlib.Core.Logic.{_⊎_, inl, inr}
-use lib.Dec.{eqb, leb}
-use native.Mathlib.Omega.{arith}
-use borrow.Author.Tests.{ltb-true, leb-true, le-leb, eqb-true, eqb-false, eq-eqb, ne-eqb}
+use Prim.Native.Nat.{ℕ, _/_, _<_}
+use mathlib.Core.Path.{_≡_, refl, sym, ap, subst, _∙_}
+use mathlib.Core.Bool.{Bool, true, false, not, _&&_, and-true}
+use mathlib.Core.List.{List, [], _∷_}
+use lib.Dec.{eqb}
+use lib.ListN.{getD}
+use borrow.Author.Tests.{eqb-false, eq-eqb, ne-eqb}
 use Rattle.bitset.specs.Tests.{every, either, some}
-use Rattle.bitset.specs.Sets.{has}
-use Rattle.bitset.specs.Tests.Laws.{every-at, every-i, either-l, either-r}
-use Rattle.guard.specs.Level.{sessionCount, roleCount, entityCount}
-use Rattle.guard.specs.Tables.{userAt, sessionAt, roleAt, entityAt, rightsOn, hasRight, read, write, execute, own, isWriting, isChild}
+use Rattle.bitset.specs.Sets.{has, contains}
+use Rattle.guard.specs.Level.{entityCount}
+use Rattle.guard.specs.Tables.{userAt, sessionAt, roleAt, entityAt, hasRight, read, write, execute, own, isWriting, isChild}
 use Rattle.guard.specs.Chain.{parentOf, reaches, climbs}
-use Rattle.guard.specs.Sound.{sound, entityInRange}
-use Rattle.guard.specs.Refusals.{_when_, first}
+use Rattle.guard.specs.Sound.{sound}
+use Rattle.guard.specs.Refusals.{first}
 use Rattle.guard.specs.Conditions.{cannotOpen, cannotChange, notOwned, nameTaken, hasChildren, recordedParent}
 use Rattle.guard.specs.Requests.{ruleOf}
 use Rattle.guard.specs.Step.{inRanges, answer, next, step}
 use Rattle.guard.specs.Scan.{gives}
-use Rattle.guard.specs.Inside.{number, applied, Seen, MayOpen, MayCreate, MayDelete, MayRename, MayGrant, Scanned, Decided, Below, Parent, asks, Found}
+use Rattle.guard.specs.Inside.{number, Seen, MayOpen, MayGrant, Scanned, Below, Parent, toOpen, toChange, toGrant, Scoped, kinTest}
 use Rattle.guard.specs.declared.Tables.{Tables}
 use Rattle.guard.specs.declared.Request.{Request}
 use Rattle.guard.specs.declared.Outcome.{Outcome}
-use Rattle.guard.specs.declared.scan.Scan.{Scan}
-use Rattle.guard.specs.declared.edit.View.{View}
-use Rattle.guard.specs.declared.edit.Edit.{Edit}
-use Rattle.guard.proofs.Laws.Sound.{sound-e}
+use Rattle.guard.specs.declared.look.Scope.{Scope}
+use Rattle.guard.specs.declared.view.View.{View}
+use Rattle.guard.proofs.Laws.Chain.{climbs-root}
 use Rattle.guard.proofs.Laws.Requests.{unsound-answer}
+use Rattle.guard.proofs.Scans.Given.{Single}
+use Rattle.guard.proofs.Scans.Climb.{exec, way-given}
 
-pub parent-small : (t : Tables) → sound t ≡ true → (e : ℕ) → e < 64 → entityAt t e .parent < 64
-unfolding entityInRange
-parent-small t h e l = ltb-true _ _ (every-at _ (sound-e t h .entity e l .range) 1)
-
-abbrev pub viewOf : Tables → ℕ → ℕ → ℕ → ℕ → ℕ → Scan → View
-viewOf t x r e k o w =
+abbrev pub viewOf : Tables → ℕ → ℕ → ℕ → ℕ → ℕ → Bool → Bool → View
+viewOf t x r e k o may child =
     record {
-      x = x;
-      r = r;
-      e = e;
       session = sessionAt t x;
       user = userAt t k;
       live = roleAt t r .live;
       users = roleAt t r .users;
-      rights = rightsOn t r e;
       entity = entityAt t e;
       parent = entityAt t o;
-      may = w .may;
-      child = w .child;
+      may = may;
+      child = child;
     }
+
+-- ---- the numbers by which the code reads are those that the request names, where these are in range
+pub record Concerned (q : Request) (x r e k : ℕ) : Type 0 where
+  pub seat : Below 16 (q .seat) x
+  pub role : Below 16 (q .role) r
+  pub entity : Below 64 (q .entity) e
+  pub user : Below 16 (q .user) k
+
+-- ---- what the scans find: the rights that the roles held give on the level of `at`, and by them what is asked
+pub record Found (t : Tables) (w : Scope) (name : ℕ) (given : List ℕ) (may child : Bool) : Type 0 where
+  pub gathered : (right a : ℕ) → Single right → a < 64 → a / 16 ≡ w .at / 16 → contains (getD given a 0) right ≡ gives t (w .held) right a
+  pub way : may ≡ (w .opened && contains (getD given (w .at) 0) (w .right) && climbs (parentOf t) (exec given) 16 (w .from))
+  pub kids : w .kids ≡ true → child ≡ some entityCount (kinTest t (w .kin) (w .named) name)
+
+module _ (t : Tables) (name : ℕ) (given : List ℕ) (may child : Bool) (held : ℕ) where
+  found-open : (right e : ℕ) → sound t ≡ true → Single right → e < 64 → Found t (toOpen right e held) name given may child
+      → may ≡ (gives t held right e && climbs (parentOf t) (gives t held execute) 16 e)
+  found-open right e ok one l f = f .way ∙ way-given t held given ok right e one l (f .gathered)
+
+  -- where nothing above is asked: a root has none above it
+  from-root : (right e : ℕ) (b : Bool) → Single right → e < 64
+      → ((asked a : ℕ) → Single asked → a < 64 → a / 16 ≡ e / 16 → contains (getD given a 0) asked ≡ gives t held asked a)
+      → may ≡ (b && contains (getD given e 0) right && climbs (parentOf t) (exec given) 16 0) → may ≡ (b && gives t held right e)
+  from-root right e b one l gathered h =
+      h ∙ rw (climbs-root (parentOf t) (exec given) 16 0 refl, and-true (b && contains (getD given e 0) right), gathered right e one l refl)
+
+  found-change : (o kin writing : ℕ) (named : Bool) → o < 64 → Found t (toChange o kin named held writing) name given may child
+      → may ≡ (has writing o && gives t held execute o)
+  found-change o kin writing named l f = from-root execute o (has writing o) (2, refl) l (f .gathered) (f .way)
+
+  found-grant : (e : ℕ) → e < 64 → Found t (toGrant e held) name given may child → may ≡ gives t held own e
+  found-grant e l f = from-root own e true (3, refl) l (f .gathered) (f .way)
 
 -- not both, by the flags
 both-flags : (a b : Bool) → not (either (not a) (not b)) ≡ (a && b)
@@ -66,51 +89,32 @@ not-not : (a : Bool) → not (not a) ≡ a
 not-not true = refl
 not-not false = refl
 
-module _ (t : Tables) (q : Request) (x r e k o : ℕ) (w : Scan)
-    (bx : Below 16 (q .seat) x) (br : Below 16 (q .role) r) (be : Below 64 (q .entity) e) (bk : Below 16 (q .user) k)
-  where
-    pub seen-of : Seen t q (viewOf t x r e k o w)
-    seen-of =
-        record {
-          sessionIn = bx .small;
-          roleIn = br .small;
-          entityIn = be .small;
-          session = refl;
-          live = refl;
-          users = refl;
-          rights = refl;
-          entity = refl;
-          isSeat = bx .same;
-          isRole = br .same;
-          isEntity = be .same;
-          user = λ h. ap (userAt t) (bk .same h);
-        }
+module _ (t : Tables) (q : Request) (x r e k o : ℕ) (may child : Bool) (near : Concerned q x r e k) where
+  pub seen-of : Seen t q (viewOf t x r e k o may child)
+  seen-of =
+      record {
+        session = λ h. ap (sessionAt t) (near .seat .same h);
+        user = λ h. ap (userAt t) (near .user .same h);
+        live = λ h. ap (λ (n : ℕ). roleAt t n .live) (near .role .same h);
+        users = λ h. ap (λ (n : ℕ). roleAt t n .users) (near .role .same h);
+        entity = λ h. ap (entityAt t) (near .entity .same h);
+      }
 
-    module _ (p : Parent q (entityAt t e) o) (found : asks (q .call) ≡ true → Found t (sessionAt t x .roles) (sessionAt t x .writing) q e o w) where
-      asks-open : leb 4 (q .call) ≡ true → leb (q .call) 5 ≡ true → asks (q .call) ≡ true
-      unfolding asks
-      asks-open h l = either-l _ _ (every-i _ (h, (l, tt)))
-
-      asks-more : leb 7 (q .call) ≡ true → leb (q .call) 11 ≡ true → asks (q .call) ≡ true
-      unfolding asks
-      asks-more h l = either-r _ _ (every-i _ (h, (l, tt)))
-
-      -- a number between two others, by the call's own
-      from-call : (n m : ℕ) → q .call ≡ n → leb m n ≡ true → leb m (q .call) ≡ true
-      from-call n m c h = rw c h
-
-      to-call : (n m : ℕ) → q .call ≡ n → leb n m ≡ true → leb (q .call) m ≡ true
-      to-call n m c h = rw c h
+  module _ (ok : sound t ≡ true) (p : Parent q (entityAt t e) o) (w : Scope) (s : Scoped (q .call) e o (sessionAt t x .roles) (sessionAt t x .writing) w)
+      (given : List ℕ) (found : Found t w (q .name) given may child)
+    where
+      scoped : (v : Scope) → w ≡ v → Found t v (q .name) given may child
+      scoped v h = subst (λ (y : Scope). Found t y (q .name) given may child) h found
 
       open-flags : (right : ℕ) → q .seat < 16 → q .entity < 64
           → (gives t (sessionAt t x .roles) right e && climbs (parentOf t) (gives t (sessionAt t x .roles) 4) 16 e) ≡ not (cannotOpen t q right)
       unfolding cannotOpen hasRight reaches gives
-      open-flags right ix ie = rw (bx .same ix, be .same ie) (sym (both-flags (hasRight t (q .seat) right (q .entity)) (reaches t (q .seat) (q .entity))))
+      open-flags right ix ie = rw (near .seat .same ix, near .entity .same ie) (sym (both-flags (hasRight t (q .seat) right (q .entity)) (reaches t (q .seat) (q .entity))))
 
       change-flags : (parent : ℕ) → o ≡ parent → q .seat < 16
           → (has (sessionAt t x .writing) o && gives t (sessionAt t x .roles) 4 o) ≡ not (cannotChange t q parent)
       unfolding cannotChange hasRight gives
-      change-flags parent same ix = rw (bx .same ix, same) (sym (both-flags (isWriting t (q .seat) parent) (hasRight t (q .seat) execute parent)))
+      change-flags parent same ix = rw (near .seat .same ix, same) (sym (both-flags (isWriting t (q .seat) parent) (hasRight t (q .seat) execute parent)))
 
       name-flag : (parent : ℕ) → o ≡ parent
           → some entityCount (λ f. every (isChild t o f ∷ eqb (entityAt t f .name) (q .name) ∷ [])) ≡ nameTaken t q parent
@@ -119,64 +123,75 @@ module _ (t : Tables) (q : Request) (x r e k o : ℕ) (w : Scan)
 
       child-flag : q .entity < 64 → some entityCount (λ f. isChild t e f) ≡ hasChildren t q
       unfolding hasChildren
-      child-flag ie = rw (be .same ie)
+      child-flag ie = rw (near .entity .same ie)
 
       own-flag : q .seat < 16 → q .entity < 64 → gives t (sessionAt t x .roles) own e ≡ not (notOwned t q)
       unfolding hasRight gives
-      own-flag ix ie = rw (bx .same ix, be .same ie) (sym (not-not (hasRight t (q .seat) own (q .entity))))
+      own-flag ix ie = rw (near .seat .same ix, near .entity .same ie) (sym (not-not (hasRight t (q .seat) own (q .entity))))
 
       recorded : (n : ℕ) → q .call ≡ n → eqb n 7 ≡ false → q .entity < 64 → o ≡ recordedParent t q
-      recorded n c d ie = p .recorded (λ z. eqb-false n 7 d (sym c ∙ z)) ∙ ap (λ (f : ℕ). entityAt t f .parent) (be .same ie)
+      recorded n c d ie = p .recorded (λ z. eqb-false n 7 d (sym c ∙ z)) ∙ ap (λ (f : ℕ). entityAt t f .parent) (near .entity .same ie)
 
-      at : (n : ℕ) → q .call ≡ n → leb 7 n ≡ true → leb n 11 ≡ true → Found t (sessionAt t x .roles) (sessionAt t x .writing) q e o w
-      at n c low high = found (asks-more (from-call n 7 c low) (to-call n 11 c high))
+      opened : (right : ℕ) → Single right → w ≡ toOpen right e (sessionAt t x .roles) → MayOpen right t q (viewOf t x r e k o may child)
+      opened right one h =
+          record { may = λ ix ie. found-open t (q .name) given may child (sessionAt t x .roles) right e ok one (near .entity .small) (scoped _ h) ∙ open-flags right ix ie }
 
-      changed : (n parent : ℕ) → q .call ≡ n → leb 7 n ≡ true → leb n 9 ≡ true → leb n 11 ≡ true → o ≡ parent → q .seat < 16
-          → w .may ≡ not (cannotChange t q parent)
-      changed n parent c low top high same ix =
-          at n c low high .change (from-call n 7 c low) (to-call n 9 c top) ∙ change-flags parent same ix
+      changed : (kin parent : ℕ) (named : Bool) → w ≡ toChange o kin named (sessionAt t x .roles) (sessionAt t x .writing) → o ≡ parent → q .seat < 16
+          → may ≡ not (cannotChange t q parent)
+      changed kin parent named h same ix =
+          found-change t (q .name) given may child (sessionAt t x .roles) o kin (sessionAt t x .writing) named (p .small) (scoped _ h)
+          ∙ change-flags parent same ix
 
-      granted : (n : ℕ) → q .call ≡ n → leb 7 n ≡ true → leb 10 n ≡ true → leb n 11 ≡ true → MayGrant t q (viewOf t x r e k o w)
-      granted n c low ten high = record { may = λ ix ie. at n c low high .grant (from-call n 10 c ten) ∙ own-flag ix ie }
+      named-of : (parent : ℕ) → w ≡ toChange o o true (sessionAt t x .roles) (sessionAt t x .writing) → o ≡ parent → child ≡ nameTaken t q parent
+      unfolding kinTest
+      named-of parent h same = scoped _ h .kids refl ∙ name-flag parent same
 
-      pub scanned-of : Scanned t q (viewOf t x r e k o w)
+      kids-of : w ≡ toChange o e false (sessionAt t x .roles) (sessionAt t x .writing) → q .entity < 64 → child ≡ hasChildren t q
+      unfolding kinTest
+      kids-of h ie = scoped _ h .kids refl ∙ child-flag ie
+
+      granted : w ≡ toGrant e (sessionAt t x .roles) → MayGrant t q (viewOf t x r e k o may child)
+      granted h =
+          record { may = λ ix ie. found-grant t (q .name) given may child (sessionAt t x .roles) e (near .entity .small) (scoped _ h) ∙ own-flag ix ie }
+
+      pub scanned-of : Scanned t q (viewOf t x r e k o may child)
       scanned-of =
           record {
-            openr = λ c. record { may = λ ix ie. found (asks-open (from-call 4 4 c refl) (to-call 4 5 c refl)) .openr c ∙ open-flags read ix ie };
-            openw = λ c. record { may = λ ix ie. found (asks-open (from-call 5 4 c refl) (to-call 5 5 c refl)) .openw c ∙ open-flags write ix ie };
+            openr = λ c. opened read (0, refl) (s .openr c);
+            openw = λ c. opened write (1, refl) (s .openw c);
             create = λ c. record {
               parent = λ ip. ap (entityAt t) (p .named c ip);
-              may = λ ix ip. changed 7 (q .parent) c refl refl refl (p .named c ip) ix;
-              child = λ ip. at 7 c refl refl .name (inl c) ∙ name-flag (q .parent) (p .named c ip);
+              may = λ ix ip. changed o (q .parent) true (s .create c) (p .named c ip) ix;
+              child = λ ip. named-of (q .parent) (s .create c) (p .named c ip);
             };
             delete = λ c. record {
-              may = λ ix ie. changed 8 (recordedParent t q) c refl refl refl (recorded 8 c refl ie) ix;
-              child = λ ie. at 8 c refl refl .child c ∙ child-flag ie;
+              may = λ ix ie. changed e (recordedParent t q) false (s .delete c) (recorded 8 c refl ie) ix;
+              child = λ ie. kids-of (s .delete c) ie;
             };
             rename = λ c. record {
-              may = λ ix ie. changed 9 (recordedParent t q) c refl refl refl (recorded 9 c refl ie) ix;
-              child = λ ie. at 9 c refl refl .name (inr c) ∙ name-flag (recordedParent t q) (recorded 9 c refl ie);
+              may = λ ix ie. changed o (recordedParent t q) true (s .rename c) (recorded 9 c refl ie) ix;
+              child = λ ie. named-of (recordedParent t q) (s .rename c) (recorded 9 c refl ie);
             };
-            grant = λ c. granted 10 c refl refl refl;
-            revoke = λ c. granted 11 c refl refl refl;
+            grant = λ c. granted (s .grant c);
+            revoke = λ c. granted (s .revoke c);
           }
 
--- ---- a decision, made, is the step
+-- ---- a number, and where it is 0 what the rule does, are the step
 abbrev pub outcome : Tables → ℕ → Outcome
 outcome t n = record { tables = t; answer = n }
 
-module _ (t : Tables) (q : Request) (d : Edit) (h : sound t ≡ true) (decided : Decided (ruleOf q) t q d) where
-  answered : answer t q ≡ d .answer
+module _ (t : Tables) (q : Request) (n : ℕ) (h : sound t ≡ true) (judged : n ≡ number (ruleOf q) t q) where
+  answered : answer t q ≡ n
   unfolding answer first inRanges number
-  answered = rw h (sym (decided .answer))
+  answered = rw h (sym judged)
 
-  pub refuses : (d .answer ≡ 0 → ⊥) → outcome t (d .answer) ≡ step t q
+  pub refuses : (n ≡ 0 → ⊥) → outcome t n ≡ step t q
   unfolding step next
-  refuses k = rw (answered, ne-eqb (d .answer) 0 k)
+  refuses k = rw (answered, ne-eqb n 0 k)
 
-  pub does : d .answer ≡ 0 → (u : Tables) → u ≡ applied t d → outcome u (d .answer) ≡ step t q
+  pub does : n ≡ 0 → (u : Tables) → u ≡ ruleOf q .effect q t → outcome u n ≡ step t q
   unfolding step next
-  does z u e = rw (answered, eq-eqb (d .answer) 0 z, e, decided .done z)
+  does z u e = rw (answered, eq-eqb n 0 z, e)
 
 pub unsound : (t : Tables) (q : Request) → sound t ≡ false → outcome t 1 ≡ step t q
 unfolding step next

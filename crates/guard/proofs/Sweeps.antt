@@ -1,19 +1,32 @@
 -- Loops that take each record of a list by a function.
 --     mapped                        the first i records by f, the others as they are
 --     mapped-more, mapped-all       one record more; all of them
---     sessions-more, sessions-all   .. of the tables' sessions;   both-more, both-all   .. of roles and sessions side by side
+--     mapped-same                   .. by one that leaves those as they are
+--     sessions-more, sessions-all   .. of the tables' sessions;   roles-more, roles-all   .. of their roles
+--     roles-from                    a sweep of the rights on an entity begins at its level
+--     swept-entity, swept-role      the sweeps of delete and of unmake, done
+--     Sized, sized-..               how many sessions and roles there are
 --     long                          an array of records is as long as its type says
 -- Assumes nothing.
-use Prim.Native.Nat.{ℕ, zero, suc, _+_}
+use Prim.Native.Nat.{ℕ, zero, suc, _+_, _*_, _/_, _<_}
 use mathlib.Core.Path.{_≡_, refl, sym, ap, ap₂, _∙_}
+use mathlib.Core.Bool.{true, false}
 use mathlib.Core.List.{List, [], _∷_, map}
 use native.Mathlib.Numerals.{add-one}
-use lib.ListN.{length, length-map, getD, set}
-use Rattle.guard.specs.Tables.{noSession, sessionAt, roleAt}
-use Rattle.guard.specs.Edits.{withSessions, withRoles}
+use native.Mathlib.Omega.{arith}
+use lib.ListN.{length, length-map, length-set, getD, set}
+use lib.Seq.{set-getD}
+use borrow.Author.Tests.{lt-leb}
+use Rattle.bitset.specs.Tests.Laws.{every-at, clash, is-false}
+use Rattle.bitset.specs.Sets.Laws.{has-none, has-below, sets-ext}
+use Rattle.guard.specs.Tables.{noSession, noRole, noEntity, sessionAt, roleAt, rightsOn}
+use Rattle.guard.specs.Sound.{sound}
+use Rattle.guard.specs.Edits.{withSessions, withRoles, withEntities, atRole, atEntity, eachSession, eachRole, closeBoth, dropRole, setRights, clearRights}
 use Rattle.guard.specs.declared.Session.{Session}
 use Rattle.guard.specs.declared.Role.{Role}
+use Rattle.guard.specs.declared.Entity.{Entity}
 use Rattle.guard.specs.declared.Tables.{Tables}
+use Rattle.guard.proofs.Laws.Sound.{sound-e}
 
 -- an array of records: what a parameter's `good` says of its length stands at the records' parts
 pub long : {X Y : Type 0} (f : X → Y) (l : List X) (n : ℕ) → length (map f l) ≡ n → length l ≡ n
@@ -43,6 +56,13 @@ module _ {A : Type 0} (f : A → A) where
   mapped-length (suc i) [] = refl
   mapped-length (suc i) (x ∷ l) = ap suc (mapped-length i l)
 
+  -- those that f leaves as they are
+  pub mapped-same : (i : ℕ) (l : List A) (d : A) → ((k : ℕ) → k < i → f (getD l k d) ≡ getD l k d) → mapped i l ≡ l
+  mapped-same zero l d h = refl
+  mapped-same (suc i) [] d h = refl
+  mapped-same (suc i) (x ∷ l) d h =
+      ap₂ (λ (y : A) (k : List A). y ∷ k) (h 0 (omega arith)) (mapped-same i l d (λ k b. h (suc k) (omega arith)))
+
 pub sessions-more : (f : Session → Session) (t t₀ : Tables) (i : ℕ) → t ≡ withSessions t₀ (mapped f i (t₀ .sessions))
     → withSessions t (set (t .sessions) i (f (sessionAt t i))) ≡ withSessions t₀ (mapped f (i + 1) (t₀ .sessions))
 sessions-more f t t₀ i h = rw h (ap (withSessions t₀) (mapped-more f i (t₀ .sessions) noSession))
@@ -51,20 +71,64 @@ pub sessions-all : (f : Session → Session) (t t₀ : Tables) (i : ℕ) → len
     → t ≡ withSessions t₀ (mapped f i (t₀ .sessions)) → t ≡ withSessions t₀ (map f (t₀ .sessions))
 sessions-all f t t₀ i e h = h ∙ ap (withSessions t₀) (rw (← e) (mapped-all f (t₀ .sessions)))
 
--- the first i roles by g and the first i sessions by f
-abbrev pub swept-to : (Session → Session) → (Role → Role) → Tables → ℕ → Tables
-swept-to f g t i = withSessions (withRoles t (mapped g i (t .roles))) (mapped f i (t .sessions))
+pub roles-more : (f : Role → Role) (t t₀ : Tables) (i : ℕ) → t ≡ withRoles t₀ (mapped f i (t₀ .roles))
+    → withRoles t (set (t .roles) i (f (roleAt t i))) ≡ withRoles t₀ (mapped f (i + 1) (t₀ .roles))
+roles-more f t t₀ i h = rw h (ap (withRoles t₀) (mapped-more f i (t₀ .roles) _))
 
-pub both-more : (f : Session → Session) (g : Role → Role) (t t₀ : Tables) (i : ℕ) → t ≡ swept-to f g t₀ i
-    → withSessions (withRoles t (set (t .roles) i (g (roleAt t i)))) (set (t .sessions) i (f (sessionAt t i))) ≡ swept-to f g t₀ (i + 1)
-both-more f g t t₀ i h =
-    rw h
-    (ap₂ (λ (r : List Role) (s : List Session). withSessions (withRoles t₀ r) s) (mapped-more g i (t₀ .roles) _)
-    (mapped-more f i (t₀ .sessions) noSession))
+pub roles-all : (f : Role → Role) (t t₀ : Tables) (i : ℕ) → length (t₀ .roles) ≡ i
+    → t ≡ withRoles t₀ (mapped f i (t₀ .roles)) → t ≡ withRoles t₀ (map f (t₀ .roles))
+roles-all f t t₀ i e h = h ∙ ap (withRoles t₀) (rw (← e) (mapped-all f (t₀ .roles)))
 
-pub both-all : (f : Session → Session) (g : Role → Role) (t t₀ : Tables) (i : ℕ) → length (t₀ .roles) ≡ i → length (t₀ .sessions) ≡ i
-    → t ≡ swept-to f g t₀ i → t ≡ withSessions (withRoles t₀ (map g (t₀ .roles))) (map f (t₀ .sessions))
-both-all f g t t₀ i er es h =
-    h
-    ∙ ap₂ (λ (r : List Role) (s : List Session). withSessions (withRoles t₀ r) s) (rw (← er) (mapped-all g (t₀ .roles)))
-    (rw (← es) (mapped-all f (t₀ .sessions)))
+-- a role below the level of e has no rights on it, so that clearing them changes nothing
+module _ (t : Tables) (e : ℕ) (ok : sound t ≡ true) (inside : e < 64) where
+  none-below : (r : ℕ) → r < e / 16 * 4 → rightsOn t r e ≡ 0
+  none-below r l =
+      let rights = sound-e t ok .role r (omega arith) .rights e inside in
+      sets-ext _ 0 (λ i.
+      is-false _ (λ m. clash _ (every-at _ (rights .members i (has-below 4 _ i (rights .small) m) m) 1) (lt-leb (e / 16) (r / 4) (omega arith)))
+      ∙ sym (has-none i))
+
+  pub roles-from : (u : Tables) → u .roles ≡ t .roles → u ≡ withRoles u (mapped (clearRights e) (e / 16 * 4) (u .roles))
+  unfolding clearRights setRights
+  roles-from u same =
+      ap (withRoles u) (sym (mapped-same (clearRights e) (e / 16 * 4) (u .roles) (record { live = false; users = 0; rights = [] })
+      (λ r l. rw same (ap (λ (n : List ℕ). record { live = roleAt t r .live; users = roleAt t r .users; rights = n })
+      (ap (set (roleAt t r .rights) e) (sym (none-below r l)) ∙ set-getD (roleAt t r .rights) e 0)))))
+
+-- ---- the sweeps of delete and of unmake, done
+pub swept-entity : (t : Tables) (e : ℕ) (f : Entity) (u v : Tables) → f ≡ noEntity → length (t .roles) ≡ 16 → length (t .sessions) ≡ 16
+    → u ≡ withRoles (withEntities t (set (t .entities) e f)) (mapped (clearRights e) 16 (t .roles))
+    → v ≡ withSessions u (mapped (closeBoth e) 16 (u .sessions))
+    → v ≡ eachSession (closeBoth e) (eachRole (clearRights e) (atEntity e (λ old. noEntity) t))
+unfolding eachSession eachRole atEntity
+swept-entity t e f u v dead roles sessions hu hv =
+    let cleared = roles-all (clearRights e) u (withEntities t (set (t .entities) e f)) 16 roles hu in
+    sessions-all (closeBoth e) v u 16 (rw cleared sessions) hv ∙ rw (cleared, dead)
+
+pub swept-role : (t : Tables) (r : ℕ) (p : Role) (v : Tables) → p ≡ noRole → length (t .sessions) ≡ 16
+    → v ≡ withSessions (withRoles t (set (t .roles) r p)) (mapped (dropRole r) 16 (t .sessions))
+    → v ≡ eachSession (dropRole r) (atRole r (λ old. noRole) t)
+unfolding eachSession atRole
+swept-role t r p v dead sessions hv =
+    sessions-all (dropRole r) v (withRoles t (set (t .roles) r p)) 16 sessions hv ∙ rw dead
+
+-- ---- how many sessions and roles there are
+pub record Sized (t : Tables) : Type 0 where
+  pub sessions : length (t .sessions) ≡ 16
+  pub roles : length (t .roles) ≡ 16
+
+module _ (t : Tables) (z : Sized t) where
+  pub sized-session : (x : ℕ) (s : Session) → Sized (withSessions t (set (t .sessions) x s))
+  sized-session x s = record { sessions = simp length-set (z .sessions); roles = z .roles }
+
+  pub sized-entity : (l : List Entity) → Sized (withEntities t l)
+  sized-entity l = record { sessions = z .sessions; roles = z .roles }
+
+  pub sized-role : (r : ℕ) (p : Role) (l : List Entity) → Sized (withRoles (withEntities t l) (set (t .roles) r p))
+  sized-role r p l = record { sessions = z .sessions; roles = simp length-set (z .roles) }
+
+  pub sized-sessions : (f : Session → Session) (i : ℕ) (u : Tables) → u ≡ withSessions t (mapped f i (t .sessions)) → Sized u
+  sized-sessions f i u h = rw h (record { sessions = mapped-length f i (t .sessions) ∙ z .sessions; roles = z .roles })
+
+  pub sized-roles : (f : Role → Role) (i : ℕ) (u : Tables) → u ≡ withRoles t (mapped f i (t .roles)) → Sized u
+  sized-roles f i u h = rw h (record { sessions = z .sessions; roles = mapped-length f i (t .roles) ∙ z .roles })

@@ -1,4 +1,4 @@
--- A batch: up to sixty-four requests at once. What a host gets for a log of that length.
+-- A batch: up to 256 requests at once. What a host gets for a log of that length.
 use Prim.Native.Nat.{ℕ, _-_}
 use mathlib.Core.Bool.{cond}
 use mathlib.Core.List.{List, _++_}
@@ -10,7 +10,7 @@ use Rattle.guard.specs.declared.Request.{Request}
 use Rattle.guard.specs.declared.Ran.{Ran}
 
 abbrev pub batchSize : ℕ
-batchSize = 64
+batchSize = 256
 
 -- The tables after the first n requests and the answer to each, with 0 behind the last. A count past the array is
 -- answered 2, and nothing is run.

@@ -1,68 +1,38 @@
 -- The words in which the contracts of private functions are put. No public entry's contract cites them, so a buyer need
 -- not read them.
-use Prim.Native.Nat.{ℕ, _<_}
+use Prim.Native.Nat.{ℕ, _*_, _/_, _%_, _^_, _<_}
 use mathlib.Core.Path.{_≡_}
-use mathlib.Core.Bool.{Bool, true, false, not, cond, _&&_}
+use mathlib.Core.Bool.{Bool, true, false, not, cond}
 use mathlib.Core.List.{[], _∷_, map}
-use mathlib.Core.Logic.{_⊎_}
-use lib.Dec.{eqb, leb}
-use lib.ListN.{set}
-use Rattle.bitset.specs.Tests.{every, either, some}
-use Rattle.bitset.specs.Sets.{has}
-use Rattle.guard.specs.Level.{userCount, sessionCount, roleCount, entityCount, entitiesPerLevel}
-use Rattle.guard.specs.Tables.{noSession, noRole, noEntity, userAt, sessionAt, roleAt, entityAt, rightsOn, read, write, execute, own, isChild}
-use Rattle.guard.specs.Chain.{climbs, parentOf}
-use Rattle.guard.specs.Sound.{sound}
-use Rattle.guard.specs.Scan.{gives}
-use Rattle.guard.specs.Edits.{atRole, atEntity, eachSession, eachRole, dropRole, closeBoth, clearRights}
+use lib.Dec.{eqb}
+use lib.ListN.{getD}
+use Rattle.bitset.specs.Tests.{every}
+use Rattle.bitset.specs.Sets.{has, with, without, join, minus}
+use Rattle.guard.specs.Level.{userCount, sessionCount, roleCount, entityCount}
+use Rattle.guard.specs.Tables.{noSession, userAt, sessionAt, roleAt, entityAt, read, write, execute, own, isChild}
+use Rattle.guard.specs.Edits.{takeRole, dropRole, openReading, openWriting, closeBoth}
 use Rattle.guard.specs.Refusals.{_when_, first}
 use Rattle.guard.specs.Conditions.{cannotOpen, cannotChange, notOwned, nameTaken, hasChildren, recordedParent}
 use Rattle.guard.specs.Requests.{Rule, fieldInRange}
+use Rattle.guard.specs.declared.Label.{Label}
+use Rattle.guard.specs.declared.Session.{Session}
 use Rattle.guard.specs.declared.Entity.{Entity}
 use Rattle.guard.specs.declared.Tables.{Tables}
 use Rattle.guard.specs.declared.Request.{Request}
-use Rattle.guard.specs.declared.scan.Scan.{Scan}
-use Rattle.guard.specs.declared.edit.View.{View}
-use Rattle.guard.specs.declared.edit.Edit.{Edit}
+use Rattle.guard.specs.declared.look.Scope.{Scope}
+use Rattle.guard.specs.declared.view.View.{View}
 
 -- the answer of a rule on sound tables
 unfoldable pub number : Rule → Tables → Request → ℕ
 number rule t q = first (2 when not (every (map (fieldInRange q) (rule .uses))) ∷ rule .refusals t q)
 
--- ---- an edit, made: one session, one role's marks with its rights on one entity, and that entity; or a sweep
-unfoldable pub stored : Tables → Edit → Tables
-stored t d =
-    record {
-      users = t .users;
-      sessions = set (t .sessions) (d .x) (d .session);
-      roles = set (t .roles) (d .r)
-          (record { live = d .live; users = d .users; rights = set (roleAt t (d .r) .rights) (d .e) (d .rights) });
-      entities = set (t .entities) (d .e) (d .entity);
-    }
-
-unfoldable pub swept : Tables → Edit → Tables
-swept t d =
-    cond (eqb (d .sweep) 1)
-    (eachSession (closeBoth (d .e)) (eachRole (clearRights (d .e)) (atEntity (d .e) (λ old. noEntity) t)))
-    (eachSession (dropRole (d .r)) (atRole (d .r) (λ old. noRole) t))
-
-unfoldable pub applied : Tables → Edit → Tables
-applied t d = cond (eqb (d .sweep) 0) (stored t d) (swept t d)
-
 -- ---- what a request looks at: v holds the records that q concerns
 pub record Seen (t : Tables) (q : Request) (v : View) : Type 0 where
-  pub sessionIn : v .x < sessionCount
-  pub roleIn : v .r < roleCount
-  pub entityIn : v .e < entityCount
-  pub session : v .session ≡ sessionAt t (v .x)
-  pub live : v .live ≡ roleAt t (v .r) .live
-  pub users : v .users ≡ roleAt t (v .r) .users
-  pub rights : v .rights ≡ rightsOn t (v .r) (v .e)
-  pub entity : v .entity ≡ entityAt t (v .e)
-  pub isSeat : q .seat < sessionCount → v .x ≡ q .seat
-  pub isRole : q .role < roleCount → v .r ≡ q .role
-  pub isEntity : q .entity < entityCount → v .e ≡ q .entity
+  pub session : q .seat < sessionCount → v .session ≡ sessionAt t (q .seat)
   pub user : q .user < userCount → v .user ≡ userAt t (q .user)
+  pub live : q .role < roleCount → v .live ≡ roleAt t (q .role) .live
+  pub users : q .role < roleCount → v .users ≡ roleAt t (q .role) .users
+  pub entity : q .entity < entityCount → v .entity ≡ entityAt t (q .entity)
 
 -- what 13, 14 and 15 ask, where the request asks it
 pub record MayOpen (right : ℕ) (t : Tables) (q : Request) (v : View) : Type 0 where
@@ -93,47 +63,29 @@ pub record Scanned (t : Tables) (q : Request) (v : View) : Type 0 where
   pub grant : q .call ≡ 10 → MayGrant t q v
   pub revoke : q .call ≡ 11 → MayGrant t q v
 
--- ---- what is decided: the rule's answer to q, and where that is 0 the edit to make
-pub record Within (d : Edit) : Type 0 where
-  pub session : d .x < sessionCount
-  pub role : d .r < roleCount
-  pub entity : d .e < entityCount
+-- ---- what is stored where the answer is 0
+-- the session and the entity that a login and a create make, each number cut to its field
+abbrev pub cutLabel : Request → Label
+cutLabel q = record { cats = q .cats % 256; grade = q .level % 256 }
 
-pub record Decided (rule : Rule) (t : Tables) (q : Request) (d : Edit) : Type 0 where
-  pub answer : d .answer ≡ number rule t q
-  pub within : d .answer ≡ 0 → Within d
-  pub done : d .answer ≡ 0 → applied t d ≡ rule .effect q t
+abbrev pub enteredOf : Request → Session
+enteredOf q = record { live = true; user = q .user % 256; label = cutLabel q; roles = 0; reading = 0; writing = 0 }
 
--- ---- the edits that the code makes
-abbrev pub refusedOf : ℕ → Edit
-refusedOf n =
-    record {
-      answer = n;
-      sweep = 0;
-      x = 0;
-      r = 0;
-      e = 0;
-      session = noSession;
-      live = false;
-      users = 0;
-      rights = 0;
-      entity = noEntity;
-    }
+abbrev pub madeEntity : Request → Entity
+madeEntity q = record { live = true; kind = q .kind % 256; parent = q .parent % 256; name = q .name % 65536; label = cutLabel q }
 
-abbrev pub keptOf : View → Edit
-keptOf v =
-    record {
-      answer = 0;
-      sweep = 0;
-      x = v .x;
-      r = v .r;
-      e = v .e;
-      session = v .session;
-      live = v .live;
-      users = v .users;
-      rights = v .rights;
-      entity = v .entity;
-    }
+-- the acting session s after a request of the first seven kinds
+unfoldable pub sessionAfter : Request → ℕ → ℕ → Session → Session
+sessionAfter q r e s =
+    getD (enteredOf q ∷ noSession ∷ takeRole r s ∷ dropRole r s ∷ openReading e s ∷ openWriting e s ∷ []) (q .call) (closeBoth e s)
+
+-- the users that a role lists after list (12), unlist (13) or make
+unfoldable pub usersAfter : ℕ → ℕ → ℕ → ℕ
+usersAfter call k users = cond (eqb call 12) (with users k) (cond (eqb call 13) (without users k) users)
+
+-- a role's rights on an entity after grant (10) or revoke
+unfoldable pub rightsAfter : ℕ → ℕ → ℕ → ℕ
+rightsAfter call named rights = cond (eqb call 10) (join rights (named % 256)) (minus rights (named % 256))
 
 -- ---- a number for an index: itself below the end, and some number below it otherwise
 pub record Below (end n i : ℕ) : Type 0 where
@@ -146,30 +98,63 @@ pub record Parent (q : Request) (f : Entity) (i : ℕ) : Type 0 where
   pub named : q .call ≡ 7 → q .parent < entityCount → i ≡ q .parent
   pub recorded : (q .call ≡ 7 → ⊥) → i ≡ f .parent
 
--- ---- the scan for what 13, 14 and 15 ask
--- the kinds that ask 13
-unfoldable pub asks : ℕ → Bool
-asks call = either (every (leb 4 call ∷ leb call 5 ∷ [])) (every (leb 7 call ∷ leb call 11 ∷ []))
+-- ---- the scan for what 13, 14 and 15 ask, with entity e and parent o, by one that holds `held` and has `writing` open
+abbrev pub toOpen : ℕ → ℕ → ℕ → Scope
+toOpen right e held =
+    record {
+      at = e;
+      from = e;
+      kin = 0;
+      held = held;
+      left = held / 2 ^ (e / 16 * 4);
+      right = right;
+      opened = true;
+      kids = false;
+      named = false;
+    }
 
--- the right that openr (4) and openw (5) ask
-pub record OpenRight (call right : ℕ) : Type 0 where
-  pub reads : call ≡ 4 → right ≡ read
-  pub writes : (call ≡ 4 → ⊥) → right ≡ write
+abbrev pub toChange : ℕ → ℕ → Bool → ℕ → ℕ → Scope
+toChange o kin named held writing =
+    record {
+      at = o;
+      from = 0;
+      kin = kin;
+      held = held;
+      left = held / 2 ^ (o / 16 * 4);
+      right = execute;
+      opened = has writing o;
+      kids = true;
+      named = named;
+    }
 
-pub record Asked (t : Tables) (q : Request) (e o : ℕ) : Type 0 where
-  pub isSound : sound t ≡ true
-  pub asked : asks (q .call) ≡ true
-  pub entityIn : e < entityCount
-  pub parentIn : o < entityCount
+abbrev pub toGrant : ℕ → ℕ → Scope
+toGrant e held =
+    record {
+      at = e;
+      from = 0;
+      kin = 0;
+      held = held;
+      left = held / 2 ^ (e / 16 * 4);
+      right = own;
+      opened = true;
+      kids = false;
+      named = false;
+    }
 
--- what is found for q, with entity e and parent o, by one that holds `held` and has `writing` open for writing
-abbrev pub givesWay : Tables → ℕ → ℕ → ℕ → Bool
-givesWay t held right e = gives t held right e && climbs (parentOf t) (gives t held execute) entitiesPerLevel e
+pub record Scoped (call e o held writing : ℕ) (w : Scope) : Type 0 where
+  pub atIn : w .at < entityCount
+  pub fromIn : w .from < entityCount
+  pub kinIn : w .kin < entityCount
+  pub heldIn : w .held < 2 ^ roleCount
+  pub left : w .left ≡ w .held / 2 ^ (w .at / 16 * 4)
+  pub openr : call ≡ 4 → w ≡ toOpen read e held
+  pub openw : call ≡ 5 → w ≡ toOpen write e held
+  pub create : call ≡ 7 → w ≡ toChange o o true held writing
+  pub delete : call ≡ 8 → w ≡ toChange o e false held writing
+  pub rename : call ≡ 9 → w ≡ toChange o o true held writing
+  pub grant : call ≡ 10 → w ≡ toGrant e held
+  pub revoke : call ≡ 11 → w ≡ toGrant e held
 
-pub record Found (t : Tables) (held writing : ℕ) (q : Request) (e o : ℕ) (w : Scan) : Type 0 where
-  pub openr : q .call ≡ 4 → w .may ≡ givesWay t held read e
-  pub openw : q .call ≡ 5 → w .may ≡ givesWay t held write e
-  pub change : leb 7 (q .call) ≡ true → leb (q .call) 9 ≡ true → w .may ≡ (has writing o && gives t held execute o)
-  pub child : q .call ≡ 8 → w .child ≡ some entityCount (λ f. isChild t e f)
-  pub name : (q .call ≡ 7) ⊎ (q .call ≡ 9) → w .child ≡ some entityCount (λ f. every (isChild t o f ∷ eqb (entityAt t f .name) (q .name) ∷ []))
-  pub grant : leb 10 (q .call) ≡ true → w .may ≡ gives t held own e
+-- f is a child of p, and has the name where that is asked
+unfoldable pub kinTest : Tables → ℕ → Bool → ℕ → ℕ → Bool
+kinTest t p named name f = cond named (every (isChild t p f ∷ eqb (entityAt t f .name) name ∷ [])) (isChild t p f)

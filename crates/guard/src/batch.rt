@@ -1,12 +1,15 @@
-// A batch: up to sixty-four requests at once, with one test of soundness for all of them. Each is looked at, decided and
+// A batch: up to 256 requests at once, with one test of soundness for all of them. Each is looked at, decided and
 // stored as in `step`; the lines are the same here, since a function that took the tables would copy them for each request.
 use crate::Ran;
 use crate::Request;
 use crate::Tables;
-use crate::edit::View;
+use crate::entities;
 use crate::judge;
 use crate::look;
-use crate::scan::Scan;
+use crate::roles;
+use crate::scan;
+use crate::sessions;
+use crate::view::View;
 ghost use mathlib.Core.Path.{_≡_};
 ghost use mathlib.Core.List.{_++_};
 ghost use Prim.Native.Nat.{_≤_, _-_};
@@ -14,11 +17,11 @@ ghost use lib.ListN.{replicate};
 ghost use Rattle.guard.specs.Batch.{batch};
 
 // The answers to `count` requests on tables that are not sound: 1 each.
-fn all_unsound(count: usize) -> [u8; 64]
-    requires { ⌜ count ≤ 64 ⌝ }
-    ensures { λ a. ⌜ a ≡ replicate count 1 ++ replicate (64 - count) 0 ⌝ }
+fn all_unsound(count: usize) -> [u8; 256]
+    requires { ⌜ count ≤ 256 ⌝ }
+    ensures { λ a. ⌜ a ≡ replicate count 1 ++ replicate (256 - count) 0 ⌝ }
 {
-    let mut a = [0u8; 64];
+    let mut a = [0u8; 256];
     let mut i = 0usize;
     while i < count {
         a[i] = 1;
@@ -29,11 +32,11 @@ fn all_unsound(count: usize) -> [u8; 64]
 
 impl Tables {
     // The first `count` requests, one after the other. Soundness is tested once: every request hands back sound tables.
-    pub fn run(mut self, requests: [Request; 64], count: usize) -> Ran
+    pub fn run(mut self, requests: [Request; 256], count: usize) -> Ran
         ensures { λ o. ⌜ o ≡ batch self requests count ⌝ }
     {
-        let mut answers = [0u8; 64];
-        if 64 < count {
+        let mut answers = [0u8; 256];
+        if 256 < count {
             return Ran {
                 tables: self,
                 answers,
@@ -48,9 +51,9 @@ impl Tables {
                 answer: 0,
             };
         }
-        let mut i = 0usize;
-        while i < count {
-            let q = requests[i];
+        let mut t = 0usize;
+        while t < count {
+            let q = requests[t];
             let x = look::below16(q.seat);
             let r = look::below16(q.role);
             let e = look::below64(q.entity);
@@ -61,48 +64,111 @@ impl Tables {
             let f = self.entities[e];
             let o = look::parent_of(q, f);
             let m = self.entities[o];
-            let mut w = Scan {
-                may: false,
-                child: false,
-            };
-            if look::asks13(q.call) {
-                w = self.scanned(q, s, e, o);
+            // What 13, 14 and 15 ask: the rights that the roles held give, then the way up by them, then the children.
+            let w = look::scope_of(q.call, e, o, s.roles, s.writing);
+            let at = w.at;
+            let mut given = [0u8; 64];
+            let mut i = at / 16 * 4;
+            let mut left = w.left;
+            while left != 0 {
+                let one = bitset::has16(left, 0);
+                let i2 = i;
+                left = left >> 1;
+                i += 1;
+                if one {
+                    let h = self.roles[i2];
+                    given = scan::joined(given, &h.rights);
+                }
             }
-            let rights = p.rights[e];
+            let mut may = w.opened & bitset::contains8(given[at], w.right);
+            let mut a = w.from;
+            let mut steps = 16usize;
+            while (steps != 0) & (a % 16 != 0) {
+                let h = self.entities[a];
+                a = h.parent as usize;
+                may = may & bitset::contains8(given[a], 4);
+                steps -= 1;
+            }
+            let mut child = false;
+            if w.kids {
+                let kin = w.kin;
+                let base = kin / 16 * 16;
+                let mut j = 1usize;
+                while j < 16 {
+                    let h = self.entities[base + j];
+                    child = child | scan::is_kin(h, kin, w.named, q.name);
+                    j += 1;
+                }
+            }
             let v = View {
-                x,
-                r,
-                e,
                 session: s,
                 user: u,
                 live: p.live,
                 users: p.users,
-                rights,
                 entity: f,
                 parent: m,
-                may: w.may,
-                child: w.child,
+                may: may & (a % 16 == 0),
+                child,
             };
-            let d = judge::judge(q, v);
-            let n = d.answer;
-            answers[i] = n;
-            i += 1;
+            let n = judge::judge(q, v);
+            answers[t] = n;
+            t += 1;
             if n == 0 {
-                if d.sweep == 0 {
-                    let x2 = d.x;
-                    let r2 = d.r;
-                    let e2 = d.e;
-                    let s2 = d.session;
-                    self.sessions[x2] = s2;
-                    let mut p2 = self.roles[r2];
-                    p2.live = d.live;
-                    p2.users = d.users;
-                    p2.rights[e2] = d.rights;
-                    self.roles[r2] = p2;
-                    let f2 = d.entity;
-                    self.entities[e2] = f2;
+                // Each kind stores what it changes: a session, up to 6; create, 7; delete, 8; rename, 9; grant and revoke; list,
+                // unlist and make, up to 14; unmake.
+                let call = q.call;
+                if call <= 6 {
+                    let s2 = sessions::after(q, r, e, s);
+                    self.sessions[x] = s2;
+                } else if call == 7 {
+                    let f2 = entities::made(q);
+                    self.entities[e] = f2;
+                    let mut p2 = self.roles[r];
+                    p2.rights[e] = bitset::join8(p2.rights[e], 8);
+                    self.roles[r] = p2;
+                } else if call == 8 {
+                    let f2 = entities::empty();
+                    self.entities[e] = f2;
+                    // No role below the entity has rights on it.
+                    let mut i2 = e / 16 * 4;
+                    while i2 < 16 {
+                        let mut h = self.roles[i2];
+                        h.rights[e] = 0;
+                        self.roles[i2] = h;
+                        i2 += 1;
+                    }
+                    let mut j2 = 0usize;
+                    while j2 < 16 {
+                        let mut h = self.sessions[j2];
+                        h.reading = bitset::without64(h.reading, e as u32);
+                        h.writing = bitset::without64(h.writing, e as u32);
+                        self.sessions[j2] = h;
+                        j2 += 1;
+                    }
+                } else if call == 9 {
+                    let f2 = entities::renamed(q.name, f);
+                    self.entities[e] = f2;
+                } else if call <= 14 {
+                    let mut p2 = self.roles[r];
+                    if call <= 11 {
+                        p2.rights[e] = roles::rights_after(call, q.rights, p2.rights[e]);
+                        self.roles[r] = p2;
+                    } else {
+                        // A dead role of sound tables is empty already.
+                        p2.live = true;
+                        p2.users = roles::users_after(call, k, p2.users);
+                        self.roles[r] = p2;
+                    }
                 } else {
-                    self = self.emptied(d);
+                    let p2 = roles::empty();
+                    self.roles[r] = p2;
+                    let mut i2 = 0usize;
+                    while i2 < 16 {
+                        let mut h = self.sessions[i2];
+                        h.roles = bitset::without16(h.roles, r as u32);
+                        self.sessions[i2] = h;
+                        i2 += 1;
+                    }
                 }
             }
         }

@@ -2,10 +2,9 @@
 use crate::Entity;
 use crate::Label;
 use crate::Request;
-use crate::edit;
-use crate::edit::Edit;
-use crate::edit::View;
 use crate::labels;
+use crate::view::View;
+ghost use Prim.Native.Nat.{_%_};
 ghost use mathlib.Core.Path.{_≡_};
 ghost use mathlib.Core.Bool.{not};
 ghost use mathlib.Core.List.{[], _∷_, map};
@@ -14,10 +13,11 @@ ghost use Rattle.bitset.specs.Tests.{every, either};
 ghost use Rattle.bitset.specs.Sets.{has};
 ghost use Rattle.guard.specs.Level.{roleLevel, entityLevel, isRoot};
 ghost use Rattle.guard.specs.Label.{dominates};
-ghost use Rattle.guard.specs.Tables.{container};
+ghost use Rattle.guard.specs.Tables.{container, noEntity};
+ghost use Rattle.guard.specs.Edits.{renameTo};
 ghost use Rattle.guard.specs.Refusals.{first, _when_};
 ghost use Rattle.guard.specs.Requests.{fieldInRange, create, delete, rename};
-ghost use Rattle.guard.specs.Inside.{Seen, MayCreate, MayDelete, MayRename, Decided};
+ghost use Rattle.guard.specs.Inside.{number, Seen, MayCreate, MayDelete, MayRename, madeEntity};
 ghost use Rattle.guard.specs.declared.Tables.{Tables as TablesOf};
 
 // Whether each number of a create is in its range.
@@ -82,16 +82,15 @@ fn create_refusal(
     0
 }
 
-// The role gains own, 8, on the entity.
-pub fn create_edit(q: Request, v: View) -> Edit
-    ensures { λ d. ⌜ ((t : TablesOf) → Seen t q v → MayCreate t q v → Decided create t q d) ⌝ }
+pub fn create_number(q: Request, v: View) -> u8
+    ensures { λ n. ⌜ ((t : TablesOf) → Seen t q v → MayCreate t q v → n ≡ number create t q) ⌝ }
 {
     if !create_in_range(q) {
-        return edit::refused(2);
+        return 2;
     }
     let label = labels::made(q.level, q.cats);
     let before = create_refusal_to_9(v.session.live, v.parent, v.live, v.entity.live);
-    let n = create_refusal(
+    create_refusal(
         before,
         q,
         label,
@@ -99,22 +98,7 @@ pub fn create_edit(q: Request, v: View) -> Edit
         v.session.roles,
         v.may,
         v.child,
-    );
-    if n != 0 {
-        return edit::refused(n);
-    }
-    let entity = Entity {
-        live: true,
-        kind: q.kind as u8,
-        parent: q.parent as u8,
-        name: q.name as u16,
-        label,
-    };
-    let rights = bitset::join8(v.rights, 8);
-    let mut d = edit::kept(v);
-    d.rights = rights;
-    d.entity = entity;
-    d
+    )
 }
 
 // The refusals of delete and of rename, which differ in the last number: 15, the entity has a child, or 14, a child of
@@ -140,47 +124,70 @@ fn change_refusal(live: bool, entity: u32, there: bool, may: bool, child: bool, 
     0
 }
 
-// All rights on the entity and all opens of it go too.
-pub fn delete_edit(q: Request, v: View) -> Edit
-    ensures { λ d. ⌜ ((t : TablesOf) → Seen t q v → MayDelete t q v → Decided delete t q d) ⌝ }
+pub fn delete_number(q: Request, v: View) -> u8
+    ensures { λ n. ⌜ ((t : TablesOf) → Seen t q v → MayDelete t q v → n ≡ number delete t q) ⌝ }
 {
     if 16 <= q.seat {
-        return edit::refused(2);
+        return 2;
     }
     if 64 <= q.entity {
-        return edit::refused(2);
+        return 2;
     }
-    let n = change_refusal(v.session.live, q.entity, v.entity.live, v.may, v.child, 15);
-    if n != 0 {
-        return edit::refused(n);
-    }
-    let mut d = edit::kept(v);
-    d.sweep = 1;
-    d
+    change_refusal(v.session.live, q.entity, v.entity.live, v.may, v.child, 15)
 }
 
-pub fn rename_edit(q: Request, v: View) -> Edit
-    ensures { λ d. ⌜ ((t : TablesOf) → Seen t q v → MayRename t q v → Decided rename t q d) ⌝ }
+pub fn rename_number(q: Request, v: View) -> u8
+    ensures { λ n. ⌜ ((t : TablesOf) → Seen t q v → MayRename t q v → n ≡ number rename t q) ⌝ }
 {
     if 16 <= q.seat {
-        return edit::refused(2);
+        return 2;
     }
     if 64 <= q.entity {
-        return edit::refused(2);
+        return 2;
     }
     if q.name < 1 {
-        return edit::refused(2);
+        return 2;
     }
     if 65535 < q.name {
-        return edit::refused(2);
+        return 2;
     }
-    let n = change_refusal(v.session.live, q.entity, v.entity.live, v.may, v.child, 14);
-    if n != 0 {
-        return edit::refused(n);
+    change_refusal(v.session.live, q.entity, v.entity.live, v.may, v.child, 14)
+}
+
+// The entity that a create makes: its numbers are in their ranges by then.
+pub fn made(q: Request) -> Entity
+    ensures { λ n. ⌜ n ≡ madeEntity q ⌝ }
+{
+    let label = Label {
+        cats: (q.cats % 256) as u8,
+        grade: (q.level % 256) as u8,
+    };
+    Entity {
+        live: true,
+        kind: (q.kind % 256) as u8,
+        parent: (q.parent % 256) as u8,
+        name: (q.name % 65536) as u16,
+        label,
     }
-    let mut entity = v.entity;
-    entity.name = q.name as u16;
-    let mut d = edit::kept(v);
-    d.entity = entity;
-    d
+}
+
+pub fn renamed(name: u32, f: Entity) -> Entity
+    ensures { λ n. ⌜ n ≡ renameTo (name % 65536) f ⌝ }
+{
+    let mut n = f;
+    n.name = (name % 65536) as u16;
+    n
+}
+
+pub fn empty() -> Entity
+    ensures { λ n. ⌜ n ≡ noEntity ⌝ }
+{
+    let none = Label { cats: 0, grade: 0 };
+    Entity {
+        live: false,
+        kind: 0,
+        parent: 0,
+        name: 0,
+        label: none,
+    }
 }

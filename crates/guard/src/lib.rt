@@ -4,7 +4,6 @@
 // sound, what each request answers and how it changes the tables is said by the definitions in specs/, in the paper's
 // order. Sets are bit sets: member `i` is bit `i` (crate `bitset`). No record holds an enum or a reference.
 mod batch;
-mod edit;
 mod entities;
 mod fresh;
 mod judge;
@@ -17,6 +16,7 @@ mod scan;
 mod sessions;
 mod sound;
 mod step;
+mod view;
 
 // Label: a confidentiality grade, 0 to 3, and a set of eight categories.
 pub struct Label {
@@ -91,6 +91,6 @@ pub struct Outcome {
 // count past the array.
 pub struct Ran {
     pub tables: Tables,
-    pub answers: [u8; 64],
+    pub answers: [u8; 256],
     pub answer: u8,
 }

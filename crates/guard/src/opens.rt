@@ -1,11 +1,9 @@
-// Requests that open an entity or close it: openr, openw, close.
+// The numbers of requests that open an entity or close it: openr, openw, close.
 use crate::Entity;
 use crate::Request;
 use crate::Session;
-use crate::edit;
-use crate::edit::Edit;
-use crate::edit::View;
 use crate::labels;
+use crate::view::View;
 ghost use mathlib.Core.Path.{_≡_};
 ghost use mathlib.Core.Bool.{not};
 ghost use mathlib.Core.List.{[], _∷_};
@@ -17,7 +15,7 @@ ghost use Rattle.guard.specs.Label.{dominates, sameLabel};
 ghost use Rattle.guard.specs.Tables.{read, write};
 ghost use Rattle.guard.specs.Refusals.{first, _when_};
 ghost use Rattle.guard.specs.Requests.{openr, openw, close};
-ghost use Rattle.guard.specs.Inside.{Seen, MayOpen, Decided};
+ghost use Rattle.guard.specs.Inside.{number, Seen, MayOpen};
 ghost use Rattle.guard.specs.declared.Tables.{Tables as TablesOf};
 
 fn openr_refusal(s: Session, seat: u32, f: Entity, entity: u32, may: bool) -> u8
@@ -44,24 +42,17 @@ fn openr_refusal(s: Session, seat: u32, f: Entity, entity: u32, may: bool) -> u8
     0
 }
 
-pub fn openr_edit(q: Request, v: View) -> Edit
-    ensures { λ d. ⌜ ((t : TablesOf) → Seen t q v → MayOpen read t q v → Decided openr t q d) ⌝ }
+pub fn openr_number(q: Request, v: View) -> u8
+    ensures { λ n. ⌜ ((t : TablesOf) → Seen t q v → MayOpen read t q v → n ≡ number openr t q) ⌝ }
 {
     if 16 <= q.seat {
-        return edit::refused(2);
+        return 2;
     }
     if 64 <= q.entity {
-        return edit::refused(2);
+        return 2;
     }
-    let mut s = v.session;
-    let n = openr_refusal(s, q.seat, v.entity, q.entity, v.may);
-    if n != 0 {
-        return edit::refused(n);
-    }
-    s.reading = bitset::with64(s.reading, q.entity);
-    let mut d = edit::kept(v);
-    d.session = s;
-    d
+    let s = v.session;
+    openr_refusal(s, q.seat, v.entity, q.entity, v.may)
 }
 
 fn openw_refusal(s: Session, seat: u32, f: Entity, entity: u32, may: bool) -> u8
@@ -88,24 +79,17 @@ fn openw_refusal(s: Session, seat: u32, f: Entity, entity: u32, may: bool) -> u8
     0
 }
 
-pub fn openw_edit(q: Request, v: View) -> Edit
-    ensures { λ d. ⌜ ((t : TablesOf) → Seen t q v → MayOpen write t q v → Decided openw t q d) ⌝ }
+pub fn openw_number(q: Request, v: View) -> u8
+    ensures { λ n. ⌜ ((t : TablesOf) → Seen t q v → MayOpen write t q v → n ≡ number openw t q) ⌝ }
 {
     if 16 <= q.seat {
-        return edit::refused(2);
+        return 2;
     }
     if 64 <= q.entity {
-        return edit::refused(2);
+        return 2;
     }
-    let mut s = v.session;
-    let n = openw_refusal(s, q.seat, v.entity, q.entity, v.may);
-    if n != 0 {
-        return edit::refused(n);
-    }
-    s.writing = bitset::with64(s.writing, q.entity);
-    let mut d = edit::kept(v);
-    d.session = s;
-    d
+    let s = v.session;
+    openw_refusal(s, q.seat, v.entity, q.entity, v.may)
 }
 
 fn close_refusal(s: Session, live: bool, entity: u32) -> u8
@@ -123,24 +107,15 @@ fn close_refusal(s: Session, live: bool, entity: u32) -> u8
     0
 }
 
-// close ends both.
-pub fn close_edit(q: Request, v: View) -> Edit
-    ensures { λ d. ⌜ ((t : TablesOf) → Seen t q v → Decided close t q d) ⌝ }
+pub fn close_number(q: Request, v: View) -> u8
+    ensures { λ n. ⌜ ((t : TablesOf) → Seen t q v → n ≡ number close t q) ⌝ }
 {
     if 16 <= q.seat {
-        return edit::refused(2);
+        return 2;
     }
     if 64 <= q.entity {
-        return edit::refused(2);
+        return 2;
     }
-    let mut s = v.session;
-    let n = close_refusal(s, v.entity.live, q.entity);
-    if n != 0 {
-        return edit::refused(n);
-    }
-    s.reading = bitset::without64(s.reading, q.entity);
-    s.writing = bitset::without64(s.writing, q.entity);
-    let mut d = edit::kept(v);
-    d.session = s;
-    d
+    let s = v.session;
+    close_refusal(s, v.entity.live, q.entity)
 }

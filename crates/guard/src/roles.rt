@@ -1,21 +1,21 @@
 // Requests on one role: grant, revoke, list, unlist, make, unmake.
 use crate::Entity;
 use crate::Request;
+use crate::Role;
 use crate::Session;
-use crate::edit;
-use crate::edit::Edit;
-use crate::edit::View;
+use crate::view::View;
+ghost use Prim.Native.Nat.{_<_};
 ghost use mathlib.Core.Path.{_≡_};
-ghost use mathlib.Core.Bool.{true, not};
+ghost use mathlib.Core.Bool.{not};
 ghost use mathlib.Core.List.{[], _∷_};
 ghost use lib.Dec.{ltb};
 ghost use Rattle.bitset.specs.Tests.{either};
 ghost use Rattle.bitset.specs.Sets.{has};
 ghost use Rattle.guard.specs.Level.{sessionLevel, roleLevel, entityLevel, keeperOf, isKeeper};
-ghost use Rattle.guard.specs.Sound.{sound};
+ghost use Rattle.guard.specs.Tables.{noRole};
 ghost use Rattle.guard.specs.Refusals.{first, _when_};
-ghost use Rattle.guard.specs.Requests.{grant, revoke, list, unlist, make, unmake};
-ghost use Rattle.guard.specs.Inside.{number, Seen, MayGrant, Decided};
+ghost use Rattle.guard.specs.Requests.{grant, list, unlist, make, unmake};
+ghost use Rattle.guard.specs.Inside.{number, Seen, MayGrant, usersAfter, rightsAfter};
 ghost use Rattle.guard.specs.declared.Tables.{Tables as TablesOf};
 
 fn rights_refusal(s: Session, f: Entity, live: bool, q: Request, may: bool) -> u8
@@ -36,8 +36,8 @@ fn rights_refusal(s: Session, f: Entity, live: bool, q: Request, may: bool) -> u
     0
 }
 
-// What grant and revoke answer: they are refused alike.
-fn rights_number(q: Request, v: View) -> u8
+// grant and revoke are refused alike.
+pub fn rights_number(q: Request, v: View) -> u8
     ensures { λ n. ⌜ ((t : TablesOf) → Seen t q v → MayGrant t q v → n ≡ number grant t q) ⌝ }
 {
     if 16 <= q.seat {
@@ -58,30 +58,6 @@ fn rights_number(q: Request, v: View) -> u8
     let s = v.session;
     let f = v.entity;
     rights_refusal(s, f, v.live, q, v.may)
-}
-
-pub fn grant_edit(q: Request, v: View) -> Edit
-    ensures { λ d. ⌜ ((t : TablesOf) → Seen t q v → MayGrant t q v → Decided grant t q d) ⌝ }
-{
-    let n = rights_number(q, v);
-    if n != 0 {
-        return edit::refused(n);
-    }
-    let mut d = edit::kept(v);
-    d.rights = bitset::join8(v.rights, (q.rights % 256) as u8);
-    d
-}
-
-pub fn revoke_edit(q: Request, v: View) -> Edit
-    ensures { λ d. ⌜ ((t : TablesOf) → Seen t q v → MayGrant t q v → Decided revoke t q d) ⌝ }
-{
-    let n = rights_number(q, v);
-    if n != 0 {
-        return edit::refused(n);
-    }
-    let mut d = edit::kept(v);
-    d.rights = bitset::minus8(v.rights, (q.rights % 256) as u8);
-    d
 }
 
 // That the seat is not below the role and holds the keeper of the role's level.
@@ -117,50 +93,38 @@ fn list_refusal(s: Session, live: bool, q: Request, so: bool) -> u8
     0
 }
 
-pub fn list_edit(q: Request, v: View) -> Edit
-    ensures { λ d. ⌜ ((t : TablesOf) → Seen t q v → Decided list t q d) ⌝ }
+pub fn list_number(q: Request, v: View) -> u8
+    ensures { λ n. ⌜ ((t : TablesOf) → Seen t q v → n ≡ number list t q) ⌝ }
 {
     if 16 <= q.seat {
-        return edit::refused(2);
+        return 2;
     }
     if 16 <= q.role {
-        return edit::refused(2);
+        return 2;
     }
     if 16 <= q.user {
-        return edit::refused(2);
+        return 2;
     }
     let s = v.session;
     let listed = bitset::has16(v.users, q.user);
-    let n = list_refusal(s, v.live, q, listed);
-    if n != 0 {
-        return edit::refused(n);
-    }
-    let mut d = edit::kept(v);
-    d.users = bitset::with16(v.users, q.user);
-    d
+    list_refusal(s, v.live, q, listed)
 }
 
-pub fn unlist_edit(q: Request, v: View) -> Edit
-    ensures { λ d. ⌜ ((t : TablesOf) → Seen t q v → Decided unlist t q d) ⌝ }
+pub fn unlist_number(q: Request, v: View) -> u8
+    ensures { λ n. ⌜ ((t : TablesOf) → Seen t q v → n ≡ number unlist t q) ⌝ }
 {
     if 16 <= q.seat {
-        return edit::refused(2);
+        return 2;
     }
     if 16 <= q.role {
-        return edit::refused(2);
+        return 2;
     }
     if 16 <= q.user {
-        return edit::refused(2);
+        return 2;
     }
     let s = v.session;
     let listed = bitset::has16(v.users, q.user);
-    let n = list_refusal(s, v.live, q, !listed);
-    if n != 0 {
-        return edit::refused(n);
-    }
-    let mut d = edit::kept(v);
-    d.users = bitset::without16(v.users, q.user);
-    d
+    list_refusal(s, v.live, q, !listed)
 }
 
 fn make_refusal(s: Session, live: bool, q: Request) -> u8
@@ -175,24 +139,17 @@ fn make_refusal(s: Session, live: bool, q: Request) -> u8
     keeper_refusal(s.roles, q.seat, q.role)
 }
 
-// A dead role of sound tables is empty already.
-pub fn make_edit(q: Request, v: View) -> Edit
-    ensures { λ d. ⌜ ((t : TablesOf) → sound t ≡ true → Seen t q v → Decided make t q d) ⌝ }
+pub fn make_number(q: Request, v: View) -> u8
+    ensures { λ n. ⌜ ((t : TablesOf) → Seen t q v → n ≡ number make t q) ⌝ }
 {
     if 16 <= q.seat {
-        return edit::refused(2);
+        return 2;
     }
     if 16 <= q.role {
-        return edit::refused(2);
+        return 2;
     }
     let s = v.session;
-    let n = make_refusal(s, v.live, q);
-    if n != 0 {
-        return edit::refused(n);
-    }
-    let mut d = edit::kept(v);
-    d.live = true;
-    d
+    make_refusal(s, v.live, q)
 }
 
 fn unmake_refusal(s: Session, live: bool, q: Request) -> u8
@@ -210,21 +167,49 @@ fn unmake_refusal(s: Session, live: bool, q: Request) -> u8
     keeper_refusal(s.roles, q.seat, q.role)
 }
 
-pub fn unmake_edit(q: Request, v: View) -> Edit
-    ensures { λ d. ⌜ ((t : TablesOf) → Seen t q v → Decided unmake t q d) ⌝ }
+pub fn unmake_number(q: Request, v: View) -> u8
+    ensures { λ n. ⌜ ((t : TablesOf) → Seen t q v → n ≡ number unmake t q) ⌝ }
 {
     if 16 <= q.seat {
-        return edit::refused(2);
+        return 2;
     }
     if 16 <= q.role {
-        return edit::refused(2);
+        return 2;
     }
     let s = v.session;
-    let n = unmake_refusal(s, v.live, q);
-    if n != 0 {
-        return edit::refused(n);
+    unmake_refusal(s, v.live, q)
+}
+
+// The users listed by the role after list, 12, or unlist, 13, of user `k`; make, 14, leaves them.
+pub fn users_after(call: u32, k: usize, users: u16) -> u16
+    requires { ⌜ k < 16 ⌝ }
+    ensures { λ n. ⌜ n ≡ usersAfter call k users ⌝ }
+{
+    if call == 12 {
+        return bitset::with16(users, k as u32);
     }
-    let mut d = edit::kept(v);
-    d.sweep = 2;
-    d
+    if call == 13 {
+        return bitset::without16(users, k as u32);
+    }
+    users
+}
+
+// The role's rights on the entity after grant, 10, or revoke, 11, of those named.
+pub fn rights_after(call: u32, named: u32, rights: u8) -> u8
+    ensures { λ n. ⌜ n ≡ rightsAfter call named rights ⌝ }
+{
+    if call == 10 {
+        return bitset::join8(rights, (named % 256) as u8);
+    }
+    bitset::minus8(rights, (named % 256) as u8)
+}
+
+pub fn empty() -> Role
+    ensures { λ n. ⌜ n ≡ noRole ⌝ }
+{
+    Role {
+        live: false,
+        users: 0,
+        rights: [0u8; 64],
+    }
 }

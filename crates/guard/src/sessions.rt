@@ -1,12 +1,12 @@
-// Requests on the acting session alone: login, logout, take, drop.
+// Requests on the acting session: the numbers of login, logout, take and drop, and the session after these, openr, openw
+// and close.
 use crate::Label;
 use crate::Request;
 use crate::Session;
 use crate::User;
-use crate::edit;
-use crate::edit::Edit;
-use crate::edit::View;
 use crate::labels;
+use crate::view::View;
+ghost use Prim.Native.Nat.{_<_};
 ghost use mathlib.Core.Path.{_≡_};
 ghost use mathlib.Core.Bool.{not};
 ghost use mathlib.Core.List.{[], _∷_};
@@ -15,9 +15,10 @@ ghost use Rattle.bitset.specs.Tests.{either};
 ghost use Rattle.bitset.specs.Sets.{has};
 ghost use Rattle.guard.specs.Level.{sessionLevel};
 ghost use Rattle.guard.specs.Label.{dominates};
+ghost use Rattle.guard.specs.Tables.{noSession};
 ghost use Rattle.guard.specs.Refusals.{first, _when_};
 ghost use Rattle.guard.specs.Requests.{login, logout, take, drop};
-ghost use Rattle.guard.specs.Inside.{Seen, Decided};
+ghost use Rattle.guard.specs.Inside.{number, Seen, enteredOf, sessionAfter};
 ghost use Rattle.guard.specs.declared.Tables.{Tables as TablesOf};
 
 fn login_refusal(live: bool, u: User, seat: u32, label: Label) -> u8
@@ -32,60 +33,35 @@ fn login_refusal(live: bool, u: User, seat: u32, label: Label) -> u8
     0
 }
 
-pub fn login_edit(q: Request, v: View) -> Edit
-    ensures { λ d. ⌜ ((t : TablesOf) → Seen t q v → Decided login t q d) ⌝ }
+pub fn login_number(q: Request, v: View) -> u8
+    ensures { λ n. ⌜ ((t : TablesOf) → Seen t q v → n ≡ number login t q) ⌝ }
 {
     if 16 <= q.seat {
-        return edit::refused(2);
+        return 2;
     }
     if 16 <= q.user {
-        return edit::refused(2);
+        return 2;
     }
     if 3 < q.level {
-        return edit::refused(2);
+        return 2;
     }
     if 255 < q.cats {
-        return edit::refused(2);
+        return 2;
     }
     let label = labels::made(q.level, q.cats);
-    let n = login_refusal(v.session.live, v.user, q.seat, label);
-    if n != 0 {
-        return edit::refused(n);
-    }
-    let s = Session {
-        live: true,
-        user: q.user as u8,
-        label,
-        roles: 0,
-        reading: 0,
-        writing: 0,
-    };
-    let mut d = edit::kept(v);
-    d.session = s;
-    d
+    login_refusal(v.session.live, v.user, q.seat, label)
 }
 
-pub fn logout_edit(q: Request, v: View) -> Edit
-    ensures { λ d. ⌜ ((t : TablesOf) → Seen t q v → Decided logout t q d) ⌝ }
+pub fn logout_number(q: Request, v: View) -> u8
+    ensures { λ n. ⌜ ((t : TablesOf) → Seen t q v → n ≡ number logout t q) ⌝ }
 {
     if 16 <= q.seat {
-        return edit::refused(2);
+        return 2;
     }
     if !v.session.live {
-        return edit::refused(5);
+        return 5;
     }
-    let none = Label { cats: 0, grade: 0 };
-    let s = Session {
-        live: false,
-        user: 0,
-        label: none,
-        roles: 0,
-        reading: 0,
-        writing: 0,
-    };
-    let mut d = edit::kept(v);
-    d.session = s;
-    d
+    0
 }
 
 fn take_refusal(s: Session, live: bool, users: u16, role: u32) -> u8
@@ -106,24 +82,17 @@ fn take_refusal(s: Session, live: bool, users: u16, role: u32) -> u8
     0
 }
 
-pub fn take_edit(q: Request, v: View) -> Edit
-    ensures { λ d. ⌜ ((t : TablesOf) → Seen t q v → Decided take t q d) ⌝ }
+pub fn take_number(q: Request, v: View) -> u8
+    ensures { λ n. ⌜ ((t : TablesOf) → Seen t q v → n ≡ number take t q) ⌝ }
 {
     if 16 <= q.seat {
-        return edit::refused(2);
+        return 2;
     }
     if 16 <= q.role {
-        return edit::refused(2);
+        return 2;
     }
-    let mut s = v.session;
-    let n = take_refusal(s, v.live, v.users, q.role);
-    if n != 0 {
-        return edit::refused(n);
-    }
-    s.roles = bitset::with16(s.roles, q.role);
-    let mut d = edit::kept(v);
-    d.session = s;
-    d
+    let s = v.session;
+    take_refusal(s, v.live, v.users, q.role)
 }
 
 fn drop_refusal(s: Session, live: bool, role: u32) -> u8
@@ -141,22 +110,80 @@ fn drop_refusal(s: Session, live: bool, role: u32) -> u8
     0
 }
 
-pub fn drop_edit(q: Request, v: View) -> Edit
-    ensures { λ d. ⌜ ((t : TablesOf) → Seen t q v → Decided drop t q d) ⌝ }
+pub fn drop_number(q: Request, v: View) -> u8
+    ensures { λ n. ⌜ ((t : TablesOf) → Seen t q v → n ≡ number drop t q) ⌝ }
 {
     if 16 <= q.seat {
-        return edit::refused(2);
+        return 2;
     }
     if 16 <= q.role {
-        return edit::refused(2);
+        return 2;
     }
-    let mut s = v.session;
-    let n = drop_refusal(s, v.live, q.role);
-    if n != 0 {
-        return edit::refused(n);
+    let s = v.session;
+    drop_refusal(s, v.live, q.role)
+}
+
+// The session that a login makes: its numbers are in their ranges by then.
+fn entered(q: Request) -> Session
+    ensures { λ s. ⌜ s ≡ enteredOf q ⌝ }
+{
+    let label = Label {
+        cats: (q.cats % 256) as u8,
+        grade: (q.level % 256) as u8,
+    };
+    Session {
+        live: true,
+        user: (q.user % 256) as u8,
+        label,
+        roles: 0,
+        reading: 0,
+        writing: 0,
     }
-    s.roles = bitset::without16(s.roles, q.role);
-    let mut d = edit::kept(v);
-    d.session = s;
-    d
+}
+
+fn empty() -> Session
+    ensures { λ s. ⌜ s ≡ noSession ⌝ }
+{
+    let none = Label { cats: 0, grade: 0 };
+    Session {
+        live: false,
+        user: 0,
+        label: none,
+        roles: 0,
+        reading: 0,
+        writing: 0,
+    }
+}
+
+// Session `s` after a request on it, with role `r` and entity `e`.
+pub fn after(q: Request, r: usize, e: usize, s: Session) -> Session
+    requires { ⌜ (r < 16) × (e < 64) ⌝ }
+    ensures { λ n. ⌜ n ≡ sessionAfter q r e s ⌝ }
+{
+    if q.call == 0 {
+        return entered(q);
+    }
+    if q.call == 1 {
+        return empty();
+    }
+    let mut n = s;
+    if q.call == 2 {
+        n.roles = bitset::with16(s.roles, r as u32);
+        return n;
+    }
+    if q.call == 3 {
+        n.roles = bitset::without16(s.roles, r as u32);
+        return n;
+    }
+    if q.call == 4 {
+        n.reading = bitset::with64(s.reading, e as u32);
+        return n;
+    }
+    if q.call == 5 {
+        n.writing = bitset::with64(s.writing, e as u32);
+        return n;
+    }
+    n.reading = bitset::without64(s.reading, e as u32);
+    n.writing = bitset::without64(s.writing, e as u32);
+    n
 }

@@ -1,84 +1,18 @@
-// One request: sound tables, the records concerned, the decision, the stores.
-use crate::Entity;
-use crate::Label;
+// One request: sound tables, the records concerned, what the scans find, the decision, the stores.
 use crate::Outcome;
 use crate::Request;
-use crate::Role;
 use crate::Tables;
-use crate::edit::Edit;
-use crate::edit::View;
+use crate::entities;
 use crate::judge;
 use crate::look;
-use crate::scan::Scan;
+use crate::roles;
+use crate::scan;
+use crate::sessions;
+use crate::view::View;
 ghost use mathlib.Core.Path.{_≡_};
-ghost use mathlib.Core.Bool.{true};
-ghost use Prim.Native.Nat.{_<_};
 ghost use Rattle.guard.specs.Step.{step};
-ghost use Rattle.guard.specs.Edits.{atEntity, eachRole, eachSession, clearRights, closeBoth, atRole, dropRole};
-ghost use Rattle.guard.specs.Tables.{noEntity, noRole};
-ghost use Rattle.guard.specs.Inside.{swept, Within};
 
 impl Tables {
-    // Entity `e` emptied, with all rights on it and all opens of it.
-    fn purged(mut self, e: usize) -> Tables
-        requires { ⌜ e < 64 ⌝ }
-        ensures { λ t. ⌜ t ≡ eachSession (closeBoth e) (eachRole (clearRights e) (atEntity e (λ old. noEntity) self)) ⌝ }
-    {
-        let none = Label { cats: 0, grade: 0 };
-        let dead = Entity {
-            live: false,
-            kind: 0,
-            parent: 0,
-            name: 0,
-            label: none,
-        };
-        self.entities[e] = dead;
-        let mut i = 0usize;
-        while i < 16 {
-            let mut p = self.roles[i];
-            p.rights[e] = 0;
-            self.roles[i] = p;
-            let mut s = self.sessions[i];
-            s.reading = bitset::without64(s.reading, e as u32);
-            s.writing = bitset::without64(s.writing, e as u32);
-            self.sessions[i] = s;
-            i += 1;
-        }
-        self
-    }
-
-    // Role `r` emptied, with every holding of it.
-    fn disbanded(mut self, r: usize) -> Tables
-        requires { ⌜ r < 16 ⌝ }
-        ensures { λ t. ⌜ t ≡ eachSession (dropRole r) (atRole r (λ old. noRole) self) ⌝ }
-    {
-        let dead = Role {
-            live: false,
-            users: 0,
-            rights: [0u8; 64],
-        };
-        self.roles[r] = dead;
-        let mut i = 0usize;
-        while i < 16 {
-            let mut s = self.sessions[i];
-            s.roles = bitset::without16(s.roles, r as u32);
-            self.sessions[i] = s;
-            i += 1;
-        }
-        self
-    }
-
-    // The sweep that the edit names.
-    pub(crate) fn emptied(self, d: Edit) -> Tables
-        requires { ⌜ Within d ⌝ }
-        ensures { λ t. ⌜ t ≡ swept self d ⌝ }
-    {
-        if d.sweep == 1 {
-            return self.purged(d.e);
-        }
-        self.disbanded(d.r)
-    }
-
     pub fn step(mut self, q: Request) -> Outcome
         ensures { λ o. ⌜ o ≡ step self q ⌝ }
     {
@@ -98,46 +32,109 @@ impl Tables {
         let f = self.entities[e];
         let o = look::parent_of(q, f);
         let m = self.entities[o];
-        let mut w = Scan {
-            may: false,
-            child: false,
-        };
-        if look::asks13(q.call) {
-            w = self.scanned(q, s, e, o);
+        // What 13, 14 and 15 ask: the rights that the roles held give, then the way up by them, then the children.
+        let w = look::scope_of(q.call, e, o, s.roles, s.writing);
+        let at = w.at;
+        let mut given = [0u8; 64];
+        let mut i = at / 16 * 4;
+        let mut left = w.left;
+        while left != 0 {
+            let one = bitset::has16(left, 0);
+            let i2 = i;
+            left = left >> 1;
+            i += 1;
+            if one {
+                let h = self.roles[i2];
+                given = scan::joined(given, &h.rights);
+            }
         }
-        let rights = p.rights[e];
+        let mut may = w.opened & bitset::contains8(given[at], w.right);
+        let mut a = w.from;
+        let mut steps = 16usize;
+        while (steps != 0) & (a % 16 != 0) {
+            let h = self.entities[a];
+            a = h.parent as usize;
+            may = may & bitset::contains8(given[a], 4);
+            steps -= 1;
+        }
+        let mut child = false;
+        if w.kids {
+            let kin = w.kin;
+            let base = kin / 16 * 16;
+            let mut j = 1usize;
+            while j < 16 {
+                let h = self.entities[base + j];
+                child = child | scan::is_kin(h, kin, w.named, q.name);
+                j += 1;
+            }
+        }
         let v = View {
-            x,
-            r,
-            e,
             session: s,
             user: u,
             live: p.live,
             users: p.users,
-            rights,
             entity: f,
             parent: m,
-            may: w.may,
-            child: w.child,
+            may: may & (a % 16 == 0),
+            child,
         };
-        let d = judge::judge(q, v);
-        let n = d.answer;
+        let n = judge::judge(q, v);
         if n == 0 {
-            if d.sweep == 0 {
-                let x2 = d.x;
-                let r2 = d.r;
-                let e2 = d.e;
-                let s2 = d.session;
-                self.sessions[x2] = s2;
-                let mut p2 = self.roles[r2];
-                p2.live = d.live;
-                p2.users = d.users;
-                p2.rights[e2] = d.rights;
-                self.roles[r2] = p2;
-                let f2 = d.entity;
-                self.entities[e2] = f2;
+            // Each kind stores what it changes: a session, up to 6; create, 7; delete, 8; rename, 9; grant and revoke; list,
+            // unlist and make, up to 14; unmake.
+            let call = q.call;
+            if call <= 6 {
+                let s2 = sessions::after(q, r, e, s);
+                self.sessions[x] = s2;
+            } else if call == 7 {
+                let f2 = entities::made(q);
+                self.entities[e] = f2;
+                let mut p2 = self.roles[r];
+                p2.rights[e] = bitset::join8(p2.rights[e], 8);
+                self.roles[r] = p2;
+            } else if call == 8 {
+                let f2 = entities::empty();
+                self.entities[e] = f2;
+                // No role below the entity has rights on it.
+                let mut i2 = e / 16 * 4;
+                while i2 < 16 {
+                    let mut h = self.roles[i2];
+                    h.rights[e] = 0;
+                    self.roles[i2] = h;
+                    i2 += 1;
+                }
+                let mut j2 = 0usize;
+                while j2 < 16 {
+                    let mut h = self.sessions[j2];
+                    h.reading = bitset::without64(h.reading, e as u32);
+                    h.writing = bitset::without64(h.writing, e as u32);
+                    self.sessions[j2] = h;
+                    j2 += 1;
+                }
+            } else if call == 9 {
+                let f2 = entities::renamed(q.name, f);
+                self.entities[e] = f2;
+            } else if call <= 14 {
+                let mut p2 = self.roles[r];
+                if call <= 11 {
+                    p2.rights[e] = roles::rights_after(call, q.rights, p2.rights[e]);
+                    self.roles[r] = p2;
+                } else {
+                    // A dead role of sound tables is empty already.
+                    p2.live = true;
+                    p2.users = roles::users_after(call, k, p2.users);
+                    self.roles[r] = p2;
+                }
             } else {
-                self = self.emptied(d);
+                let p2 = roles::empty();
+                self.roles[r] = p2;
+                let mut i2 = 0usize;
+                while i2 < 16 {
+                    let mut h = self.sessions[i2];
+                    h.roles = bitset::without16(h.roles, r as u32);
+                    self.sessions[i2] = h;
+                    i2 += 1;
+                }
             }
         }
         Outcome {

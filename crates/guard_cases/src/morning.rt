@@ -55,10 +55,10 @@ fn by_methods(t: Tables) -> Morning {
     Morning { tables, answers }
 }
 
-// K1 to K14, and fifty times a login at seat 1, of which the first is done.
-fn requests() -> [Request; 64] {
+// K1 to K14, and 242 times a login at seat 1, of which the first is done.
+fn requests() -> [Request; 256] {
     let again = ask::login(1, 0, 0, 0);
-    let mut q = [again; 64];
+    let mut q = [again; 256];
     q[0] = ask::login(12, 0, 0, 0);
     q[1] = ask::login(13, 1, 0, 0);
     q[2] = ask::login(4, 1, 0, 0);
@@ -83,7 +83,7 @@ fn beside(names: &[u8], n: usize, method: u8, batch: u8) {
     show::word(b"\n");
 }
 
-fn side_by_side(m: [u8; 14], r: [u8; 64]) {
+fn side_by_side(m: [u8; 14], r: [u8; 256]) {
     let names: &[u8] = b"K1 login 12, user 0\n\
         K2 login 13, user 1\n\
         K3 login 4, user 1\n\
@@ -114,15 +114,15 @@ fn side_by_side(m: [u8; 14], r: [u8; 64]) {
     beside(names, 13, m[13], r[13]);
 }
 
-fn numbers(list: [u8; 64]) {
+fn numbers(list: [u8; 256]) {
     let mut i = 0usize;
-    while i < 64 {
+    while i < 256 {
         show::pair(b" ", list[i] as u64);
         i += 1;
     }
 }
 
-// The answer to the batch, what it changed, and its sixty-four answers.
+// The answer to the batch, what it changed, and all of its answers.
 fn batch(names: &[u8], n: usize, t: Tables, count: usize) {
     let r = t.run(requests(), count);
     show::line(names, n);
@@ -150,13 +150,13 @@ pub fn run() {
     batch(names, 0, t, 0);
     batch(names, 0, t, 13);
     batch(names, 0, t, 14);
-    batch(names, 0, t, 64);
-    batch(names, 0, t, 65);
+    batch(names, 0, t, 256);
+    batch(names, 0, t, 257);
     batch(names, 0, t, 18446744073709551615);
     let mut b = t;
     b.users[3].ceiling = 4;
     batch(names, 1, b, 0);
     batch(names, 1, b, 14);
-    batch(names, 1, b, 64);
-    batch(names, 1, b, 65);
+    batch(names, 1, b, 256);
+    batch(names, 1, b, 257);
 }

@@ -1,8 +1,7 @@
 -- A batch of lines, once `user` is shut out.
 --     shut-line              a line's answer is the guard's answer to its request, or 17
---     length-answers         one answer to each request
 --     asked-snoc, texts-snoc one line more at the end
---     one-few, one-least, asked-take, asked-few     fewer lines ask fewer requests, and at most as many as they are
+--     one-few, one-least, asked-few     at most as many requests as lines
 --     texts-given            answers behind those that are asked for change nothing
 --     texts-length           each line has at most twelve bytes
 -- Assumes nothing.
@@ -16,9 +15,8 @@ use lib.Seq.{getD-drop}
 use native.Mathlib.Omega.{arith}
 use borrow.Author.Tests.{lt-ltb, leb-true, eqb-false}
 use Rattle.bitset.specs.Tests.{every}
-use Rattle.guard.specs.Step.{answer, next, answers}
+use Rattle.guard.specs.Step.{answer, next}
 use Rattle.guard.specs.declared.Tables.{Tables}
-use Rattle.guard.specs.declared.Request.{Request}
 use Rattle.script.specs.Text.{values}
 use Rattle.script.specs.Names.{column, under}
 use Rattle.script.specs.Line.{words, used, Numbers, these, unreadable, takeAll, asks, lineOf, readLine}
@@ -80,11 +78,6 @@ pub shut-line : (t : Tables) (header : List (List ℕ)) (l : List ℕ)
     }
 shut-line t header l = shut-by t (readLine header l) (low-line header l)
 
-pub length-answers : (t : Tables) (log : List Request) → length (answers t log) ≡ length log
-unfolding answers
-length-answers t [] = refl
-length-answers t (q ∷ log) = ap suc (length-answers (next t q) log)
-
 -- ---- the output of lines
 pub one-few : (m : Bool) → one m ≤ 1
 unfolding one
@@ -103,16 +96,6 @@ pub asked-few : (ms : List Bool) → asked ms ≤ length ms
 unfolding asked
 asked-few [] = omega arith
 asked-few (m ∷ ms) = omega (arith, one-few m, asked-few ms)
-
-pub asked-take : (ms : List Bool) (i l : ℕ) → i ≤ l → asked (take i ms) ≤ asked (take l ms)
-unfolding asked
-asked-take ms zero l h = omega arith
-asked-take ms (suc i) zero h = absurd (none h)
-  where
-    none : suc i ≤ 0 → ⊥
-    none h = omega arith
-asked-take [] (suc i) (suc l) h = omega arith
-asked-take (m ∷ ms) (suc i) (suc l) h = omega (arith, asked-take ms i l (omega arith))
 
 pub texts-snoc : (n : ℕ) (ms : List Bool) (m : Bool) (given : List ℕ)
     → texts n (ms ++ (m ∷ [])) given ≡ texts n ms given ++ lineText (n + length ms) (said m (getD given (asked ms) 0))

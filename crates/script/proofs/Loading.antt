@@ -2,22 +2,21 @@
 --     batch-on               one line on, from anywhere
 --     Taken                  so far `used` bytes are taken
 --     taken-none, taken-next, taken-all     the loop's beginning, one line more, and its end
---     in-turn, one-fits      the loop's test, and the count after a turn
+--     count-few              at most as many requests as lines
 -- Assumes nothing.
 use Prim.Native.Nat.{ℕ, suc, _+_, _-_, _≤_, _<_}
 use mathlib.Core.Path.{_≡_, refl, ap, sym, _∙_}
-use mathlib.Core.Bool.{Bool, true, false, cond, _&&_, true≢false}
+use mathlib.Core.Bool.{Bool, true, false, cond}
 use mathlib.Core.List.{List, [], _∷_, _++_}
 use lib.Dec.{ltb}
-use lib.ListN.{length, take, drop, getD, set, length-append, length-drop}
+use lib.ListN.{length, take, drop, getD, set, length-append, length-drop, length-take}
 use lib.Seq.{take-suc-set, take-set-le, drop-drop, length-take-le, getD-at}
 use native.Mathlib.Numerals.{add-one}
 use native.Mathlib.Omega.{arith}
-use borrow.Author.Tests.{ltb-true}
 use Rattle.guard.specs.Step.{answer, next, run, answers}
 use Rattle.guard.specs.declared.Tables.{Tables}
 use Rattle.guard.specs.declared.Request.{Request}
-use Rattle.guard.proofs.Batches.{run-snoc, answers-snoc}
+use Rattle.guard.proofs.Batches.{run-snoc, answers-snoc, length-answers}
 use Rattle.script.specs.Line.{readLine}
 use Rattle.script.specs.Report.{lineText, lastLine}
 use Rattle.script.specs.Slices.{before, after, Ordered}
@@ -28,7 +27,7 @@ use Rattle.script.specs.declared.line.Front.{Front}
 use Rattle.script.proofs.Parts.{after-drop, to-end}
 use Rattle.script.proofs.Lines.{before-append, after-append}
 use Rattle.script.proofs.Rest.{put-put, line-on}
-use Rattle.script.proofs.Batches.{shut-line, one-few, asked-snoc, texts-snoc, texts-given, length-answers}
+use Rattle.script.proofs.Batches.{shut-line, asked-snoc, asked-few, texts-snoc, texts-given}
 
 -- ---- one line on
 abbrev pub answerTo : Tables → Request → ℕ
@@ -145,6 +144,9 @@ module _ {at s part : List ℕ} {requests : List Request} {marks : List Bool} {c
       onward : (n k : ℕ) → n + (k + 1) ≡ n + k + 1
       onward n k = omega arith
 
+pub count-few : {at s : List ℕ} {requests : List Request} {marks : List Bool} {count lines used : ℕ} → Taken at s requests marks count lines used → count ≤ lines
+count-few {marks = marks} {lines = lines} h = omega (arith, h .counted, asked-few (take lines marks), length-take lines marks)
+
 -- .. as the loop cuts off what is left of s
 module _ {at s : List ℕ} {requests : List Request} {marks : List Bool} {count lines used : ℕ} {x : Front} {m : Bool} {c : ℕ}
     (h : Taken at s requests marks count lines used) (low : count < length requests) (free : lines < length marks)
@@ -155,18 +157,6 @@ module _ {at s : List ℕ} {requests : List Request} {marks : List Bool} {count 
   taken-next = rw more (taken-more h (to-end used s) low free len is l b)
 
 pub taken-all : {at s : List ℕ} {requests : List Request} {marks : List Bool} {count lines used : ℕ} (most : ℕ)
-    → Taken at s requests marks count lines used → length requests ≡ 64 → lines ≤ most → count ≤ 64
+    → Taken at s requests marks count lines used → length requests ≡ 256 → lines ≤ most → most ≤ 256
     → Batched at s most (record { requests = requests; marks = marks; count = count; lines = lines; used = used })
-taken-all most h r l c = record { few = l; fits = c; held = omega (arith, r); within = h .within; moves = λ z. omega (arith, h .moves); count = h .counted; goes = h .goes }
-
--- ---- the loop's test
-pub in-turn : (l m c : ℕ) → (ltb l m && ltb c 64) ≡ true → (l < m) × (c < 64)
-in-turn l m c h = go (ltb l m) refl (ltb c 64) refl h
-  where
-    go : (a : Bool) → ltb l m ≡ a → (b : Bool) → ltb c 64 ≡ b → (a && b) ≡ true → (l < m) × (c < 64)
-    go true x true y h = (ltb-true _ _ x, ltb-true _ _ y)
-    go true x false y h = absurd (true≢false (sym h))
-    go false x b y h = absurd (true≢false (sym h))
-
-pub one-fits : {count c : ℕ} (m : Bool) → c ≡ one m → count < 64 → count + c ≤ 64
-one-fits m e h = omega (arith, one-few m)
+taken-all most h r l m = record { few = l; fits = omega (arith, count-few h); held = omega (arith, r, count-few h); within = h .within; moves = λ z. omega (arith, h .moves); count = h .counted; goes = h .goes }

@@ -5,7 +5,7 @@
 --     batch-tables, batch-answers, answers-low     what the guard hands back for a batch
 --     batch-done             the step
 -- Assumes nothing.
-use Prim.Native.Nat.{ℕ, zero, suc, _+_, _-_, _*_, _%_, _≤_, _<_}
+use Prim.Native.Nat.{ℕ, zero, suc, _+_, _-_, _*_, _≤_, _<_}
 use mathlib.Core.Path.{_≡_, refl, ap, sym, _∙_}
 use mathlib.Core.Bool.{Bool, true, false, cond}
 use mathlib.Core.List.{List, [], _∷_, _++_, append-assoc}
@@ -21,6 +21,7 @@ use Rattle.guard.specs.Batch.{batch}
 use Rattle.guard.specs.declared.Tables.{Tables}
 use Rattle.guard.specs.declared.Request.{Request}
 use Rattle.guard.specs.declared.Ran.{Ran as Batch}
+use Rattle.guard.proofs.Batches.{length-answers}
 use Rattle.script.specs.Report.{lineText, lastLine}
 use Rattle.script.specs.Slices.{after, written, Put}
 use Rattle.script.specs.Run.{atLines, benchOf, Told, put, fromLine, rest, Fits, Goes, Stepped}
@@ -32,7 +33,7 @@ use Rattle.script.proofs.Parts.{to-end}
 use Rattle.script.proofs.Answers.{answer-bound}
 use Rattle.script.proofs.Rest.{rest-lines}
 use Rattle.script.proofs.Runs.{ran, worked, stepped, tail-back}
-use Rattle.script.proofs.Batches.{length-answers, asked-snoc, asked-few, asked-take, texts-snoc, texts-given, texts-length}
+use Rattle.script.proofs.Batches.{asked-snoc, asked-few, texts-snoc, texts-given, texts-length}
 
 -- ---- one line more
 pub texts-none : {l : List ℕ} (n : ℕ) (given : List ℕ) → Put l 0 (texts n [] given) l 0
@@ -71,8 +72,7 @@ pub asked-below : (marks : List Bool) (i : ℕ) {j : ℕ} → j ≡ asked (take 
 asked-below marks i c = omega (arith, asked-few (take i marks), length-take i marks)
 
 -- the answer that is read, where a line asks a request, is the next one
-module _ (marks : List Bool) (given : List ℕ) (i j lines : ℕ) (c : j ≡ asked (take i marks)) (low : i < lines) (free : lines ≤ length marks)
-    (few : asked (take lines marks) ≤ 64) where
+module _ (marks : List Bool) (given : List ℕ) (i j lines : ℕ) (c : j ≡ asked (take i marks)) (low : i < lines) (free : lines ≤ length marks) where
   one-more : take (i + 1) marks ≡ take i marks ++ (getD marks i false ∷ [])
   one-more = rw add-one (take-suc marks i false (omega arith))
 
@@ -82,25 +82,14 @@ module _ (marks : List Bool) (given : List ℕ) (i j lines : ℕ) (c : j ≡ ask
   pub asked-on : {c : ℕ} → c ≡ one (getD marks i false) → j + c ≡ asked (take (i + 1) marks)
   asked-on e = ap (λ (k : ℕ). j + k) e ∙ asked-more
 
-  read-next : said (getD marks i false) (getD given (j % 64) 0) ≡ said (getD marks i false) (getD given j 0)
-  unfolding one said
-  read-next = go (getD marks i false) asked-more
-    where
-      go : (m : Bool) → j + one m ≡ asked (take (i + 1) marks) → said m (getD given (j % 64) 0) ≡ said m (getD given j 0)
-      go true e = ap (λ (k : ℕ). getD given k 0) (small (omega (arith, e, few, asked-take marks (i + 1) lines (omega arith))))
-        where
-          small : j < 64 → j % 64 ≡ j
-          small h = omega arith
-      go false e = refl
-
   pub texts-more : {old out ys : List ℕ} {w more : ℕ} (n k a : ℕ) → Put old 0 (texts n (take i marks) given) out w
-      → a ≡ said (getD marks i false) (getD given (j % 64) 0) → k ≡ n + i → w ≤ length out → 12 ≤ length out - w
+      → a ≡ said (getD marks i false) (getD given j 0) → k ≡ n + i → w ≤ length out → 12 ≤ length out - w
       → Put (take (length out - w) (drop w out)) 0 (lineText k a) ys more
       → Put old 0 (texts n (take (i + 1) marks) given) (putMid w (length out - w) out ys) (w + more)
   texts-more {w = w} n k a p e z h room q =
       let t : length (take i marks) ≡ i = length-take-le i marks (omega arith) in
       let s : texts n (take (i + 1) marks) given ≡ texts n (take i marks) given ++ lineText k a
-      = rw (one-more, e ∙ read-next, z, c) (rw t at (texts-snoc n (take i marks) (getD marks i false) given)) in
+      = rw (one-more, e, z, c) (rw t at (texts-snoc n (take i marks) (getD marks i false) given)) in
       rw s (put-then p (put-end h (omega (arith, line-length k a)) q))
 
 pub texts-all : {old out : List ℕ} {w : ℕ} (n : ℕ) (marks : List Bool) (given : List ℕ) (i lines : ℕ) → i ≤ lines → lines ≤ i
@@ -108,14 +97,14 @@ pub texts-all : {old out : List ℕ} {w : ℕ} (n : ℕ) (marks : List Bool) (gi
 texts-all n marks given i lines h l p = let e : lines ≡ i = omega arith in rw e p
 
 -- ---- what the guard hands back
-module _ (t : Tables) (requests : List Request) (n : ℕ) {o : Batch} (h : o ≡ batch t requests n) (l : n ≤ 64) where
+module _ (t : Tables) (requests : List Request) (n : ℕ) {o : Batch} (h : o ≡ batch t requests n) (l : n ≤ 256) where
   pub batch-tables : o .tables ≡ run t (take n requests)
   unfolding batch
-  batch-tables = ap (λ (x : Batch). x .tables) h ∙ (rw (le-leb n 64 l))
+  batch-tables = ap (λ (x : Batch). x .tables) h ∙ (rw (le-leb n 256 l))
 
-  pub batch-answers : o .answers ≡ answers t (take n requests) ++ replicate (64 - n) 0
+  pub batch-answers : o .answers ≡ answers t (take n requests) ++ replicate (256 - n) 0
   unfolding batch
-  batch-answers = ap (λ (x : Batch). x .answers) h ∙ (rw (le-leb n 64 l))
+  batch-answers = ap (λ (x : Batch). x .answers) h ∙ (rw (le-leb n 256 l))
 
 zeros-low : (k i : ℕ) → getD (replicate k 0) i 0 ≤ 17
 zeros-low zero i = omega arith
@@ -128,8 +117,8 @@ logged-low t [] k i = zeros-low k i
 logged-low t (q ∷ log) k zero = answer-bound t q
 logged-low t (q ∷ log) k (suc i) = logged-low (next t q) log k i
 
-pub answers-low : (t : Tables) (requests : List Request) (n : ℕ) {o : Batch} → o ≡ batch t requests n → n ≤ 64 → (i : ℕ) → getD (o .answers) i 0 ≤ 17
-answers-low t requests n h l i = rw (batch-answers t requests n h l) (logged-low t (take n requests) (64 - n) i)
+pub answers-low : (t : Tables) (requests : List Request) (n : ℕ) {o : Batch} → o ≡ batch t requests n → n ≤ 256 → (i : ℕ) → getD (o .answers) i 0 ≤ 17
+answers-low t requests n h l i = rw (batch-answers t requests n h l) (logged-low t (take n requests) (256 - n) i)
 
 -- ---- the step over a batch
 abbrev pub onBy : Runner → Tables → ℕ → Runner
@@ -157,7 +146,7 @@ module _ (r : Runner) (piece old new : List ℕ) (end : Bool) (g : Gathered) (o 
   enough = omega (arith, took .count, took .fits, length-answers (r .tables) log, length-take-le (g .count) (g .requests) (took .held))
 
   words : texts (r .done + 1) marks (o .answers) ≡ texts (r .done + 1) marks (answers (r .tables) log)
-  words = rw (batch-answers (r .tables) (g .requests) (g .count) did (took .fits)) (texts-given (r .done + 1) marks (answers (r .tables) log) (replicate (64 - g .count) 0) enough)
+  words = rw (batch-answers (r .tables) (g .requests) (g .count) did (took .fits)) (texts-given (r .done + 1) marks (answers (r .tables) log) (replicate (256 - g .count) 0) enough)
 
   later : (header : List (List ℕ)) (more : List ℕ) → rest header (onBy r (o .tables) (g .lines)) (drop (g .used) piece ++ more)
       ≡ fromLine header (benchOf (onBy r (o .tables) (g .lines))) (r .done + g .lines) (drop (g .used) piece ++ more)

@@ -44,7 +44,7 @@ pub record Most (done room m : ℕ) : Type 0 where
 -- with 17 where a line asks none, and then what is left to tell behind them.
 pub record Batched (at s : List ℕ) (most : ℕ) (g : Gathered) : Type 0 where
   pub few : g .lines ≤ most
-  pub fits : g .count ≤ 64
+  pub fits : g .count ≤ 256
   pub held : g .count ≤ length (g .requests)
   pub within : g .used ≤ length s
   pub moves : 0 < g .lines → 0 < g .used

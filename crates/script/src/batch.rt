@@ -7,12 +7,12 @@ ghost use Prim.Native.Nat.{ℕ, _+_, _*_, _≤_, _<_};
 ghost use mathlib.Core.Path.{_≡_};
 ghost use lib.ListN.{length, take, getD};
 ghost use Rattle.script.specs.Slices.{Put};
-ghost use Rattle.script.specs.Batches.{one, asked, said, texts, Most, Batched};
+ghost use Rattle.script.specs.Batches.{one, said, texts, Most, Batched};
 
 // The requests of some lines, and of each line whether it asks one; how many requests and lines these are, and how many
 // bytes of input they took.
 pub struct Gathered {
-    pub requests: [Request; 64],
+    pub requests: [Request; 256],
     pub marks: [bool; 256],
     pub count: usize,
     pub lines: usize,
@@ -48,12 +48,12 @@ pub fn gather(s: &[u8], at: [u8; 12], most: usize) -> Gathered
     ensures { λ g. ⌜ Batched at (now (s .entry)) most g ⌝ }
 {
     let none = line::nothing();
-    let mut requests = [none; 64];
+    let mut requests = [none; 256];
     let mut marks = [false; 256];
     let mut count = 0;
     let mut lines = 0;
     let mut used = 0;
-    while (lines < most) & (count < 64) {
+    while lines < most {
         let rest = &s[used..];
         let x = line::next(rest, at);
         if rest.len() <= x.len {
@@ -92,12 +92,12 @@ fn answer_of(asks: bool, a: u8) -> u8
 // The answers to the first `lines` lines, the first of which has number `n`.
 pub fn put_answers(
     marks: [bool; 256],
-    answers: [u8; 64],
+    answers: [u8; 256],
     lines: usize,
     n: u32,
     out: &mut [u8],
 ) -> usize
-    requires { ⌜ (lines ≤ 256) × (asked (take lines marks) ≤ 64) × (12 * lines ≤ length (now out)) × (n + lines < 100000) × ((i : ℕ) → getD answers i 0 ≤ 17) ⌝ }
+    requires { ⌜ (lines ≤ 256) × (12 * lines ≤ length (now out)) × (n + lines < 100000) × ((i : ℕ) → getD answers i 0 ≤ 17) ⌝ }
     ensures { λ r. ⌜ Put (now (out .entry)) 0 (texts n (take lines marks) answers) (now (out .exit)) r ⌝ }
 {
     let mut wrote = 0;
@@ -106,7 +106,7 @@ pub fn put_answers(
     let mut k = n;
     while i < lines {
         let asks = marks[i];
-        let a = answer_of(asks, answers[j % 64]);
+        let a = answer_of(asks, answers[j]);
         let more = text::put_line(k, a, &mut out[wrote..]);
         wrote = wrote + more;
         j = j + one_if(asks);

@@ -1,216 +1,575 @@
--- `Tables::run` is the batch of the definitions. The loop keeps Held (Batches): the tables and answers after i requests,
--- and that the tables are sound, since every request hands back sound ones. Assumes nothing.
-use Prim.Native.Nat.{_≤_, _<_, _-_}
-use mathlib.Core.Path.{_≡_, refl, sym, _∙_}
-use mathlib.Core.Bool.{true}
+-- `Tables::run` is the batch of the definitions. The outer loop keeps Held (Batches): the tables and answers after t requests,
+-- and that the tables are sound, since every request hands back sound ones. In a turn the loops keep what they keep in
+-- `step`. Assumes nothing.
+use Prim.Native.Nat.{_+_, _-_, _≤_, _<_}
+use mathlib.Core.Path.{_≡_, refl, sym, ap, _∙_}
+use mathlib.Core.Bool.{Bool, true, _&&_}
 use mathlib.Core.Logic.{⊎-elim}
-use lib.ListN.{getD, length, take}
-use lib.Seq.{length-take-le}
 use native.Mathlib.Omega.{arith}
+use lib.ListN.{length, getD, set, take}
+use lib.Seq.{length-take-le}
 use borrow.Author.Needs.{needs}
-use borrow.Author.Tests.{not-true, not-false, eq-eqb, ne-eqb, le-leb, lt-leb}
+use borrow.Author.Tests.{not-true, not-false, le-leb, lt-leb}
+use Rattle.bitset.specs.Tests.{some}
 use Rattle.bitset.specs.Tests.Laws.{clash}
-use Rattle.guard.specs.Tables.{sessionAt}
+use Rattle.guard.specs.Level.{isRoot}
+use Rattle.guard.specs.Chain.{climbs, parentOf}
 use Rattle.guard.specs.Sound.{sound}
+use Rattle.guard.specs.Edits.{withSessions, withRoles, closeBoth, dropRole, setRights, clearRights}
 use Rattle.guard.specs.Requests.{ruleOf}
+use Rattle.guard.specs.Step.{step}
 use Rattle.guard.specs.Batch.{batch}
-use Rattle.guard.specs.Inside.{asks, applied, stored, Found, Decided, Within}
+use Rattle.guard.specs.Inside.{number, kinTest}
+use Rattle.guard.specs.declared.Tables.{Tables}
 use Rattle.guard.specs.declared.Request.{Request}
-use Rattle.guard.proofs.Stepping.{parent-small, seen-of, scanned-of, refuses, does, outcome}
+use Rattle.guard.specs.declared.Outcome.{Outcome}
+use Rattle.guard.proofs.Scans.{walk-in, Block, block-start, block-more, block-all}
+use Rattle.guard.proofs.Scans.Given.{Gathered, gathered-start, gathered-join, gathered-skip, gathered-at}
+use Rattle.guard.proofs.Scans.Climb.{exec, parent-small, steps-left, Climbing, climbing-start, climbing-more, climbing-all}
+use Rattle.guard.proofs.Scans.Kin.{kin-at, kin-root, kin-child, base-root, base-other}
+use Rattle.guard.proofs.Sweeps.{mapped, long, roles-from, roles-more, sessions-more, swept-entity, swept-role, Sized, sized-session, sized-entity, sized-role, sized-roles, sized-sessions}
+use Rattle.guard.proofs.Stepping.{Concerned, Found, seen-of, scanned-of, refuses, does, outcome}
+use Rattle.guard.proofs.Doing.{ten-on, session-done, create-done, delete-done, rename-done, rights-done, marks-done, unmake-done}
 use Rattle.guard.proofs.Batches.{noRequest, Held, held-none, held-more, all-refused}
-use Rattle.guard.proofs.Sweeps.{long}
 use Rattle.guard.proofs.Tables.run.Statement.{statement}
 use Rattle.guard.proofs.Tables.run.Tie as tie
 
+abbrev Inv-loop2 : tie.InvT-loop2
+Inv-loop2 count self requests answers t q x r e k s u p f o m w at given₀ i₀ left₀ given i left = Gathered self (w .held) at i left given
+
+abbrev μ-loop2 : tie.MeasureT-loop2
+μ-loop2 count self requests answers t q x r e k s u p f o m w at given₀ i₀ left₀ given i left = left
+
+abbrev Inv-loop3 : tie.InvT-loop3
+Inv-loop3 count self requests answers t q x r e k s u p f o m w at given i left may₀ a₀ steps₀ may a steps = Climbing self given a₀ may₀ steps a may
+
+abbrev μ-loop3 : tie.MeasureT-loop3
+μ-loop3 count self requests answers t q x r e k s u p f o m w at given i left may₀ a₀ steps₀ may a steps = steps
+
+abbrev Inv-loop4 : tie.InvT-loop4
+Inv-loop4 count self requests answers t q x r e k s u p f o m w at i left may a steps child₀ kin base j₀ child j = Block (kinTest self kin (w .named) (q .name)) kin j child
+
+abbrev μ-loop4 : tie.MeasureT-loop4
+μ-loop4 count self requests answers t q x r e k s u p f o m w at i left may a steps child₀ kin base j₀ child j = 16 - j
+
+abbrev Inv-loop5 : tie.InvT-loop5
+Inv-loop5 count self₀ requests answers t x r e k o at i left may a steps child n call i2₀ self i2 = (i2 ≤ 16) × (self ≡ withRoles self₀ (mapped (clearRights e) i2 (self₀ .roles)))
+
+abbrev μ-loop5 : tie.MeasureT-loop5
+μ-loop5 count self₀ requests answers t x r e k o at i left may a steps child n call i2₀ self i2 = 16 - i2
+
+abbrev Inv-loop6 : tie.InvT-loop6
+Inv-loop6 count self₀ requests answers t x r e k o at i left may a steps child n call i2 j2₀ self j2 = (j2 ≤ 16) × (self ≡ withSessions self₀ (mapped (closeBoth e) j2 (self₀ .sessions)))
+
+abbrev μ-loop6 : tie.MeasureT-loop6
+μ-loop6 count self₀ requests answers t x r e k o at i left may a steps child n call i2 j2₀ self j2 = 16 - j2
+
+abbrev Inv-loop7 : tie.InvT-loop7
+Inv-loop7 count self₀ requests answers t x r e k o at i left may a steps child n call i2₀ self i2 = (i2 ≤ 16) × (self ≡ withSessions self₀ (mapped (dropRole r) i2 (self₀ .sessions)))
+
+abbrev μ-loop7 : tie.MeasureT-loop7
+μ-loop7 count self₀ requests answers t x r e k o at i left may a steps child n call i2₀ self i2 = 16 - i2
+
 abbrev Inv-loop : tie.InvT-loop
-Inv-loop count self₀ requests answers₀ i₀ self answers i = (i ≤ count) × Held self₀ requests i self answers
+Inv-loop count self₀ requests answers₀ t₀ self answers t = (t ≤ count) × Held self₀ requests t self answers × Sized self
 
 abbrev μ-loop : tie.MeasureT-loop
-μ-loop count self₀ requests answers₀ i₀ self answers i = count - i
+μ-loop count self₀ requests answers₀ t₀ self answers t = count - t
+
+-- a place of the function, or what is asked there, with these
+abbrev At : (tie.InvT-loop2 → tie.MeasureT-loop2 → tie.InvT-loop3 → tie.MeasureT-loop3 → tie.InvT-loop4 → tie.MeasureT-loop4 → tie.InvT-loop5 → tie.MeasureT-loop5 → tie.InvT-loop6 → tie.MeasureT-loop6 → tie.InvT-loop7 → tie.MeasureT-loop7 → tie.InvT-loop → tie.MeasureT-loop → Type 0) → Type 0
+At P = P Inv-loop2 μ-loop2 Inv-loop3 μ-loop3 Inv-loop4 μ-loop4 Inv-loop5 μ-loop5 Inv-loop6 μ-loop6 Inv-loop7 μ-loop7 Inv-loop μ-loop
 
 -- ---- what is known in a turn
-turn : (c : tie.In-loop Inv-loop μ-loop) → (c .before .loop .i < c .before .before .before .before .before .args .count) × (c .before .before .before .before .before .args .count ≤ 64)
+turn : (c : At tie.In-loop) → (c .before .loop .t < c .before .before .before .before .before .args .count) × (c .before .before .before .before .before .args .count ≤ 256)
 turn c = (c .loop-test .taken, c .before .before .before .before .if1 .left)
 
-many : (c : tie.Start Inv-loop μ-loop) → length (c .args .t2) ≡ 64
+many : (c : At tie.Start) → length (c .args .t2) ≡ 256
 many c = search (long, c .good .1 .0)
 
--- ---- what is known where a request is decided
-abbrev asked : tie.In-loop Inv-loop μ-loop → Request
-asked c = getD (c .before .before .before .before .before .args .t2) (c .before .loop .i) noRequest
+turned : (c : At tie.In-loop) → (o : Outcome) → o ≡ step (c .before .loop .self) (getD (c .before .before .before .before .before .args .t2) (c .before .loop .t) noRequest) → Sized (o .tables) → ((c .before .loop .t + 1) ≤ c .before .before .before .before .before .args .count) × Held (c .before .before .before .before .before .args .t1) (c .before .before .before .before .before .args .t2) (c .before .loop .t + 1) (o .tables) (set (c .before .loop .answers) (c .before .loop .t) (o .answer)) × Sized (o .tables)
+turned c o stepped sized =
+    let h = turn c in
+    let l = many (c .before .before .before .before .before) in
+    (omega arith, held-more _ _ _ _ _ noRequest (c .before .loop .inv .1) o stepped (omega arith) (omega arith), sized)
 
-scan : (c : tie.Joined3 Inv-loop μ-loop) → asks (asked (c .before .before .before .before .before .before .before .before .before .before .before .before .before) .call) ≡ true
-    → Found (c .before .before .before .before .before .before .before .before .before .before .before .before .before .before .loop .self) (sessionAt (c .before .before .before .before .before .before .before .before .before .before .before .before .before .before .loop .self) (c .before .before .before .before .before .before .before .before .before .before .before .below16 .result) .roles) (sessionAt (c .before .before .before .before .before .before .before .before .before .before .before .before .before .before .loop .self) (c .before .before .before .before .before .before .before .before .before .before .before .below16 .result) .writing) (asked (c .before .before .before .before .before .before .before .before .before .before .before .before .before)) (c .before .before .before .before .before .before .before .before .before .below64 .result) (c .before .before .before .parent-of .result) (c .if3 .w)
-scan c a = ⊎-elim (λ y. rw (y .2) (y .1 .ensures)) (λ y. absurd (clash _ (c .before .asks13 .ensures ∙ a) (y .0 .left))) (c .if3 .came)
+children : (c : At tie.Joined4) → (c .before .before .before .before .before .before .before .scope-of .result) .kids ≡ true → c .if4 .child ≡ some 64 (kinTest (c .before .before .before .before .before .before .before .before .before .before .before .before .before .before .before .before .before .before .before .before .loop .self) ((c .before .before .before .before .before .before .before .scope-of .result) .kin) ((c .before .before .before .before .before .before .before .scope-of .result) .named) ((getD (c .before .before .before .before .before .before .before .before .before .before .before .before .before .before .before .before .before .before .before .before .before .before .before .before .args .t2) (c .before .before .before .before .before .before .before .before .before .before .before .before .before .before .before .before .before .before .before .before .loop .t) noRequest) .name))
+children c on = ⊎-elim
+    (λ y. y .3 ∙ block-all _ _ (c .before .before .before .before .before .before .before .before .before .before .before .before .before .before .before .before .before .before .before .before .loop .self) (c .before .before .before .before .before .before .before .before .before .before .before .before .before .before .before .before .before .before .before .before .loop .inv .1 .isSound) (c .before .before .before .before .before .before .before .scope-of .ensures .kinIn) (kin-child _ _ _ _) _ _ (y .1 .inv) (omega (arith, y .2 .left)))
+    (λ y. absurd (clash _ on (y .0 .left)))
+    (c .if4 .came)
 
-decided : (c : tie.After-judge Inv-loop μ-loop) → Decided (ruleOf (asked (c .before .before .before .before .before .before .before .before .before .before .before .before .before .before .before))) (c .before .before .before .before .before .before .before .before .before .before .before .before .before .before .before .before .loop .self) (asked (c .before .before .before .before .before .before .before .before .before .before .before .before .before .before .before)) (c .judge .result)
-decided c =
-    c .judge .ensures _ (c .before .before .before .before .before .before .before .before .before .before .before .before .before .before .before .before .loop .inv .1 .isSound)
-    (seen-of _ _ _ _ _ _ _ _ (c .before .before .before .before .before .before .before .before .before .before .before .before .before .below16 .ensures) (c .before .before .before .before .before .before .before .before .before .before .before .before .below162 .ensures) (c .before .before .before .before .before .before .before .before .before .before .before .below64 .ensures) (c .before .before .before .before .before .before .before .before .before .before .below163 .ensures))
-    (scanned-of _ _ _ _ _ _ _ _ (c .before .before .before .before .before .before .before .before .before .before .before .before .before .below16 .ensures) (c .before .before .before .before .before .before .before .before .before .before .before .before .below162 .ensures) (c .before .before .before .before .before .before .before .before .before .before .before .below64 .ensures) (c .before .before .before .before .before .before .before .before .before .before .below163 .ensures)
-    (c .before .before .before .before .before .parent-of .ensures) (scan (c .before .before)))
+found : (c : At tie.Joined4) → Found (c .before .before .before .before .before .before .before .before .before .before .before .before .before .before .before .before .before .before .before .before .loop .self) (c .before .before .before .before .before .before .before .scope-of .result) ((getD (c .before .before .before .before .before .before .before .before .before .before .before .before .before .before .before .before .before .before .before .before .before .before .before .before .args .t2) (c .before .before .before .before .before .before .before .before .before .before .before .before .before .before .before .before .before .before .before .before .loop .t) noRequest) .name) (c .before .before .before .before .before .before .loop2 .given) (c .before .before .loop3 .may && isRoot (c .before .before .loop3 .a)) (c .if4 .child)
+found c =
+    record {
+      gathered = gathered-at _ _ _ _ _ _ (c .before .before .before .before .before .before .loop2 .inv) (c .before .before .before .before .before .loop2-test .left);
+      way = climbing-all _ _ _ _ _ _ _ (c .before .before .loop3 .inv) (c .before .loop3-test .left) ∙ ap (λ (b : Bool). c .before .before .before .before .before .before .before .scope-of .result .opened && b && climbs (parentOf (c .before .before .before .before .before .before .before .before .before .before .before .before .before .before .before .before .before .before .before .before .loop .self)) (exec (c .before .before .before .before .before .before .loop2 .given)) 16 (c .before .before .before .before .before .before .before .scope-of .result .from)) (c .before .before .before .before .contains8 .ensures);
+      kids = children c;
+    }
 
-within : (c : tie.Then4 Inv-loop μ-loop) → Within (c .before .judge .result)
-within c = decided (c .before) .within (c .if4 .taken)
+concerned : (c : At tie.After-below163) → Concerned (getD (c .before .before .before .before .before .before .before .before .before .before .args .t2) (c .before .before .before .before .before .before .loop .t) noRequest) (c .before .before .before .below16 .result) (c .before .before .below162 .result) (c .before .below64 .result) (c .below163 .result)
+concerned c = record { seat = c .before .before .before .below16 .ensures; role = c .before .before .below162 .ensures; entity = c .before .below64 .ensures; user = c .below163 .ensures }
 
-returns : tie.Need-returns Inv-loop μ-loop
+abbrev tables : At tie.After-judge → Tables
+tables c = c .before .before .before .before .before .before .before .before .before .before .before .before .before .before .before .before .before .before .before .before .before .loop .self
+
+abbrev asked : At tie.After-judge → Request
+asked c = getD (c .before .before .before .before .before .before .before .before .before .before .before .before .before .before .before .before .before .before .before .before .before .before .before .before .before .args .t2) (c .before .before .before .before .before .before .before .before .before .before .before .before .before .before .before .before .before .before .before .before .before .loop .t) noRequest
+
+judged : (c : At tie.After-judge) → c .judge .result ≡ number (ruleOf (asked c)) (tables c) (asked c)
+judged c =
+    c .judge .ensures _
+    (seen-of _ _ _ _ _ _ _ _ _ (concerned (c .before .before .before .before .before .before .before .before .before .before .before .before .before .before .before)))
+    (scanned-of _ _ _ _ _ _ _ _ _ (concerned (c .before .before .before .before .before .before .before .before .before .before .before .before .before .before .before)) (c .before .before .before .before .before .before .before .before .before .before .before .before .before .before .before .before .before .before .before .before .before .loop .inv .1 .isSound) (c .before .before .before .before .before .before .before .before .before .before .parent-of .ensures) _ (c .before .before .before .before .before .before .before .before .scope-of .ensures) _ (found (c .before)))
+
+sure : (c : At tie.After-judge) → sound (tables c) ≡ true
+sure c = c .before .before .before .before .before .before .before .before .before .before .before .before .before .before .before .before .before .before .before .before .before .loop .inv .1 .isSound
+
+near : (c : At tie.After-judge) → Concerned (asked c) (c .before .before .before .before .before .before .before .before .before .before .before .before .before .before .before .before .before .before .below16 .result) (c .before .before .before .before .before .before .before .before .before .before .before .before .before .before .before .before .before .below162 .result) (c .before .before .before .before .before .before .before .before .before .before .before .before .before .before .before .before .below64 .result) (c .before .before .before .before .before .before .before .before .before .before .before .before .before .before .before .below163 .result)
+near c = concerned (c .before .before .before .before .before .before .before .before .before .before .before .before .before .before .before)
+
+bounds : (c : At tie.After-judge) → (c .before .before .before .before .before .before .before .before .before .before .before .before .before .before .before .before .before .before .below16 .result < 16) × (c .before .before .before .before .before .before .before .before .before .before .before .before .before .before .before .before .before .below162 .result < 16) × (c .before .before .before .before .before .before .before .before .before .before .before .before .before .before .before .before .below64 .result < 64) × (c .before .before .before .before .before .before .before .before .before .before .before .before .before .before .before .below163 .result < 16)
+bounds c = (c .before .before .before .before .before .before .before .before .before .before .before .before .before .before .before .before .before .before .below16 .ensures .small, c .before .before .before .before .before .before .before .before .before .before .before .before .before .before .before .before .before .below162 .ensures .small, c .before .before .before .before .before .before .before .before .before .before .before .before .before .before .before .before .below64 .ensures .small, c .before .before .before .before .before .before .before .before .before .before .before .before .before .before .before .below163 .ensures .small)
+
+swept-delete : (c : At tie.After-loop6) → c .before .loop6 .self ≡ ruleOf (asked (c .before .before .before .before .before .before .before .before .before)) .effect (asked (c .before .before .before .before .before .before .before .before .before)) (tables (c .before .before .before .before .before .before .before .before .before))
+swept-delete c =
+    let roles : length ((tables (c .before .before .before .before .before .before .before .before .before)) .roles) ≡ 16 = c .before .before .before .before .before .before .before .before .before .before .before .before .before .before .before .before .before .before .before .before .before .before .before .before .before .before .before .before .before .before .loop .inv .2 .roles in
+    let sessions : length ((tables (c .before .before .before .before .before .before .before .before .before)) .sessions) ≡ 16 = c .before .before .before .before .before .before .before .before .before .before .before .before .before .before .before .before .before .before .before .before .before .before .before .before .before .before .before .before .before .before .loop .inv .2 .sessions in
+    let i : c .before .before .before .loop5 .i2 ≡ 16 = omega arith in
+    let j : c .before .loop6 .j2 ≡ 16 = omega arith in
+    swept-entity (tables (c .before .before .before .before .before .before .before .before .before)) (c .before .before .before .before .before .before .before .before .before .before .before .before .before .before .before .before .before .before .before .before .before .before .before .before .before .below64 .result) (c .before .before .before .before .empty .result) (c .before .before .before .loop5 .self) (c .before .loop6 .self) (c .before .before .before .before .empty .ensures) roles sessions (rw i at (c .before .before .before .loop5 .inv .1)) (rw j at (c .before .loop6 .inv .1))
+    ∙ delete-done _ _ (sym (c .before .before .before .before .before .before .before .before .if5 .taken) ∙ judged (c .before .before .before .before .before .before .before .before .before)) _ _ _ _ (near (c .before .before .before .before .before .before .before .before .before)) (c .before .before .before .before .before .if8 .taken)
+
+swept-unmake : (c : At tie.After-loop7) → c .before .loop7 .self ≡ ruleOf (asked (c .before .before .before .before .before .before .before .before .before)) .effect (asked (c .before .before .before .before .before .before .before .before .before)) (tables (c .before .before .before .before .before .before .before .before .before))
+swept-unmake c =
+    let sessions : length ((tables (c .before .before .before .before .before .before .before .before .before)) .sessions) ≡ 16 = c .before .before .before .before .before .before .before .before .before .before .before .before .before .before .before .before .before .before .before .before .before .before .before .before .before .before .before .before .before .before .loop .inv .2 .sessions in
+    let i : c .before .loop7 .i2 ≡ 16 = omega arith in
+    swept-role (tables (c .before .before .before .before .before .before .before .before .before)) (c .before .before .before .before .before .before .before .before .before .before .before .before .before .before .before .before .before .before .before .before .before .before .before .before .before .before .below162 .result) (c .before .before .empty2 .result) (c .before .loop7 .self) (c .before .before .empty2 .ensures) sessions (rw i at (c .before .loop7 .inv .1))
+    ∙ unmake-done _ _ (sym (c .before .before .before .before .before .before .before .before .if5 .taken) ∙ judged (c .before .before .before .before .before .before .before .before .before)) _ _ _ _ (near (c .before .before .before .before .before .before .before .before .before)) (c .before .before .before .if10 .left)
+
+returns : At tie.Need-returns
 unfolding batch
 returns c = rw (lt-leb _ _ (c .if1 .taken))
 
-is-sound-requires : tie.Need-is-sound-requires Inv-loop μ-loop
+is-sound-requires : At tie.Need-is-sound-requires
 is-sound-requires c κs = search needs
 
-all-unsound-requires : tie.Need-all-unsound-requires Inv-loop μ-loop
+all-unsound-requires : At tie.Need-all-unsound-requires
 all-unsound-requires c κs = search needs
 
-returns-2 : tie.Need-returns-2 Inv-loop μ-loop
+returns-2 : At tie.Need-returns-2
 unfolding batch
 returns-2 c =
     let (stays, ones) = all-refused (c .before .before .before .before .args .t1) (take (c .before .before .before .before .args .count) (c .before .before .before .before .args .t2)) (sym (c .before .before .is-sound .ensures) ∙ not-true _ (c .before .if2 .taken)) in
     let l = many (c .before .before .before .before) in
     rw (le-leb _ _ (c .before .before .before .if1 .left), stays, ones, length-take-le (c .before .before .before .before .args .count) (c .before .before .before .before .args .t2) (omega arith), c .all-unsound .ensures)
 
-loop-holds : tie.Need-loop-holds Inv-loop μ-loop
-loop-holds c = (search needs, held-none _ _ (sym (c .before .is-sound .ensures) ∙ not-false _ (c .if2 .left)))
+loop-holds : At tie.Need-loop-holds
+loop-holds c = (search needs, held-none _ _ (sym (c .before .is-sound .ensures) ∙ not-false _ (c .if2 .left)), record { sessions = search (long, c .before .before .before .good .0); roles = search (long, c .before .before .before .good .0) })
 
-mul-q : tie.Need-mul-q Inv-loop μ-loop
+mul-q : At tie.Need-mul-q
 mul-q c = search needs
 
-array-copy-out-q : tie.Need-array-copy-out-q Inv-loop μ-loop
+array-copy-out-q : At tie.Need-array-copy-out-q
 array-copy-out-q c = search needs
 
-below16-requires : tie.Need-below16-requires Inv-loop μ-loop
+below16-requires : At tie.Need-below16-requires
 below16-requires c κs = search needs
 
-below16-requires-2 : tie.Need-below16-requires-2 Inv-loop μ-loop
+below16-requires-2 : At tie.Need-below16-requires-2
 below16-requires-2 c κs = search needs
 
-below64-requires : tie.Need-below64-requires Inv-loop μ-loop
+below64-requires : At tie.Need-below64-requires
 below64-requires c κs = search needs
 
-below16-requires-3 : tie.Need-below16-requires-3 Inv-loop μ-loop
+below16-requires-3 : At tie.Need-below16-requires-3
 below16-requires-3 c κs = search needs
 
-mul-s : tie.Need-mul-s Inv-loop μ-loop
-mul-s c = search needs
+mul-s : At tie.Need-mul-s
+mul-s c = omega (arith, c .before .before .before .below16 .ensures .small)
 
-element-copy-out-s : tie.Need-element-copy-out-s Inv-loop μ-loop
-element-copy-out-s c = search needs
+element-copy-out-s : At tie.Need-element-copy-out-s
+element-copy-out-s c = c .before .before .before .below16 .ensures .small
 
-mul-u : tie.Need-mul-u Inv-loop μ-loop
-mul-u c = search needs
+mul-u : At tie.Need-mul-u
+mul-u c = omega (arith, c .before .below163 .ensures .small)
 
-element-copy-out-u : tie.Need-element-copy-out-u Inv-loop μ-loop
-element-copy-out-u c = search needs
+element-copy-out-u : At tie.Need-element-copy-out-u
+element-copy-out-u c = c .before .below163 .ensures .small
 
-mul-p : tie.Need-mul-p Inv-loop μ-loop
-mul-p c = search needs
+mul-p : At tie.Need-mul-p
+mul-p c = omega (arith, c .before .before .before .before .below162 .ensures .small)
 
-element-copy-out-p : tie.Need-element-copy-out-p Inv-loop μ-loop
-element-copy-out-p c = search needs
+element-copy-out-p : At tie.Need-element-copy-out-p
+element-copy-out-p c = c .before .before .before .before .below162 .ensures .small
 
-mul-f : tie.Need-mul-f Inv-loop μ-loop
-mul-f c = search needs
+mul-f : At tie.Need-mul-f
+mul-f c = omega (arith, c .before .before .before .before .below64 .ensures .small)
 
-element-copy-out-f : tie.Need-element-copy-out-f Inv-loop μ-loop
-element-copy-out-f c = search needs
+element-copy-out-f : At tie.Need-element-copy-out-f
+element-copy-out-f c = c .before .before .before .before .below64 .ensures .small
 
-parent-of-requires : tie.Need-parent-of-requires Inv-loop μ-loop
-parent-of-requires c κs = parent-small _ (c .before .before .before .before .before .before .before .before .before .before .loop .inv .1 .isSound) _ (search needs)
+parent-of-requires : At tie.Need-parent-of-requires
+parent-of-requires c κs = parent-small _ (c .before .before .before .before .before .before .before .before .before .before .loop .inv .1 .isSound) _ (c .before .before .before .before .before .below64 .ensures .small)
 
-mul-m : tie.Need-mul-m Inv-loop μ-loop
-mul-m c = search needs
+mul-m : At tie.Need-mul-m
+mul-m c = omega (arith, c .parent-of .ensures .small)
 
-element-copy-out-m : tie.Need-element-copy-out-m Inv-loop μ-loop
-element-copy-out-m c = search needs
+element-copy-out-m : At tie.Need-element-copy-out-m
+element-copy-out-m c = c .parent-of .ensures .small
 
-asks13-requires : tie.Need-asks13-requires Inv-loop μ-loop
-asks13-requires c κs = search needs
+scope-of-requires : At tie.Need-scope-of-requires
+scope-of-requires c κs = (c .before .before .before .before .before .before .before .below64 .ensures .small, c .before .parent-of .ensures .small)
 
-scanned-requires : tie.Need-scanned-requires Inv-loop μ-loop
-scanned-requires c κs =
-    record {
-      isSound = c .before .before .before .before .before .before .before .before .before .before .before .before .before .before .loop .inv .1 .isSound;
-      asked = sym (c .before .asks13 .ensures) ∙ c .if3 .taken;
-      entityIn = c .before .before .before .before .before .before .before .before .before .below64 .ensures .small;
-      parentIn = c .before .before .before .parent-of .ensures .small;
-    }
+mul-i : At tie.Need-mul-i
+mul-i c = omega (arith, c .scope-of .ensures .atIn)
 
-element-copy-out-rights : tie.Need-element-copy-out-rights Inv-loop μ-loop
-element-copy-out-rights c = search needs
+loop2-holds : At tie.Need-loop2-holds
+loop2-holds c = gathered-start _ _ _ _ (c .scope-of .ensures .atIn) (c .scope-of .ensures .left)
 
-judge-requires : tie.Need-judge-requires Inv-loop μ-loop
+has16-requires : At tie.Need-has16-requires
+has16-requires c κs = search needs
+
+add-i : At tie.Need-add-i
+add-i c = omega (arith, c .before .before .loop2 .inv .walk .most)
+
+mul-h : At tie.Need-mul-h
+mul-h c = omega (arith, walk-in _ _ _ _ (c .before .before .before .loop2 .inv .walk) (c .before .before .before .before .scope-of .ensures .heldIn) (c .before .before .loop2-test .taken))
+
+element-copy-out-h : At tie.Need-element-copy-out-h
+element-copy-out-h c = walk-in _ _ _ _ (c .before .before .before .loop2 .inv .walk) (c .before .before .before .before .scope-of .ensures .heldIn) (c .before .before .loop2-test .taken)
+
+joined-requires : At tie.Need-joined-requires
+joined-requires c κs = search needs
+
+loop2-less : At tie.Need-loop2-less
+loop2-less c = omega (arith, c .before .before .before .before .before .before .loop2-test .taken)
+
+loop2-again : At tie.Need-loop2-again
+loop2-again c = gathered-join _ _ _ _ _ _ (c .before .before .before .before .before .before .before .loop2 .inv) (sym (c .before .before .before .before .before .has16 .ensures) ∙ c .before .before .before .before .if3 .taken) (walk-in _ _ _ _ (c .before .before .before .before .before .before .before .loop2 .inv .walk) (c .before .before .before .before .before .before .before .before .scope-of .ensures .heldIn) (c .before .before .before .before .before .before .loop2-test .taken)) _ (c .joined .ensures)
+
+loop2-less-2 : At tie.Need-loop2-less-2
+loop2-less-2 c = omega (arith, c .before .before .loop2-test .taken)
+
+loop2-again-2 : At tie.Need-loop2-again-2
+loop2-again-2 c = gathered-skip _ _ _ _ _ _ (c .before .before .before .loop2 .inv) (sym (c .before .has16 .ensures) ∙ c .if3 .left) (walk-in _ _ _ _ (c .before .before .before .loop2 .inv .walk) (c .before .before .before .before .scope-of .ensures .heldIn) (c .before .before .loop2-test .taken))
+
+array-read-contains8 : At tie.Need-array-read-contains8
+array-read-contains8 c = omega (arith, c .before .before .scope-of .ensures .atIn, c .before .loop2 .inv .long)
+
+contains8-requires : At tie.Need-contains8-requires
+contains8-requires c κs = search needs
+
+loop3-holds : At tie.Need-loop3-holds
+loop3-holds c = climbing-start _ _ _ _ (c .before .before .before .before .scope-of .ensures .fromIn)
+
+mul-h-2 : At tie.Need-mul-h-2
+mul-h-2 c = omega (arith, c .before .loop3 .inv .inside)
+
+element-copy-out-h-2 : At tie.Need-element-copy-out-h-2
+element-copy-out-h-2 c = c .before .loop3 .inv .inside
+
+cast-a : At tie.Need-cast-a
+cast-a c = search needs
+
+array-read-contains8-2 : At tie.Need-array-read-contains8-2
+array-read-contains8-2 c = omega (arith, parent-small _ (c .before .before .before .before .before .before .before .before .before .before .before .before .before .before .before .before .before .before .before .before .before .loop .inv .1 .isSound) _ (c .before .before .before .loop3 .inv .inside), c .before .before .before .before .before .before .before .loop2 .inv .long)
+
+contains8-requires-2 : At tie.Need-contains8-requires-2
+contains8-requires-2 c κs = search needs
+
+sub-steps : At tie.Need-sub-steps
+sub-steps c = steps-left (c .before .before .before .before .loop3 .steps) (c .before .before .before .before .loop3 .a) (c .before .before .before .loop3-test .taken)
+
+loop3-less : At tie.Need-loop3-less
+loop3-less c = omega (arith, steps-left (c .before .before .before .before .loop3 .steps) (c .before .before .before .before .loop3 .a) (c .before .before .before .loop3-test .taken))
+
+loop3-again : At tie.Need-loop3-again
+loop3-again c = climbing-more _ _ _ _ _ _ _ (c .before .before .before .before .loop3 .inv) (c .before .before .before .before .before .before .before .before .before .before .before .before .before .before .before .before .before .before .before .before .before .before .loop .inv .1 .isSound) _ (c .before .before .before .loop3-test .taken) (c .contains82 .ensures)
+
+mul-base : At tie.Need-mul-base
+mul-base c = omega (arith, c .before .before .before .before .before .before .before .scope-of .ensures .kinIn)
+
+loop4-holds : At tie.Need-loop4-holds
+loop4-holds c = block-start _ _ (kin-root _ _ _ _ _ (base-root (c .before .before .before .before .before .before .before .scope-of .result .kin)))
+
+add-h : At tie.Need-add-h
+add-h c = omega (arith, c .before .before .before .before .before .before .before .before .before .scope-of .ensures .kinIn)
+
+mul-h-3 : At tie.Need-mul-h-3
+mul-h-3 c = omega (arith, c .before .before .before .before .before .before .before .before .before .scope-of .ensures .kinIn)
+
+element-copy-out-h-3 : At tie.Need-element-copy-out-h-3
+element-copy-out-h-3 c = omega (arith, c .before .before .before .before .before .before .before .before .before .scope-of .ensures .kinIn)
+
+is-kin-requires : At tie.Need-is-kin-requires
+is-kin-requires c κs = c .before .before .before .before .before .before .before .before .before .before .scope-of .ensures .kinIn
+
+add-j : At tie.Need-add-j
+add-j c = omega arith
+
+loop4-less : At tie.Need-loop4-less
+loop4-less c = omega arith
+
+loop4-again : At tie.Need-loop4-again
+loop4-again c = block-more _ _ _ _ _ (c .before .before .before .loop4 .inv) (c .is-kin .ensures ∙ kin-at _ _ _ _ _ (base-other _ _ (c .before .before .before .loop4 .inv .least) (c .before .before .loop4-test .taken))) (c .before .before .loop4-test .taken)
+
+judge-requires : At tie.Need-judge-requires
 judge-requires c κs = search needs
 
-array-write-answers : tie.Need-array-write-answers Inv-loop μ-loop
-array-write-answers c = let h = turn (c .before .before .before .before .before .before .before .before .before .before .before .before .before .before .before) in search needs
+array-write-answers : At tie.Need-array-write-answers
+array-write-answers c = let h = turn (c .before .before .before .before .before .before .before .before .before .before .before .before .before .before .before .before .before .before .before .before) in search needs
 
-add-i : tie.Need-add-i Inv-loop μ-loop
-add-i c = let h = turn (c .before .before .before .before .before .before .before .before .before .before .before .before .before .before .before) in search needs
+add-t : At tie.Need-add-t
+add-t c = let h = turn (c .before .before .before .before .before .before .before .before .before .before .before .before .before .before .before .before .before .before .before .before) in search needs
 
-mul-s2 : tie.Need-mul-s2 Inv-loop μ-loop
-mul-s2 c = let h = within (c .before .before .before) in search needs
+after-requires : At tie.Need-after-requires
+after-requires c κs = (near (c .before .before) .role .small, near (c .before .before) .entity .small)
 
-element-set-from-s2 : tie.Need-element-set-from-s2 Inv-loop μ-loop
-element-set-from-s2 c = let h = within (c .before .before .before) in search needs
+mul-s2 : At tie.Need-mul-s2
+mul-s2 c = omega (arith, near (c .before .before .before) .seat .small)
 
-mul-p2 : tie.Need-mul-p2 Inv-loop μ-loop
-mul-p2 c = let h = within (c .before .before .before) in search needs
+element-set-from-s2 : At tie.Need-element-set-from-s2
+element-set-from-s2 c = near (c .before .before .before) .seat .small
 
-element-copy-out-p2 : tie.Need-element-copy-out-p2 Inv-loop μ-loop
-element-copy-out-p2 c = let h = within (c .before .before .before) in search needs
+loop-less : At tie.Need-loop-less
+loop-less c = let h = turn (c .before .before .before .before .before .before .before .before .before .before .before .before .before .before .before .before .before .before .before .before .before .before .before) in search needs
 
-element-write-p2 : tie.Need-element-write-p2 Inv-loop μ-loop
-element-write-p2 c = let h = within (c .before .before .before .before) in search needs
+loop-again : At tie.Need-loop-again
+loop-again c = turned (c .before .before .before .before .before .before .before .before .before .before .before .before .before .before .before .before .before .before .before .before .before .before .before) (outcome _ _) (does _ _ _ (sure (c .before .before .before)) (judged (c .before .before .before)) (c .before .before .if5 .taken) _ (session-done _ _ (sym (c .before .before .if5 .taken) ∙ judged (c .before .before .before)) _ _ _ _ (near (c .before .before .before)) (c .before .if6 .taken) _ (c .after .ensures))) (sized-session _ (c .before .before .before .before .before .before .before .before .before .before .before .before .before .before .before .before .before .before .before .before .before .before .before .before .loop .inv .2) _ _)
 
-mul-t65 : tie.Need-mul-t65 Inv-loop μ-loop
-mul-t65 c = let h = within (c .before .before .before .before) in search needs
+made-requires : At tie.Need-made-requires
+made-requires c κs = search needs
 
-element-set-from-self : tie.Need-element-set-from-self Inv-loop μ-loop
-element-set-from-self c = let h = within (c .before .before .before .before) in search needs
+mul-f2 : At tie.Need-mul-f2
+mul-f2 c = omega (arith, near (c .before .before .before .before) .entity .small)
 
-mul-f2 : tie.Need-mul-f2 Inv-loop μ-loop
-mul-f2 c = let h = within (c .before .before .before .before .before) in search needs
+element-set-from-f2 : At tie.Need-element-set-from-f2
+element-set-from-f2 c = near (c .before .before .before .before) .entity .small
 
-element-set-from-f2 : tie.Need-element-set-from-f2 Inv-loop μ-loop
-element-set-from-f2 c = let h = within (c .before .before .before .before .before) in search needs
+mul-p2 : At tie.Need-mul-p2
+mul-p2 c = omega (arith, near (c .before .before .before .before) .role .small)
 
-loop-less : tie.Need-loop-less Inv-loop μ-loop
-loop-less c = let h = turn (c .before .before .before .before .before .before .before .before .before .before .before .before .before .before .before .before .before .before .before .before .before) in search needs
+element-copy-out-p2 : At tie.Need-element-copy-out-p2
+element-copy-out-p2 c = near (c .before .before .before .before) .role .small
 
-loop-again : tie.Need-loop-again Inv-loop μ-loop
-unfolding applied stored
-loop-again c =
-    let h = turn (c .before .before .before .before .before .before .before .before .before .before .before .before .before .before .before .before .before .before .before .before .before) in
-    let l = many (c .before .before .before .before .before .before .before .before .before .before .before .before .before .before .before .before .before .before .before .before .before .before .before .before .before .before) in
-    (search needs, held-more _ _ _ _ _ noRequest (c .before .before .before .before .before .before .before .before .before .before .before .before .before .before .before .before .before .before .before .before .before .before .loop .inv .1) (outcome _ _) (does _ _ _ (c .before .before .before .before .before .before .before .before .before .before .before .before .before .before .before .before .before .before .before .before .before .before .loop .inv .1 .isSound) (decided (c .before .before .before .before .before .before)) (c .before .before .before .before .before .if4 .taken) _ (rw (eq-eqb _ _ (c .before .before .before .if5 .taken)))) (omega arith) (omega arith))
+element-copy-out-join8 : At tie.Need-element-copy-out-join8
+element-copy-out-join8 c = near (c .before .before .before .before .before) .entity .small
 
-emptied-requires : tie.Need-emptied-requires Inv-loop μ-loop
-emptied-requires c κs = within (c .before .before)
+join8-requires : At tie.Need-join8-requires
+join8-requires c κs = search needs
 
-loop-less-2 : tie.Need-loop-less-2 Inv-loop μ-loop
-loop-less-2 c = let h = turn (c .before .before .before .before .before .before .before .before .before .before .before .before .before .before .before .before .before .before .before) in search needs
+element-write-p2 : At tie.Need-element-write-p2
+element-write-p2 c = near (c .before .before .before .before .before .before .before) .entity .small
 
-loop-again-2 : tie.Need-loop-again-2 Inv-loop μ-loop
-unfolding applied
-loop-again-2 c =
-    let h = turn (c .before .before .before .before .before .before .before .before .before .before .before .before .before .before .before .before .before .before .before) in
-    let l = many (c .before .before .before .before .before .before .before .before .before .before .before .before .before .before .before .before .before .before .before .before .before .before .before .before) in
-    (search needs, held-more _ _ _ _ _ noRequest (c .before .before .before .before .before .before .before .before .before .before .before .before .before .before .before .before .before .before .before .before .loop .inv .1) (outcome _ _) (does _ _ _ (c .before .before .before .before .before .before .before .before .before .before .before .before .before .before .before .before .before .before .before .before .loop .inv .1 .isSound) (decided (c .before .before .before .before)) (c .before .before .before .if4 .taken) _ (c .emptied .ensures ∙ rw (ne-eqb _ _ (c .before .if5 .left)))) (omega arith) (omega arith))
+mul-t114 : At tie.Need-mul-t114
+mul-t114 c = omega (arith, near (c .before .before .before .before .before .before .before) .role .small)
 
-loop-less-3 : tie.Need-loop-less-3 Inv-loop μ-loop
-loop-less-3 c = let h = turn (c .before .before .before .before .before .before .before .before .before .before .before .before .before .before .before .before) in search needs
+element-set-from-self : At tie.Need-element-set-from-self
+element-set-from-self c = near (c .before .before .before .before .before .before .before) .role .small
 
-loop-again-3 : tie.Need-loop-again-3 Inv-loop μ-loop
-loop-again-3 c =
-    let h = turn (c .before .before .before .before .before .before .before .before .before .before .before .before .before .before .before .before) in
-    let l = many (c .before .before .before .before .before .before .before .before .before .before .before .before .before .before .before .before .before .before .before .before .before) in
-    (search needs, held-more _ _ _ _ _ noRequest (c .before .before .before .before .before .before .before .before .before .before .before .before .before .before .before .before .before .loop .inv .1) (outcome _ _) (refuses _ _ _ (c .before .before .before .before .before .before .before .before .before .before .before .before .before .before .before .before .before .loop .inv .1 .isSound) (decided (c .before)) (c .if4 .left)) (omega arith) (omega arith))
+loop-less-2 : At tie.Need-loop-less-2
+loop-less-2 c = let h = turn (c .before .before .before .before .before .before .before .before .before .before .before .before .before .before .before .before .before .before .before .before .before .before .before .before .before .before .before) in search needs
 
-returns-3 : tie.Need-returns-3 Inv-loop μ-loop
+loop-again-2 : At tie.Need-loop-again-2
+loop-again-2 c = turned (c .before .before .before .before .before .before .before .before .before .before .before .before .before .before .before .before .before .before .before .before .before .before .before .before .before .before .before) (outcome _ _) (does _ _ _ (sure (c .before .before .before .before .before .before .before)) (judged (c .before .before .before .before .before .before .before)) (c .before .before .before .before .before .before .if5 .taken) _ (create-done _ _ (sym (c .before .before .before .before .before .before .if5 .taken) ∙ judged (c .before .before .before .before .before .before .before)) _ _ _ _ (near (c .before .before .before .before .before .before .before)) (c .before .before .before .before .if7 .taken) _ _ (c .before .before .before .made .ensures) (c .join8 .ensures))) (sized-role _ (c .before .before .before .before .before .before .before .before .before .before .before .before .before .before .before .before .before .before .before .before .before .before .before .before .before .before .before .before .loop .inv .2) _ _ _)
+
+empty-requires : At tie.Need-empty-requires
+empty-requires c κs = search needs
+
+mul-f2-2 : At tie.Need-mul-f2-2
+mul-f2-2 c = omega (arith, near (c .before .before .before .before .before) .entity .small)
+
+element-set-from-f2-2 : At tie.Need-element-set-from-f2-2
+element-set-from-f2-2 c = near (c .before .before .before .before .before) .entity .small
+
+mul-i2 : At tie.Need-mul-i2
+mul-i2 c = omega (arith, near (c .before .before .before .before .before) .entity .small)
+
+loop5-holds : At tie.Need-loop5-holds
+loop5-holds c = (omega (arith, near (c .before .before .before .before .before) .entity .small), roles-from (tables (c .before .before .before .before .before)) _ (sure (c .before .before .before .before .before)) (near (c .before .before .before .before .before) .entity .small) _ refl)
+
+mul-h-4 : At tie.Need-mul-h-4
+mul-h-4 c = omega (arith, c .loop5-test .taken)
+
+element-copy-out-h-4 : At tie.Need-element-copy-out-h-4
+element-copy-out-h-4 c = c .loop5-test .taken
+
+element-write-h : At tie.Need-element-write-h
+element-write-h c = near (c .before .before .before .before .before .before .before .before) .entity .small
+
+mul-t133 : At tie.Need-mul-t133
+mul-t133 c = omega (arith, c .before .loop5-test .taken)
+
+element-set-from-self-2 : At tie.Need-element-set-from-self-2
+element-set-from-self-2 c = c .before .loop5-test .taken
+
+add-i2 : At tie.Need-add-i2
+add-i2 c = let h = bounds (c .before .before .before .before .before .before .before .before) in search needs
+
+loop5-less : At tie.Need-loop5-less
+loop5-less c = omega arith
+
+loop5-again : At tie.Need-loop5-again
+unfolding clearRights setRights
+loop5-again c = (omega arith, roles-more (clearRights _) _ _ _ (c .before .before .loop5 .inv .1))
+
+loop6-holds : At tie.Need-loop6-holds
+loop6-holds c = (omega arith, refl)
+
+loop-less-3 : At tie.Need-loop-less-3
+loop-less-3 c = let h = turn (c .before .before .before .before .before .before .before .before .before .before .before .before .before .before .before .before .before .before .before .before .before .before .before .before .before .before .before .before .before) in search needs
+
+loop-again-3 : At tie.Need-loop-again-3
+loop-again-3 c = turned (c .before .before .before .before .before .before .before .before .before .before .before .before .before .before .before .before .before .before .before .before .before .before .before .before .before .before .before .before .before) (outcome _ _) (does _ _ _ (sure (c .before .before .before .before .before .before .before .before .before)) (judged (c .before .before .before .before .before .before .before .before .before)) (c .before .before .before .before .before .before .before .before .if5 .taken) _ (swept-delete (c))) (sized-sessions _ (sized-roles _ (sized-entity _ (c .before .before .before .before .before .before .before .before .before .before .before .before .before .before .before .before .before .before .before .before .before .before .before .before .before .before .before .before .before .before .loop .inv .2) _) (clearRights (c .before .before .before .before .before .before .before .before .before .before .before .before .before .before .before .before .before .before .before .before .before .before .before .before .before .below64 .result)) (c .before .before .before .loop5 .i2) _ (c .before .before .before .loop5 .inv .1)) (closeBoth (c .before .before .before .before .before .before .before .before .before .before .before .before .before .before .before .before .before .before .before .before .before .before .before .before .before .below64 .result)) (c .before .loop6 .j2) _ (c .before .loop6 .inv .1))
+
+mul-h-5 : At tie.Need-mul-h-5
+mul-h-5 c = omega (arith, c .loop6-test .taken)
+
+element-copy-out-h-5 : At tie.Need-element-copy-out-h-5
+element-copy-out-h-5 c = c .loop6-test .taken
+
+cast-without64 : At tie.Need-cast-without64
+cast-without64 c = let h = bounds (c .before .before .before .before .before .before .before .before .before .before) in search needs
+
+without64-requires : At tie.Need-without64-requires
+without64-requires c κs = search needs
+
+cast-without64-2 : At tie.Need-cast-without64-2
+cast-without64-2 c = let h = bounds (c .before .before .before .before .before .before .before .before .before .before .before) in search needs
+
+without64-requires-2 : At tie.Need-without64-requires-2
+without64-requires-2 c κs = let h = bounds (c .before .before .before .before .before .before .before .before .before .before .before) in search needs
+
+mul-h-6 : At tie.Need-mul-h-6
+mul-h-6 c = omega (arith, c .before .before .before .loop6-test .taken)
+
+element-set-from-h : At tie.Need-element-set-from-h
+element-set-from-h c = c .before .before .before .loop6-test .taken
+
+add-j2 : At tie.Need-add-j2
+add-j2 c = let h = bounds (c .before .before .before .before .before .before .before .before .before .before .before .before) in search needs
+
+loop6-less : At tie.Need-loop6-less
+loop6-less c = omega arith
+
+loop6-again : At tie.Need-loop6-again
+unfolding closeBoth
+loop6-again c = (omega arith, rw (c .before .without64 .ensures, c .without642 .ensures) (sessions-more (closeBoth _) _ _ _ (c .before .before .before .before .loop6 .inv .1)))
+
+renamed-requires : At tie.Need-renamed-requires
+renamed-requires c κs = search needs
+
+mul-f2-3 : At tie.Need-mul-f2-3
+mul-f2-3 c = omega (arith, near (c .before .before .before .before .before .before) .entity .small)
+
+element-set-from-f2-3 : At tie.Need-element-set-from-f2-3
+element-set-from-f2-3 c = near (c .before .before .before .before .before .before) .entity .small
+
+loop-less-4 : At tie.Need-loop-less-4
+loop-less-4 c = let h = turn (c .before .before .before .before .before .before .before .before .before .before .before .before .before .before .before .before .before .before .before .before .before .before .before .before .before .before) in search needs
+
+loop-again-4 : At tie.Need-loop-again-4
+loop-again-4 c = turned (c .before .before .before .before .before .before .before .before .before .before .before .before .before .before .before .before .before .before .before .before .before .before .before .before .before .before) (outcome _ _) (does _ _ _ (sure (c .before .before .before .before .before .before)) (judged (c .before .before .before .before .before .before)) (c .before .before .before .before .before .if5 .taken) _ (rename-done _ _ (sym (c .before .before .before .before .before .if5 .taken) ∙ judged (c .before .before .before .before .before .before)) _ _ _ _ (near (c .before .before .before .before .before .before)) (c .before .if9 .taken) _ (c .renamed .ensures))) (sized-entity _ (c .before .before .before .before .before .before .before .before .before .before .before .before .before .before .before .before .before .before .before .before .before .before .before .before .before .before .before .loop .inv .2) _)
+
+mul-p2-2 : At tie.Need-mul-p2-2
+mul-p2-2 c = omega (arith, near (c .before .before .before .before .before .before) .role .small)
+
+element-copy-out-p2-2 : At tie.Need-element-copy-out-p2-2
+element-copy-out-p2-2 c = near (c .before .before .before .before .before .before) .role .small
+
+element-copy-out-rights-after : At tie.Need-element-copy-out-rights-after
+element-copy-out-rights-after c = near (c .before .before .before .before .before .before .before .before) .entity .small
+
+rights-after-requires : At tie.Need-rights-after-requires
+rights-after-requires c κs = search needs
+
+element-write-p2-2 : At tie.Need-element-write-p2-2
+element-write-p2-2 c = near (c .before .before .before .before .before .before .before .before .before .before) .entity .small
+
+mul-t166 : At tie.Need-mul-t166
+mul-t166 c = omega (arith, near (c .before .before .before .before .before .before .before .before .before .before) .role .small)
+
+element-set-from-self-3 : At tie.Need-element-set-from-self-3
+element-set-from-self-3 c = near (c .before .before .before .before .before .before .before .before .before .before) .role .small
+
+loop-less-5 : At tie.Need-loop-less-5
+loop-less-5 c = let h = turn (c .before .before .before .before .before .before .before .before .before .before .before .before .before .before .before .before .before .before .before .before .before .before .before .before .before .before .before .before .before .before) in search needs
+
+loop-again-5 : At tie.Need-loop-again-5
+loop-again-5 c = turned (c .before .before .before .before .before .before .before .before .before .before .before .before .before .before .before .before .before .before .before .before .before .before .before .before .before .before .before .before .before .before) (outcome _ _) (does _ _ _ (sure (c .before .before .before .before .before .before .before .before .before .before)) (judged (c .before .before .before .before .before .before .before .before .before .before)) (c .before .before .before .before .before .before .before .before .before .if5 .taken) _ (rights-done _ _ (sym (c .before .before .before .before .before .before .before .before .before .if5 .taken) ∙ judged (c .before .before .before .before .before .before .before .before .before .before)) _ _ _ _ (near (c .before .before .before .before .before .before .before .before .before .before)) (ten-on _ (c .before .before .before .before .before .before .before .before .if6 .left) (c .before .before .before .before .before .before .before .if7 .left) (c .before .before .before .before .before .before .if8 .left) (c .before .before .before .before .before .if9 .left)) (c .before .before .if11 .taken) _ (c .rights-after .ensures))) (sized-role _ (c .before .before .before .before .before .before .before .before .before .before .before .before .before .before .before .before .before .before .before .before .before .before .before .before .before .before .before .before .before .before .before .loop .inv .2) _ _ _)
+
+users-after-requires : At tie.Need-users-after-requires
+users-after-requires c κs = near (c .before .before .before .before .before .before .before .before) .user .small
+
+mul-t172 : At tie.Need-mul-t172
+mul-t172 c = omega (arith, near (c .before .before .before .before .before .before .before .before .before) .role .small)
+
+element-set-from-self-4 : At tie.Need-element-set-from-self-4
+element-set-from-self-4 c = near (c .before .before .before .before .before .before .before .before .before) .role .small
+
+loop-less-6 : At tie.Need-loop-less-6
+loop-less-6 c = let h = turn (c .before .before .before .before .before .before .before .before .before .before .before .before .before .before .before .before .before .before .before .before .before .before .before .before .before .before .before .before .before) in search needs
+
+loop-again-6 : At tie.Need-loop-again-6
+loop-again-6 c = turned (c .before .before .before .before .before .before .before .before .before .before .before .before .before .before .before .before .before .before .before .before .before .before .before .before .before .before .before .before .before) (outcome _ _) (does _ _ _ (sure (c .before .before .before .before .before .before .before .before .before)) (judged (c .before .before .before .before .before .before .before .before .before)) (c .before .before .before .before .before .before .before .before .if5 .taken) _ (marks-done _ _ (sym (c .before .before .before .before .before .before .before .before .if5 .taken) ∙ judged (c .before .before .before .before .before .before .before .before .before)) _ _ _ _ (near (c .before .before .before .before .before .before .before .before .before)) (sure (c .before .before .before .before .before .before .before .before .before)) (omega (arith, c .before .if11 .left)) (c .before .before .before .if10 .taken) _ (c .users-after .ensures))) (sized-role _ (c .before .before .before .before .before .before .before .before .before .before .before .before .before .before .before .before .before .before .before .before .before .before .before .before .before .before .before .before .before .before .loop .inv .2) _ _ _)
+
+empty-requires-2 : At tie.Need-empty-requires-2
+empty-requires-2 c κs = let h = bounds (c .before .before .before .before .before .before) in search needs
+
+mul-p2-3 : At tie.Need-mul-p2-3
+mul-p2-3 c = omega (arith, near (c .before .before .before .before .before .before .before) .role .small)
+
+element-set-from-p2 : At tie.Need-element-set-from-p2
+element-set-from-p2 c = near (c .before .before .before .before .before .before .before) .role .small
+
+loop7-holds : At tie.Need-loop7-holds
+loop7-holds c = (omega arith, refl)
+
+loop-less-7 : At tie.Need-loop-less-7
+loop-less-7 c = let h = turn (c .before .before .before .before .before .before .before .before .before .before .before .before .before .before .before .before .before .before .before .before .before .before .before .before .before .before .before .before .before) in search needs
+
+loop-again-7 : At tie.Need-loop-again-7
+loop-again-7 c = turned (c .before .before .before .before .before .before .before .before .before .before .before .before .before .before .before .before .before .before .before .before .before .before .before .before .before .before .before .before .before) (outcome _ _) (does _ _ _ (sure (c .before .before .before .before .before .before .before .before .before)) (judged (c .before .before .before .before .before .before .before .before .before)) (c .before .before .before .before .before .before .before .before .if5 .taken) _ (swept-unmake (c))) (sized-sessions _ (sized-role _ (c .before .before .before .before .before .before .before .before .before .before .before .before .before .before .before .before .before .before .before .before .before .before .before .before .before .before .before .before .before .before .loop .inv .2) _ _ _) (dropRole (c .before .before .before .before .before .before .before .before .before .before .before .before .before .before .before .before .before .before .before .before .before .before .before .before .before .before .below162 .result)) (c .before .loop7 .i2) _ (c .before .loop7 .inv .1))
+
+mul-h-7 : At tie.Need-mul-h-7
+mul-h-7 c = omega (arith, c .loop7-test .taken)
+
+element-copy-out-h-6 : At tie.Need-element-copy-out-h-6
+element-copy-out-h-6 c = c .loop7-test .taken
+
+cast-without16 : At tie.Need-cast-without16
+cast-without16 c = let h = bounds (c .before .before .before .before .before .before .before .before .before .before) in search needs
+
+without16-requires : At tie.Need-without16-requires
+without16-requires c κs = search needs
+
+mul-h-8 : At tie.Need-mul-h-8
+mul-h-8 c = omega (arith, c .before .before .loop7-test .taken)
+
+element-set-from-h-2 : At tie.Need-element-set-from-h-2
+element-set-from-h-2 c = c .before .before .loop7-test .taken
+
+add-i2-2 : At tie.Need-add-i2-2
+add-i2-2 c = let h = bounds (c .before .before .before .before .before .before .before .before .before .before .before) in search needs
+
+loop7-less : At tie.Need-loop7-less
+loop7-less c = omega arith
+
+loop7-again : At tie.Need-loop7-again
+unfolding dropRole
+loop7-again c = (omega arith, rw (c .without16 .ensures) (sessions-more (dropRole _) _ _ _ (c .before .before .before .loop7 .inv .1)))
+
+loop-less-8 : At tie.Need-loop-less-8
+loop-less-8 c = let h = turn (c .before .before .before .before .before .before .before .before .before .before .before .before .before .before .before .before .before .before .before .before .before) in search needs
+
+loop-again-8 : At tie.Need-loop-again-8
+loop-again-8 c = turned (c .before .before .before .before .before .before .before .before .before .before .before .before .before .before .before .before .before .before .before .before .before) (outcome _ _) (refuses _ _ _ (sure (c .before)) (judged (c .before)) (c .if5 .left)) (c .before .before .before .before .before .before .before .before .before .before .before .before .before .before .before .before .before .before .before .before .before .before .loop .inv .2)
+
+returns-3 : At tie.Need-returns-3
 unfolding batch
 returns-3 c =
-    let n : c .before .loop .i ≡ c .before .before .before .before .before .args .count = omega arith in
+    let n : c .before .loop .t ≡ c .before .before .before .before .before .args .count = omega arith in
     let h = rw n at (c .before .loop .inv .1) in
     rw (le-leb _ _ (c .before .before .before .before .if1 .left), h .ran, h .said)
 
@@ -218,6 +577,18 @@ pub run-spec : {M : Type 1} → statement M
 run-spec =
     tie.close
     (tie.spec
+    Inv-loop2
+    μ-loop2
+    Inv-loop3
+    μ-loop3
+    Inv-loop4
+    μ-loop4
+    Inv-loop5
+    μ-loop5
+    Inv-loop6
+    μ-loop6
+    Inv-loop7
+    μ-loop7
     Inv-loop
     μ-loop
     returns
@@ -242,26 +613,119 @@ run-spec =
     parent-of-requires
     mul-m
     element-copy-out-m
-    asks13-requires
-    scanned-requires
-    element-copy-out-rights
+    scope-of-requires
+    mul-i
+    loop2-holds
+    has16-requires
+    add-i
+    mul-h
+    element-copy-out-h
+    joined-requires
+    loop2-less
+    loop2-again
+    loop2-less-2
+    loop2-again-2
+    array-read-contains8
+    contains8-requires
+    loop3-holds
+    mul-h-2
+    element-copy-out-h-2
+    cast-a
+    array-read-contains8-2
+    contains8-requires-2
+    sub-steps
+    loop3-less
+    loop3-again
+    mul-base
+    loop4-holds
+    add-h
+    mul-h-3
+    element-copy-out-h-3
+    is-kin-requires
+    add-j
+    loop4-less
+    loop4-again
     judge-requires
     array-write-answers
-    add-i
+    add-t
+    after-requires
     mul-s2
     element-set-from-s2
-    mul-p2
-    element-copy-out-p2
-    element-write-p2
-    mul-t65
-    element-set-from-self
-    mul-f2
-    element-set-from-f2
     loop-less
     loop-again
-    emptied-requires
+    made-requires
+    mul-f2
+    element-set-from-f2
+    mul-p2
+    element-copy-out-p2
+    element-copy-out-join8
+    join8-requires
+    element-write-p2
+    mul-t114
+    element-set-from-self
     loop-less-2
     loop-again-2
+    empty-requires
+    mul-f2-2
+    element-set-from-f2-2
+    mul-i2
+    loop5-holds
+    mul-h-4
+    element-copy-out-h-4
+    element-write-h
+    mul-t133
+    element-set-from-self-2
+    add-i2
+    loop5-less
+    loop5-again
+    loop6-holds
     loop-less-3
     loop-again-3
+    mul-h-5
+    element-copy-out-h-5
+    cast-without64
+    without64-requires
+    cast-without64-2
+    without64-requires-2
+    mul-h-6
+    element-set-from-h
+    add-j2
+    loop6-less
+    loop6-again
+    renamed-requires
+    mul-f2-3
+    element-set-from-f2-3
+    loop-less-4
+    loop-again-4
+    mul-p2-2
+    element-copy-out-p2-2
+    element-copy-out-rights-after
+    rights-after-requires
+    element-write-p2-2
+    mul-t166
+    element-set-from-self-3
+    loop-less-5
+    loop-again-5
+    users-after-requires
+    mul-t172
+    element-set-from-self-4
+    loop-less-6
+    loop-again-6
+    empty-requires-2
+    mul-p2-3
+    element-set-from-p2
+    loop7-holds
+    loop-less-7
+    loop-again-7
+    mul-h-7
+    element-copy-out-h-6
+    cast-without16
+    without16-requires
+    mul-h-8
+    element-set-from-h-2
+    add-i2-2
+    loop7-less
+    loop7-again
+    loop-less-8
+    loop-again-8
     returns-3)

@@ -1,151 +1,518 @@
--- `Tables::step` is the step of the definitions: unsound tables answer 1; else the records that the request concerns are
--- what deciding asks for (Stepping), and what was decided is stored. Assumes nothing.
-use mathlib.Core.Path.{_≡_, refl, sym, _∙_}
-use mathlib.Core.Bool.{true}
+-- `Tables::step` is the step of the definitions: unsound tables answer 1; else the records that the request concerns and
+-- what the scans find are what deciding asks for (Stepping), and what is stored is what the rule does (Doing). The loops keep
+-- the rights gathered (Scans/Given), the climb over them (Scans/Climb), the children seen (Scans), and the part of a sweep
+-- that is done (Sweeps). Assumes nothing.
+use Prim.Native.Nat.{_-_, _≤_, _<_}
+use mathlib.Core.Path.{_≡_, refl, sym, ap, _∙_}
+use mathlib.Core.Bool.{Bool, true, _&&_}
 use mathlib.Core.Logic.{⊎-elim}
-use borrow.Author.Tests.{not-true, not-false, eq-eqb, ne-eqb}
-use Rattle.bitset.specs.Tests.Laws.{clash}
-use Rattle.guard.specs.Tables.{sessionAt}
-use Rattle.guard.specs.Sound.{sound}
-use Rattle.guard.specs.Requests.{ruleOf}
-use Rattle.guard.specs.Inside.{asks, applied, stored, Found, Decided, Within}
-use Rattle.guard.proofs.Stepping.{parent-small, seen-of, scanned-of, refuses, does, unsound}
+use native.Mathlib.Omega.{arith}
+use lib.ListN.{length}
 use borrow.Author.Needs.{needs}
+use borrow.Author.Tests.{not-true, not-false}
+use Rattle.bitset.specs.Tests.{some}
+use Rattle.bitset.specs.Tests.Laws.{clash}
+use Rattle.guard.specs.Level.{isRoot}
+use Rattle.guard.specs.Chain.{climbs, parentOf}
+use Rattle.guard.specs.Sound.{sound}
+use Rattle.guard.specs.Edits.{withSessions, withRoles, closeBoth, dropRole, setRights, clearRights}
+use Rattle.guard.specs.Requests.{ruleOf}
+use Rattle.guard.specs.Inside.{number, kinTest}
+use Rattle.guard.specs.declared.Tables.{Tables}
+use Rattle.guard.specs.declared.Request.{Request}
+use Rattle.guard.proofs.Scans.{walk-in, Block, block-start, block-more, block-all}
+use Rattle.guard.proofs.Scans.Given.{Gathered, gathered-start, gathered-join, gathered-skip, gathered-at}
+use Rattle.guard.proofs.Scans.Climb.{exec, parent-small, steps-left, Climbing, climbing-start, climbing-more, climbing-all}
+use Rattle.guard.proofs.Scans.Kin.{kin-at, kin-root, kin-child, base-root, base-other}
+use Rattle.guard.proofs.Sweeps.{mapped, long, roles-from, roles-more, sessions-more, swept-entity, swept-role}
+use Rattle.guard.proofs.Stepping.{Concerned, Found, seen-of, scanned-of, unsound, refuses, does}
+use Rattle.guard.proofs.Doing.{ten-on, session-done, create-done, delete-done, rename-done, rights-done, marks-done, unmake-done}
 use Rattle.guard.proofs.Tables.step.Statement.{statement}
 use Rattle.guard.proofs.Tables.step.Tie as tie
 
+abbrev Inv-loop : tie.InvT-loop
+Inv-loop q self x r e k s u p f o m w at given₀ i₀ left₀ given i left = Gathered self (w .held) at i left given
+
+abbrev μ-loop : tie.MeasureT-loop
+μ-loop q self x r e k s u p f o m w at given₀ i₀ left₀ given i left = left
+
+abbrev Inv-loop2 : tie.InvT-loop2
+Inv-loop2 q self x r e k s u p f o m w at given i left may₀ a₀ steps₀ may a steps = Climbing self given a₀ may₀ steps a may
+
+abbrev μ-loop2 : tie.MeasureT-loop2
+μ-loop2 q self x r e k s u p f o m w at given i left may₀ a₀ steps₀ may a steps = steps
+
+abbrev Inv-loop3 : tie.InvT-loop3
+Inv-loop3 q self x r e k s u p f o m w at i left may a steps child₀ kin base j₀ child j = Block (kinTest self kin (w .named) (q .name)) kin j child
+
+abbrev μ-loop3 : tie.MeasureT-loop3
+μ-loop3 q self x r e k s u p f o m w at i left may a steps child₀ kin base j₀ child j = 16 - j
+
+abbrev Inv-loop4 : tie.InvT-loop4
+Inv-loop4 self₀ x r e k o at i left may a steps child n call i2₀ self i2 = (i2 ≤ 16) × (self ≡ withRoles self₀ (mapped (clearRights e) i2 (self₀ .roles)))
+
+abbrev μ-loop4 : tie.MeasureT-loop4
+μ-loop4 self₀ x r e k o at i left may a steps child n call i2₀ self i2 = 16 - i2
+
+abbrev Inv-loop5 : tie.InvT-loop5
+Inv-loop5 self₀ x r e k o at i left may a steps child n call i2 j2₀ self j2 = (j2 ≤ 16) × (self ≡ withSessions self₀ (mapped (closeBoth e) j2 (self₀ .sessions)))
+
+abbrev μ-loop5 : tie.MeasureT-loop5
+μ-loop5 self₀ x r e k o at i left may a steps child n call i2 j2₀ self j2 = 16 - j2
+
+abbrev Inv-loop6 : tie.InvT-loop6
+Inv-loop6 self₀ x r e k o at i left may a steps child n call i2₀ self i2 = (i2 ≤ 16) × (self ≡ withSessions self₀ (mapped (dropRole r) i2 (self₀ .sessions)))
+
+abbrev μ-loop6 : tie.MeasureT-loop6
+μ-loop6 self₀ x r e k o at i left may a steps child n call i2₀ self i2 = 16 - i2
+
+-- a place of the function, or what is asked there, with these
+abbrev At : (tie.InvT-loop → tie.MeasureT-loop → tie.InvT-loop2 → tie.MeasureT-loop2 → tie.InvT-loop3 → tie.MeasureT-loop3 → tie.InvT-loop4 → tie.MeasureT-loop4 → tie.InvT-loop5 → tie.MeasureT-loop5 → tie.InvT-loop6 → tie.MeasureT-loop6 → Type 0) → Type 0
+At P = P Inv-loop μ-loop Inv-loop2 μ-loop2 Inv-loop3 μ-loop3 Inv-loop4 μ-loop4 Inv-loop5 μ-loop5 Inv-loop6 μ-loop6
+
 -- ---- what is known where the request is decided
-sounds : (c : tie.Else1) → sound (c .before .before .args .t1) ≡ true
+sounds : (c : At tie.Else1) → sound (c .before .before .args .t1) ≡ true
 sounds c = sym (c .before .is-sound .ensures) ∙ not-false _ (c .if1 .left)
 
-scan : (c : tie.Joined2) → asks (c .before .before .before .before .before .before .before .before .before .before .before .before .before .before .args .q .call) ≡ true
-    → Found (c .before .before .before .before .before .before .before .before .before .before .before .before .before .before .args .t1) (sessionAt (c .before .before .before .before .before .before .before .before .before .before .before .before .before .before .args .t1) (c .before .before .before .before .before .before .before .before .before .before .before .below16 .result) .roles) (sessionAt (c .before .before .before .before .before .before .before .before .before .before .before .before .before .before .args .t1) (c .before .before .before .before .before .before .before .before .before .before .before .below16 .result) .writing) (c .before .before .before .before .before .before .before .before .before .before .before .before .before .before .args .q) (c .before .before .before .before .before .before .before .before .before .below64 .result) (c .before .before .before .parent-of .result) (c .if2 .w)
-scan c a = ⊎-elim (λ y. rw (y .2) (y .1 .ensures)) (λ y. absurd (clash _ (c .before .asks13 .ensures ∙ a) (y .0 .left))) (c .if2 .came)
+children : (c : At tie.Joined3) → (c .before .before .before .before .before .before .before .scope-of .result) .kids ≡ true → c .if3 .child ≡ some 64 (kinTest (c .before .before .before .before .before .before .before .before .before .before .before .before .before .before .before .before .before .before .before .before .args .t1) ((c .before .before .before .before .before .before .before .scope-of .result) .kin) ((c .before .before .before .before .before .before .before .scope-of .result) .named) ((c .before .before .before .before .before .before .before .before .before .before .before .before .before .before .before .before .before .before .before .before .args .q) .name))
+children c on = ⊎-elim
+    (λ y. y .3 ∙ block-all _ _ (c .before .before .before .before .before .before .before .before .before .before .before .before .before .before .before .before .before .before .before .before .args .t1) (sounds (c .before .before .before .before .before .before .before .before .before .before .before .before .before .before .before .before .before .before)) (c .before .before .before .before .before .before .before .scope-of .ensures .kinIn) (kin-child _ _ _ _) _ _ (y .1 .inv) (omega (arith, y .2 .left)))
+    (λ y. absurd (clash _ on (y .0 .left)))
+    (c .if3 .came)
 
-decided : (c : tie.After-judge) → Decided (ruleOf (c .before .before .before .before .before .before .before .before .before .before .before .before .before .before .before .before .args .q)) (c .before .before .before .before .before .before .before .before .before .before .before .before .before .before .before .before .args .t1) (c .before .before .before .before .before .before .before .before .before .before .before .before .before .before .before .before .args .q) (c .judge .result)
-decided c =
-    c .judge .ensures _ (sounds (c .before .before .before .before .before .before .before .before .before .before .before .before .before .before))
-    (seen-of _ _ _ _ _ _ _ _ (c .before .before .before .before .before .before .before .before .before .before .before .before .before .below16 .ensures) (c .before .before .before .before .before .before .before .before .before .before .before .before .below162 .ensures) (c .before .before .before .before .before .before .before .before .before .before .before .below64 .ensures) (c .before .before .before .before .before .before .before .before .before .before .below163 .ensures))
-    (scanned-of _ _ _ _ _ _ _ _ (c .before .before .before .before .before .before .before .before .before .before .before .before .before .below16 .ensures) (c .before .before .before .before .before .before .before .before .before .before .before .before .below162 .ensures) (c .before .before .before .before .before .before .before .before .before .before .before .below64 .ensures) (c .before .before .before .before .before .before .before .before .before .before .below163 .ensures)
-    (c .before .before .before .before .before .parent-of .ensures) (scan (c .before .before)))
-
-within : (c : tie.Then3) → Within (c .before .judge .result)
-within c = decided (c .before) .within (c .if3 .taken)
-
-is-sound-requires : tie.Need-is-sound-requires
-is-sound-requires c κs = search needs
-
-returns : tie.Need-returns
-returns c = unsound _ _ (sym (c .before .is-sound .ensures) ∙ not-true _ (c .if1 .taken))
-
-below16-requires : tie.Need-below16-requires
-below16-requires c κs = search needs
-
-below16-requires-2 : tie.Need-below16-requires-2
-below16-requires-2 c κs = search needs
-
-below64-requires : tie.Need-below64-requires
-below64-requires c κs = search needs
-
-below16-requires-3 : tie.Need-below16-requires-3
-below16-requires-3 c κs = search needs
-
-mul-s : tie.Need-mul-s
-mul-s c = search needs
-
-element-copy-out-s : tie.Need-element-copy-out-s
-element-copy-out-s c = search needs
-
-mul-u : tie.Need-mul-u
-mul-u c = search needs
-
-element-copy-out-u : tie.Need-element-copy-out-u
-element-copy-out-u c = search needs
-
-mul-p : tie.Need-mul-p
-mul-p c = search needs
-
-element-copy-out-p : tie.Need-element-copy-out-p
-element-copy-out-p c = search needs
-
-mul-f : tie.Need-mul-f
-mul-f c = search needs
-
-element-copy-out-f : tie.Need-element-copy-out-f
-element-copy-out-f c = search needs
-
-parent-of-requires : tie.Need-parent-of-requires
-parent-of-requires c κs = parent-small _ (sounds (c .before .before .before .before .before .before .before .before)) _ (search needs)
-
-mul-m : tie.Need-mul-m
-mul-m c = search needs
-
-element-copy-out-m : tie.Need-element-copy-out-m
-element-copy-out-m c = search needs
-
-asks13-requires : tie.Need-asks13-requires
-asks13-requires c κs = search needs
-
-scanned-requires : tie.Need-scanned-requires
-scanned-requires c κs =
+found : (c : At tie.Joined3) → Found (c .before .before .before .before .before .before .before .before .before .before .before .before .before .before .before .before .before .before .before .before .args .t1) (c .before .before .before .before .before .before .before .scope-of .result) ((c .before .before .before .before .before .before .before .before .before .before .before .before .before .before .before .before .before .before .before .before .args .q) .name) (c .before .before .before .before .before .before .loop .given) (c .before .before .loop2 .may && isRoot (c .before .before .loop2 .a)) (c .if3 .child)
+found c =
     record {
-      isSound = sounds (c .before .before .before .before .before .before .before .before .before .before .before .before);
-      asked = sym (c .before .asks13 .ensures) ∙ c .if2 .taken;
-      entityIn = c .before .before .before .before .before .before .before .before .before .below64 .ensures .small;
-      parentIn = c .before .before .before .parent-of .ensures .small;
+      gathered = gathered-at _ _ _ _ _ _ (c .before .before .before .before .before .before .loop .inv) (c .before .before .before .before .before .loop-test .left);
+      way = climbing-all _ _ _ _ _ _ _ (c .before .before .loop2 .inv) (c .before .loop2-test .left) ∙ ap (λ (b : Bool). c .before .before .before .before .before .before .before .scope-of .result .opened && b && climbs (parentOf (c .before .before .before .before .before .before .before .before .before .before .before .before .before .before .before .before .before .before .before .before .args .t1)) (exec (c .before .before .before .before .before .before .loop .given)) 16 (c .before .before .before .before .before .before .before .scope-of .result .from)) (c .before .before .before .before .contains8 .ensures);
+      kids = children c;
     }
 
-element-copy-out-rights : tie.Need-element-copy-out-rights
-element-copy-out-rights c = search needs
+concerned : (c : At tie.After-below163) → Concerned (c .before .before .before .before .before .before .args .q) (c .before .before .before .below16 .result) (c .before .before .below162 .result) (c .before .below64 .result) (c .below163 .result)
+concerned c = record { seat = c .before .before .before .below16 .ensures; role = c .before .before .below162 .ensures; entity = c .before .below64 .ensures; user = c .below163 .ensures }
 
-judge-requires : tie.Need-judge-requires
+abbrev tables : At tie.After-judge → Tables
+tables c = c .before .before .before .before .before .before .before .before .before .before .before .before .before .before .before .before .before .before .before .before .before .args .t1
+
+abbrev asked : At tie.After-judge → Request
+asked c = c .before .before .before .before .before .before .before .before .before .before .before .before .before .before .before .before .before .before .before .before .before .args .q
+
+judged : (c : At tie.After-judge) → c .judge .result ≡ number (ruleOf (asked c)) (tables c) (asked c)
+judged c =
+    c .judge .ensures _
+    (seen-of _ _ _ _ _ _ _ _ _ (concerned (c .before .before .before .before .before .before .before .before .before .before .before .before .before .before .before)))
+    (scanned-of _ _ _ _ _ _ _ _ _ (concerned (c .before .before .before .before .before .before .before .before .before .before .before .before .before .before .before)) (sounds (c .before .before .before .before .before .before .before .before .before .before .before .before .before .before .before .before .before .before .before)) (c .before .before .before .before .before .before .before .before .before .before .parent-of .ensures) _ (c .before .before .before .before .before .before .before .before .scope-of .ensures) _ (found (c .before)))
+
+sure : (c : At tie.After-judge) → sound (tables c) ≡ true
+sure c = sounds (c .before .before .before .before .before .before .before .before .before .before .before .before .before .before .before .before .before .before .before)
+
+near : (c : At tie.After-judge) → Concerned (asked c) (c .before .before .before .before .before .before .before .before .before .before .before .before .before .before .before .before .before .before .below16 .result) (c .before .before .before .before .before .before .before .before .before .before .before .before .before .before .before .before .before .below162 .result) (c .before .before .before .before .before .before .before .before .before .before .before .before .before .before .before .before .below64 .result) (c .before .before .before .before .before .before .before .before .before .before .before .before .before .before .before .below163 .result)
+near c = concerned (c .before .before .before .before .before .before .before .before .before .before .before .before .before .before .before)
+
+bounds : (c : At tie.After-judge) → (c .before .before .before .before .before .before .before .before .before .before .before .before .before .before .before .before .before .before .below16 .result < 16) × (c .before .before .before .before .before .before .before .before .before .before .before .before .before .before .before .before .before .below162 .result < 16) × (c .before .before .before .before .before .before .before .before .before .before .before .before .before .before .before .before .below64 .result < 64) × (c .before .before .before .before .before .before .before .before .before .before .before .before .before .before .before .below163 .result < 16)
+bounds c = (c .before .before .before .before .before .before .before .before .before .before .before .before .before .before .before .before .before .before .below16 .ensures .small, c .before .before .before .before .before .before .before .before .before .before .before .before .before .before .before .before .before .below162 .ensures .small, c .before .before .before .before .before .before .before .before .before .before .before .before .before .before .before .before .below64 .ensures .small, c .before .before .before .before .before .before .before .before .before .before .before .before .before .before .before .below163 .ensures .small)
+
+swept-delete : (c : At tie.After-loop5) → c .before .loop5 .self ≡ ruleOf (asked (c .before .before .before .before .before .before .before .before .before)) .effect (asked (c .before .before .before .before .before .before .before .before .before)) (tables (c .before .before .before .before .before .before .before .before .before))
+swept-delete c =
+    let roles : length ((tables (c .before .before .before .before .before .before .before .before .before)) .roles) ≡ 16 = search (long, c .before .before .before .before .before .before .before .before .before .before .before .before .before .before .before .before .before .before .before .before .before .before .before .before .before .before .before .before .before .before .good .0) in
+    let sessions : length ((tables (c .before .before .before .before .before .before .before .before .before)) .sessions) ≡ 16 = search (long, c .before .before .before .before .before .before .before .before .before .before .before .before .before .before .before .before .before .before .before .before .before .before .before .before .before .before .before .before .before .before .good .0) in
+    let i : c .before .before .before .loop4 .i2 ≡ 16 = omega arith in
+    let j : c .before .loop5 .j2 ≡ 16 = omega arith in
+    swept-entity (tables (c .before .before .before .before .before .before .before .before .before)) (c .before .before .before .before .before .before .before .before .before .before .before .before .before .before .before .before .before .before .before .before .before .before .before .before .before .below64 .result) (c .before .before .before .before .empty .result) (c .before .before .before .loop4 .self) (c .before .loop5 .self) (c .before .before .before .before .empty .ensures) roles sessions (rw i at (c .before .before .before .loop4 .inv .1)) (rw j at (c .before .loop5 .inv .1))
+    ∙ delete-done _ _ (sym (c .before .before .before .before .before .before .before .before .if4 .taken) ∙ judged (c .before .before .before .before .before .before .before .before .before)) _ _ _ _ (near (c .before .before .before .before .before .before .before .before .before)) (c .before .before .before .before .before .if7 .taken)
+
+swept-unmake : (c : At tie.After-loop6) → c .before .loop6 .self ≡ ruleOf (asked (c .before .before .before .before .before .before .before .before .before)) .effect (asked (c .before .before .before .before .before .before .before .before .before)) (tables (c .before .before .before .before .before .before .before .before .before))
+swept-unmake c =
+    let sessions : length ((tables (c .before .before .before .before .before .before .before .before .before)) .sessions) ≡ 16 = search (long, c .before .before .before .before .before .before .before .before .before .before .before .before .before .before .before .before .before .before .before .before .before .before .before .before .before .before .before .before .before .before .good .0) in
+    let i : c .before .loop6 .i2 ≡ 16 = omega arith in
+    swept-role (tables (c .before .before .before .before .before .before .before .before .before)) (c .before .before .before .before .before .before .before .before .before .before .before .before .before .before .before .before .before .before .before .before .before .before .before .before .before .before .below162 .result) (c .before .before .empty2 .result) (c .before .loop6 .self) (c .before .before .empty2 .ensures) sessions (rw i at (c .before .loop6 .inv .1))
+    ∙ unmake-done _ _ (sym (c .before .before .before .before .before .before .before .before .if4 .taken) ∙ judged (c .before .before .before .before .before .before .before .before .before)) _ _ _ _ (near (c .before .before .before .before .before .before .before .before .before)) (c .before .before .before .if9 .left)
+
+is-sound-requires : At tie.Need-is-sound-requires
+is-sound-requires c κs = search needs
+
+returns : At tie.Need-returns
+returns c = unsound _ _ (sym (c .before .is-sound .ensures) ∙ not-true _ (c .if1 .taken))
+
+below16-requires : At tie.Need-below16-requires
+below16-requires c κs = search needs
+
+below16-requires-2 : At tie.Need-below16-requires-2
+below16-requires-2 c κs = search needs
+
+below64-requires : At tie.Need-below64-requires
+below64-requires c κs = search needs
+
+below16-requires-3 : At tie.Need-below16-requires-3
+below16-requires-3 c κs = search needs
+
+mul-s : At tie.Need-mul-s
+mul-s c = omega (arith, c .before .before .before .below16 .ensures .small)
+
+element-copy-out-s : At tie.Need-element-copy-out-s
+element-copy-out-s c = c .before .before .before .below16 .ensures .small
+
+mul-u : At tie.Need-mul-u
+mul-u c = omega (arith, c .before .below163 .ensures .small)
+
+element-copy-out-u : At tie.Need-element-copy-out-u
+element-copy-out-u c = c .before .below163 .ensures .small
+
+mul-p : At tie.Need-mul-p
+mul-p c = omega (arith, c .before .before .before .before .below162 .ensures .small)
+
+element-copy-out-p : At tie.Need-element-copy-out-p
+element-copy-out-p c = c .before .before .before .before .below162 .ensures .small
+
+mul-f : At tie.Need-mul-f
+mul-f c = omega (arith, c .before .before .before .before .below64 .ensures .small)
+
+element-copy-out-f : At tie.Need-element-copy-out-f
+element-copy-out-f c = c .before .before .before .before .below64 .ensures .small
+
+parent-of-requires : At tie.Need-parent-of-requires
+parent-of-requires c κs = parent-small _ (sounds (c .before .before .before .before .before .before .before .before)) _ (c .before .before .before .before .before .below64 .ensures .small)
+
+mul-m : At tie.Need-mul-m
+mul-m c = omega (arith, c .parent-of .ensures .small)
+
+element-copy-out-m : At tie.Need-element-copy-out-m
+element-copy-out-m c = c .parent-of .ensures .small
+
+scope-of-requires : At tie.Need-scope-of-requires
+scope-of-requires c κs = (c .before .before .before .before .before .before .before .below64 .ensures .small, c .before .parent-of .ensures .small)
+
+mul-i : At tie.Need-mul-i
+mul-i c = omega (arith, c .scope-of .ensures .atIn)
+
+loop-holds : At tie.Need-loop-holds
+loop-holds c = gathered-start _ _ _ _ (c .scope-of .ensures .atIn) (c .scope-of .ensures .left)
+
+has16-requires : At tie.Need-has16-requires
+has16-requires c κs = search needs
+
+add-i : At tie.Need-add-i
+add-i c = omega (arith, c .before .before .loop .inv .walk .most)
+
+mul-h : At tie.Need-mul-h
+mul-h c = omega (arith, walk-in _ _ _ _ (c .before .before .before .loop .inv .walk) (c .before .before .before .before .scope-of .ensures .heldIn) (c .before .before .loop-test .taken))
+
+element-copy-out-h : At tie.Need-element-copy-out-h
+element-copy-out-h c = walk-in _ _ _ _ (c .before .before .before .loop .inv .walk) (c .before .before .before .before .scope-of .ensures .heldIn) (c .before .before .loop-test .taken)
+
+joined-requires : At tie.Need-joined-requires
+joined-requires c κs = search needs
+
+loop-less : At tie.Need-loop-less
+loop-less c = omega (arith, c .before .before .before .before .before .before .loop-test .taken)
+
+loop-again : At tie.Need-loop-again
+loop-again c = gathered-join _ _ _ _ _ _ (c .before .before .before .before .before .before .before .loop .inv) (sym (c .before .before .before .before .before .has16 .ensures) ∙ c .before .before .before .before .if2 .taken) (walk-in _ _ _ _ (c .before .before .before .before .before .before .before .loop .inv .walk) (c .before .before .before .before .before .before .before .before .scope-of .ensures .heldIn) (c .before .before .before .before .before .before .loop-test .taken)) _ (c .joined .ensures)
+
+loop-less-2 : At tie.Need-loop-less-2
+loop-less-2 c = omega (arith, c .before .before .loop-test .taken)
+
+loop-again-2 : At tie.Need-loop-again-2
+loop-again-2 c = gathered-skip _ _ _ _ _ _ (c .before .before .before .loop .inv) (sym (c .before .has16 .ensures) ∙ c .if2 .left) (walk-in _ _ _ _ (c .before .before .before .loop .inv .walk) (c .before .before .before .before .scope-of .ensures .heldIn) (c .before .before .loop-test .taken))
+
+array-read-contains8 : At tie.Need-array-read-contains8
+array-read-contains8 c = omega (arith, c .before .before .scope-of .ensures .atIn, c .before .loop .inv .long)
+
+contains8-requires : At tie.Need-contains8-requires
+contains8-requires c κs = search needs
+
+loop2-holds : At tie.Need-loop2-holds
+loop2-holds c = climbing-start _ _ _ _ (c .before .before .before .before .scope-of .ensures .fromIn)
+
+mul-h-2 : At tie.Need-mul-h-2
+mul-h-2 c = omega (arith, c .before .loop2 .inv .inside)
+
+element-copy-out-h-2 : At tie.Need-element-copy-out-h-2
+element-copy-out-h-2 c = c .before .loop2 .inv .inside
+
+cast-a : At tie.Need-cast-a
+cast-a c = search needs
+
+array-read-contains8-2 : At tie.Need-array-read-contains8-2
+array-read-contains8-2 c = omega (arith, parent-small _ (sounds (c .before .before .before .before .before .before .before .before .before .before .before .before .before .before .before .before .before .before .before)) _ (c .before .before .before .loop2 .inv .inside), c .before .before .before .before .before .before .before .loop .inv .long)
+
+contains8-requires-2 : At tie.Need-contains8-requires-2
+contains8-requires-2 c κs = search needs
+
+sub-steps : At tie.Need-sub-steps
+sub-steps c = steps-left (c .before .before .before .before .loop2 .steps) (c .before .before .before .before .loop2 .a) (c .before .before .before .loop2-test .taken)
+
+loop2-less : At tie.Need-loop2-less
+loop2-less c = omega (arith, steps-left (c .before .before .before .before .loop2 .steps) (c .before .before .before .before .loop2 .a) (c .before .before .before .loop2-test .taken))
+
+loop2-again : At tie.Need-loop2-again
+loop2-again c = climbing-more _ _ _ _ _ _ _ (c .before .before .before .before .loop2 .inv) (sounds (c .before .before .before .before .before .before .before .before .before .before .before .before .before .before .before .before .before .before .before .before)) _ (c .before .before .before .loop2-test .taken) (c .contains82 .ensures)
+
+mul-base : At tie.Need-mul-base
+mul-base c = omega (arith, c .before .before .before .before .before .before .before .scope-of .ensures .kinIn)
+
+loop3-holds : At tie.Need-loop3-holds
+loop3-holds c = block-start _ _ (kin-root _ _ _ _ _ (base-root (c .before .before .before .before .before .before .before .scope-of .result .kin)))
+
+add-h : At tie.Need-add-h
+add-h c = omega (arith, c .before .before .before .before .before .before .before .before .before .scope-of .ensures .kinIn)
+
+mul-h-3 : At tie.Need-mul-h-3
+mul-h-3 c = omega (arith, c .before .before .before .before .before .before .before .before .before .scope-of .ensures .kinIn)
+
+element-copy-out-h-3 : At tie.Need-element-copy-out-h-3
+element-copy-out-h-3 c = omega (arith, c .before .before .before .before .before .before .before .before .before .scope-of .ensures .kinIn)
+
+is-kin-requires : At tie.Need-is-kin-requires
+is-kin-requires c κs = c .before .before .before .before .before .before .before .before .before .before .scope-of .ensures .kinIn
+
+add-j : At tie.Need-add-j
+add-j c = omega arith
+
+loop3-less : At tie.Need-loop3-less
+loop3-less c = omega arith
+
+loop3-again : At tie.Need-loop3-again
+loop3-again c = block-more _ _ _ _ _ (c .before .before .before .loop3 .inv) (c .is-kin .ensures ∙ kin-at _ _ _ _ _ (base-other _ _ (c .before .before .before .loop3 .inv .least) (c .before .before .loop3-test .taken))) (c .before .before .loop3-test .taken)
+
+judge-requires : At tie.Need-judge-requires
 judge-requires c κs = search needs
 
-mul-s2 : tie.Need-mul-s2
-mul-s2 c = let h = within (c .before .before .before) in search needs
+after-requires : At tie.Need-after-requires
+after-requires c κs = (near (c .before .before) .role .small, near (c .before .before) .entity .small)
 
-element-set-from-s2 : tie.Need-element-set-from-s2
-element-set-from-s2 c = let h = within (c .before .before .before) in search needs
+mul-s2 : At tie.Need-mul-s2
+mul-s2 c = omega (arith, near (c .before .before .before) .seat .small)
 
-mul-p2 : tie.Need-mul-p2
-mul-p2 c = let h = within (c .before .before .before) in search needs
+element-set-from-s2 : At tie.Need-element-set-from-s2
+element-set-from-s2 c = near (c .before .before .before) .seat .small
 
-element-copy-out-p2 : tie.Need-element-copy-out-p2
-element-copy-out-p2 c = let h = within (c .before .before .before) in search needs
+made-requires : At tie.Need-made-requires
+made-requires c κs = search needs
 
-element-write-p2 : tie.Need-element-write-p2
-element-write-p2 c = let h = within (c .before .before .before .before) in search needs
+mul-f2 : At tie.Need-mul-f2
+mul-f2 c = omega (arith, near (c .before .before .before .before) .entity .small)
 
-mul-t51 : tie.Need-mul-t51
-mul-t51 c = let h = within (c .before .before .before .before) in search needs
+element-set-from-f2 : At tie.Need-element-set-from-f2
+element-set-from-f2 c = near (c .before .before .before .before) .entity .small
 
-element-set-from-self : tie.Need-element-set-from-self
-element-set-from-self c = let h = within (c .before .before .before .before) in search needs
+mul-p2 : At tie.Need-mul-p2
+mul-p2 c = omega (arith, near (c .before .before .before .before) .role .small)
 
-mul-f2 : tie.Need-mul-f2
-mul-f2 c = let h = within (c .before .before .before .before .before) in search needs
+element-copy-out-p2 : At tie.Need-element-copy-out-p2
+element-copy-out-p2 c = near (c .before .before .before .before) .role .small
 
-element-set-from-f2 : tie.Need-element-set-from-f2
-element-set-from-f2 c = let h = within (c .before .before .before .before .before) in search needs
+element-copy-out-join8 : At tie.Need-element-copy-out-join8
+element-copy-out-join8 c = near (c .before .before .before .before .before) .entity .small
 
-emptied-requires : tie.Need-emptied-requires
-emptied-requires c κs = within (c .before .before)
+join8-requires : At tie.Need-join8-requires
+join8-requires c κs = search needs
 
-returns-2 : tie.Need-returns-2
-unfolding applied stored
-returns-2 c = does _ _ _ (sounds (c .before .before .before .before .before .before .before .before .before .before .before .before .before .before .before .before .before .before .before .before)) (decided (c .before .before .before .before .before .before)) (c .before .before .before .before .before .if3 .taken) _ (rw (eq-eqb _ _ (c .before .before .before .if4 .taken)))
+element-write-p2 : At tie.Need-element-write-p2
+element-write-p2 c = near (c .before .before .before .before .before .before .before) .entity .small
 
-returns-3 : tie.Need-returns-3
-unfolding applied
-returns-3 c = does _ _ _ (sounds (c .before .before .before .before .before .before .before .before .before .before .before .before .before .before .before .before .before .before)) (decided (c .before .before .before .before)) (c .before .before .before .if3 .taken) _ (c .emptied .ensures ∙ rw (ne-eqb _ _ (c .before .if4 .left)))
+mul-t99 : At tie.Need-mul-t99
+mul-t99 c = omega (arith, near (c .before .before .before .before .before .before .before) .role .small)
 
-returns-4 : tie.Need-returns-4
-returns-4 c = refuses _ _ _ (sounds (c .before .before .before .before .before .before .before .before .before .before .before .before .before .before .before)) (decided (c .before)) (c .if3 .left)
+element-set-from-self : At tie.Need-element-set-from-self
+element-set-from-self c = near (c .before .before .before .before .before .before .before) .role .small
+
+empty-requires : At tie.Need-empty-requires
+empty-requires c κs = search needs
+
+mul-f2-2 : At tie.Need-mul-f2-2
+mul-f2-2 c = omega (arith, near (c .before .before .before .before .before) .entity .small)
+
+element-set-from-f2-2 : At tie.Need-element-set-from-f2-2
+element-set-from-f2-2 c = near (c .before .before .before .before .before) .entity .small
+
+mul-i2 : At tie.Need-mul-i2
+mul-i2 c = omega (arith, near (c .before .before .before .before .before) .entity .small)
+
+loop4-holds : At tie.Need-loop4-holds
+loop4-holds c = (omega (arith, near (c .before .before .before .before .before) .entity .small), roles-from (tables (c .before .before .before .before .before)) _ (sure (c .before .before .before .before .before)) (near (c .before .before .before .before .before) .entity .small) _ refl)
+
+mul-h-4 : At tie.Need-mul-h-4
+mul-h-4 c = omega (arith, c .loop4-test .taken)
+
+element-copy-out-h-4 : At tie.Need-element-copy-out-h-4
+element-copy-out-h-4 c = c .loop4-test .taken
+
+element-write-h : At tie.Need-element-write-h
+element-write-h c = near (c .before .before .before .before .before .before .before .before) .entity .small
+
+mul-t118 : At tie.Need-mul-t118
+mul-t118 c = omega (arith, c .before .loop4-test .taken)
+
+element-set-from-self-2 : At tie.Need-element-set-from-self-2
+element-set-from-self-2 c = c .before .loop4-test .taken
+
+add-i2 : At tie.Need-add-i2
+add-i2 c = let h = bounds (c .before .before .before .before .before .before .before .before) in search needs
+
+loop4-less : At tie.Need-loop4-less
+loop4-less c = omega arith
+
+loop4-again : At tie.Need-loop4-again
+unfolding clearRights setRights
+loop4-again c = (omega arith, roles-more (clearRights _) _ _ _ (c .before .before .loop4 .inv .1))
+
+loop5-holds : At tie.Need-loop5-holds
+loop5-holds c = (omega arith, refl)
+
+mul-h-5 : At tie.Need-mul-h-5
+mul-h-5 c = omega (arith, c .loop5-test .taken)
+
+element-copy-out-h-5 : At tie.Need-element-copy-out-h-5
+element-copy-out-h-5 c = c .loop5-test .taken
+
+cast-without64 : At tie.Need-cast-without64
+cast-without64 c = let h = bounds (c .before .before .before .before .before .before .before .before .before .before) in search needs
+
+without64-requires : At tie.Need-without64-requires
+without64-requires c κs = search needs
+
+cast-without64-2 : At tie.Need-cast-without64-2
+cast-without64-2 c = let h = bounds (c .before .before .before .before .before .before .before .before .before .before .before) in search needs
+
+without64-requires-2 : At tie.Need-without64-requires-2
+without64-requires-2 c κs = let h = bounds (c .before .before .before .before .before .before .before .before .before .before .before) in search needs
+
+mul-h-6 : At tie.Need-mul-h-6
+mul-h-6 c = omega (arith, c .before .before .before .loop5-test .taken)
+
+element-set-from-h : At tie.Need-element-set-from-h
+element-set-from-h c = c .before .before .before .loop5-test .taken
+
+add-j2 : At tie.Need-add-j2
+add-j2 c = let h = bounds (c .before .before .before .before .before .before .before .before .before .before .before .before) in search needs
+
+loop5-less : At tie.Need-loop5-less
+loop5-less c = omega arith
+
+loop5-again : At tie.Need-loop5-again
+unfolding closeBoth
+loop5-again c = (omega arith, rw (c .before .without64 .ensures, c .without642 .ensures) (sessions-more (closeBoth _) _ _ _ (c .before .before .before .before .loop5 .inv .1)))
+
+renamed-requires : At tie.Need-renamed-requires
+renamed-requires c κs = search needs
+
+mul-f2-3 : At tie.Need-mul-f2-3
+mul-f2-3 c = omega (arith, near (c .before .before .before .before .before .before) .entity .small)
+
+element-set-from-f2-3 : At tie.Need-element-set-from-f2-3
+element-set-from-f2-3 c = near (c .before .before .before .before .before .before) .entity .small
+
+mul-p2-2 : At tie.Need-mul-p2-2
+mul-p2-2 c = omega (arith, near (c .before .before .before .before .before .before) .role .small)
+
+element-copy-out-p2-2 : At tie.Need-element-copy-out-p2-2
+element-copy-out-p2-2 c = near (c .before .before .before .before .before .before) .role .small
+
+element-copy-out-rights-after : At tie.Need-element-copy-out-rights-after
+element-copy-out-rights-after c = near (c .before .before .before .before .before .before .before .before) .entity .small
+
+rights-after-requires : At tie.Need-rights-after-requires
+rights-after-requires c κs = search needs
+
+element-write-p2-2 : At tie.Need-element-write-p2-2
+element-write-p2-2 c = near (c .before .before .before .before .before .before .before .before .before .before) .entity .small
+
+mul-t151 : At tie.Need-mul-t151
+mul-t151 c = omega (arith, near (c .before .before .before .before .before .before .before .before .before .before) .role .small)
+
+element-set-from-self-3 : At tie.Need-element-set-from-self-3
+element-set-from-self-3 c = near (c .before .before .before .before .before .before .before .before .before .before) .role .small
+
+users-after-requires : At tie.Need-users-after-requires
+users-after-requires c κs = near (c .before .before .before .before .before .before .before .before) .user .small
+
+mul-t157 : At tie.Need-mul-t157
+mul-t157 c = omega (arith, near (c .before .before .before .before .before .before .before .before .before) .role .small)
+
+element-set-from-self-4 : At tie.Need-element-set-from-self-4
+element-set-from-self-4 c = near (c .before .before .before .before .before .before .before .before .before) .role .small
+
+empty-requires-2 : At tie.Need-empty-requires-2
+empty-requires-2 c κs = let h = bounds (c .before .before .before .before .before .before) in search needs
+
+mul-p2-3 : At tie.Need-mul-p2-3
+mul-p2-3 c = omega (arith, near (c .before .before .before .before .before .before .before) .role .small)
+
+element-set-from-p2 : At tie.Need-element-set-from-p2
+element-set-from-p2 c = near (c .before .before .before .before .before .before .before) .role .small
+
+loop6-holds : At tie.Need-loop6-holds
+loop6-holds c = (omega arith, refl)
+
+mul-h-7 : At tie.Need-mul-h-7
+mul-h-7 c = omega (arith, c .loop6-test .taken)
+
+element-copy-out-h-6 : At tie.Need-element-copy-out-h-6
+element-copy-out-h-6 c = c .loop6-test .taken
+
+cast-without16 : At tie.Need-cast-without16
+cast-without16 c = let h = bounds (c .before .before .before .before .before .before .before .before .before .before) in search needs
+
+without16-requires : At tie.Need-without16-requires
+without16-requires c κs = search needs
+
+mul-h-8 : At tie.Need-mul-h-8
+mul-h-8 c = omega (arith, c .before .before .loop6-test .taken)
+
+element-set-from-h-2 : At tie.Need-element-set-from-h-2
+element-set-from-h-2 c = c .before .before .loop6-test .taken
+
+add-i2-2 : At tie.Need-add-i2-2
+add-i2-2 c = let h = bounds (c .before .before .before .before .before .before .before .before .before .before .before) in search needs
+
+loop6-less : At tie.Need-loop6-less
+loop6-less c = omega arith
+
+loop6-again : At tie.Need-loop6-again
+unfolding dropRole
+loop6-again c = (omega arith, rw (c .without16 .ensures) (sessions-more (dropRole _) _ _ _ (c .before .before .before .loop6 .inv .1)))
+
+returns-2 : At tie.Need-returns-2
+returns-2 c = does _ _ _ (sure (c .before .before .before)) (judged (c .before .before .before)) (c .before .before .if4 .taken) _ (session-done _ _ (sym (c .before .before .if4 .taken) ∙ judged (c .before .before .before)) _ _ _ _ (near (c .before .before .before)) (c .before .if5 .taken) _ (c .after .ensures))
+
+returns-3 : At tie.Need-returns-3
+returns-3 c = does _ _ _ (sure (c .before .before .before .before .before .before .before)) (judged (c .before .before .before .before .before .before .before)) (c .before .before .before .before .before .before .if4 .taken) _ (create-done _ _ (sym (c .before .before .before .before .before .before .if4 .taken) ∙ judged (c .before .before .before .before .before .before .before)) _ _ _ _ (near (c .before .before .before .before .before .before .before)) (c .before .before .before .before .if6 .taken) _ _ (c .before .before .before .made .ensures) (c .join8 .ensures))
+
+returns-4 : At tie.Need-returns-4
+returns-4 c = does _ _ _ (sure (c .before .before .before .before .before .before .before .before .before)) (judged (c .before .before .before .before .before .before .before .before .before)) (c .before .before .before .before .before .before .before .before .if4 .taken) _ (swept-delete (c))
+
+returns-5 : At tie.Need-returns-5
+returns-5 c = does _ _ _ (sure (c .before .before .before .before .before .before)) (judged (c .before .before .before .before .before .before)) (c .before .before .before .before .before .if4 .taken) _ (rename-done _ _ (sym (c .before .before .before .before .before .if4 .taken) ∙ judged (c .before .before .before .before .before .before)) _ _ _ _ (near (c .before .before .before .before .before .before)) (c .before .if8 .taken) _ (c .renamed .ensures))
+
+returns-6 : At tie.Need-returns-6
+returns-6 c = does _ _ _ (sure (c .before .before .before .before .before .before .before .before .before .before)) (judged (c .before .before .before .before .before .before .before .before .before .before)) (c .before .before .before .before .before .before .before .before .before .if4 .taken) _ (rights-done _ _ (sym (c .before .before .before .before .before .before .before .before .before .if4 .taken) ∙ judged (c .before .before .before .before .before .before .before .before .before .before)) _ _ _ _ (near (c .before .before .before .before .before .before .before .before .before .before)) (ten-on _ (c .before .before .before .before .before .before .before .before .if5 .left) (c .before .before .before .before .before .before .before .if6 .left) (c .before .before .before .before .before .before .if7 .left) (c .before .before .before .before .before .if8 .left)) (c .before .before .if10 .taken) _ (c .rights-after .ensures))
+
+returns-7 : At tie.Need-returns-7
+returns-7 c = does _ _ _ (sure (c .before .before .before .before .before .before .before .before .before)) (judged (c .before .before .before .before .before .before .before .before .before)) (c .before .before .before .before .before .before .before .before .if4 .taken) _ (marks-done _ _ (sym (c .before .before .before .before .before .before .before .before .if4 .taken) ∙ judged (c .before .before .before .before .before .before .before .before .before)) _ _ _ _ (near (c .before .before .before .before .before .before .before .before .before)) (sure (c .before .before .before .before .before .before .before .before .before)) (omega (arith, c .before .if10 .left)) (c .before .before .before .if9 .taken) _ (c .users-after .ensures))
+
+returns-8 : At tie.Need-returns-8
+returns-8 c = does _ _ _ (sure (c .before .before .before .before .before .before .before .before .before)) (judged (c .before .before .before .before .before .before .before .before .before)) (c .before .before .before .before .before .before .before .before .if4 .taken) _ (swept-unmake (c))
+
+returns-9 : At tie.Need-returns-9
+returns-9 c = refuses _ _ _ (sure (c .before)) (judged (c .before)) (c .if4 .left)
 
 pub step-spec : {M : Type 1} → statement M
 step-spec =
     tie.close
     (tie.spec
+    Inv-loop
+    μ-loop
+    Inv-loop2
+    μ-loop2
+    Inv-loop3
+    μ-loop3
+    Inv-loop4
+    μ-loop4
+    Inv-loop5
+    μ-loop5
+    Inv-loop6
+    μ-loop6
     is-sound-requires
     returns
     below16-requires
@@ -163,20 +530,108 @@ step-spec =
     parent-of-requires
     mul-m
     element-copy-out-m
-    asks13-requires
-    scanned-requires
-    element-copy-out-rights
+    scope-of-requires
+    mul-i
+    loop-holds
+    has16-requires
+    add-i
+    mul-h
+    element-copy-out-h
+    joined-requires
+    loop-less
+    loop-again
+    loop-less-2
+    loop-again-2
+    array-read-contains8
+    contains8-requires
+    loop2-holds
+    mul-h-2
+    element-copy-out-h-2
+    cast-a
+    array-read-contains8-2
+    contains8-requires-2
+    sub-steps
+    loop2-less
+    loop2-again
+    mul-base
+    loop3-holds
+    add-h
+    mul-h-3
+    element-copy-out-h-3
+    is-kin-requires
+    add-j
+    loop3-less
+    loop3-again
     judge-requires
+    after-requires
     mul-s2
     element-set-from-s2
-    mul-p2
-    element-copy-out-p2
-    element-write-p2
-    mul-t51
-    element-set-from-self
+    made-requires
     mul-f2
     element-set-from-f2
-    emptied-requires
+    mul-p2
+    element-copy-out-p2
+    element-copy-out-join8
+    join8-requires
+    element-write-p2
+    mul-t99
+    element-set-from-self
+    empty-requires
+    mul-f2-2
+    element-set-from-f2-2
+    mul-i2
+    loop4-holds
+    mul-h-4
+    element-copy-out-h-4
+    element-write-h
+    mul-t118
+    element-set-from-self-2
+    add-i2
+    loop4-less
+    loop4-again
+    loop5-holds
+    mul-h-5
+    element-copy-out-h-5
+    cast-without64
+    without64-requires
+    cast-without64-2
+    without64-requires-2
+    mul-h-6
+    element-set-from-h
+    add-j2
+    loop5-less
+    loop5-again
+    renamed-requires
+    mul-f2-3
+    element-set-from-f2-3
+    mul-p2-2
+    element-copy-out-p2-2
+    element-copy-out-rights-after
+    rights-after-requires
+    element-write-p2-2
+    mul-t151
+    element-set-from-self-3
+    users-after-requires
+    mul-t157
+    element-set-from-self-4
+    empty-requires-2
+    mul-p2-3
+    element-set-from-p2
+    loop6-holds
+    mul-h-7
+    element-copy-out-h-6
+    cast-without16
+    without16-requires
+    mul-h-8
+    element-set-from-h-2
+    add-i2-2
+    loop6-less
+    loop6-again
     returns-2
     returns-3
-    returns-4)
+    returns-4
+    returns-5
+    returns-6
+    returns-7
+    returns-8
+    returns-9)

@@ -10,7 +10,7 @@ use Rattle.guard.proofs.batch.all_unsound.Statement.{statement}
 use Rattle.guard.proofs.batch.all_unsound.Tie as tie
 
 abbrev Inv-loop : tie.InvT-loop
-Inv-loop count a₀ i₀ a i = (i ≤ count) × (a ≡ replicate i 1 ++ replicate (64 - i) 0)
+Inv-loop count a₀ i₀ a i = (i ≤ count) × (a ≡ replicate i 1 ++ replicate (256 - i) 0)
 
 abbrev μ-loop : tie.MeasureT-loop
 μ-loop count a₀ i₀ a i = count - i

@@ -1,13 +1,12 @@
--- `rights_number` is the answer to a grant: 2 where a field is out of range, else the first condition met.
--- Assumes nothing.
-use mathlib.Core.Bool.{Bool·not-not}
+-- `rights_number` is the answer to grant, and to revoke: 2 where a field is out of range, else the first condition met. Assumes nothing.
 use mathlib.Core.Path.{_∙_}
+use mathlib.Core.Bool.{Bool·not-not}
 use native.Mathlib.Omega.{arith}
 use borrow.Author.Tests.{le-ltb, lt-leb}
 use borrow.Author.Needs.{needs}
 use Rattle.guard.specs.Conditions.{grantBelow}
 use Rattle.guard.specs.Requests.{fieldInRange, grant}
-use Rattle.guard.proofs.Deciding.{in-range, every-no, number-two, number-first, session-at, live-at, entity-at}
+use Rattle.guard.proofs.Deciding.{in-range, every-no, number-two, number-first}
 use Rattle.guard.proofs.roles.rights_number.Statement.{statement}
 use Rattle.guard.proofs.roles.rights_number.Tie as tie
 
@@ -38,7 +37,7 @@ returns-6 : tie.Need-returns-6
 unfolding grant fieldInRange grantBelow
 returns-6 c t seen may =
     number-first grant t _ _ (search in-range depth 8)
-    (c .rights-refusal .ensures ∙ rw (session-at t _ _ seen (omega arith), entity-at t _ _ seen (omega arith), live-at t _ _ seen (omega arith), may .may (omega arith) (omega arith), Bool·not-not))
+    (c .rights-refusal .ensures ∙ rw (seen .session (omega arith), seen .entity (omega arith), seen .live (omega arith), may .may (omega arith) (omega arith), Bool·not-not))
 
 pub rights-number-spec : {M : Type 1} → statement M
 rights-number-spec =

@@ -1,14 +1,14 @@
--- `morning::numbers` is safe and ends: its loop goes through sixty-four answers. Assumes nothing.
+-- `morning::numbers` is safe and ends: its loop goes through 256 answers. Assumes nothing.
 use Prim.Native.Nat.{_≤_, _-_}
 use borrow.Author.Needs.{needs}
 use Rattle.guard_cases.proofs.morning.numbers.Statement.{statement}
 use Rattle.guard_cases.proofs.morning.numbers.Tie as tie
 
 abbrev Inv-loop : tie.InvT-loop
-Inv-loop list i₀ t4 i = i ≤ 64
+Inv-loop list i₀ t4 i = i ≤ 256
 
 abbrev μ-loop : tie.MeasureT-loop
-μ-loop list i₀ t4 i = 64 - i
+μ-loop list i₀ t4 i = 256 - i
 
 loop-holds : tie.Need-loop-holds Inv-loop μ-loop
 loop-holds c = search needs

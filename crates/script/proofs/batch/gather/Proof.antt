@@ -4,12 +4,13 @@ use mathlib.Core.Path.{_≡_, refl}
 use lib.ListN.{length}
 use native.Mathlib.Omega.{arith}
 use borrow.Author.Needs.{needs}
-use Rattle.script.proofs.Loading.{Taken, taken-none, taken-next, taken-all, in-turn, one-fits}
+use Rattle.script.proofs.Loading.{Taken, taken-none, taken-next, taken-all, count-few}
+use Rattle.script.proofs.Batches.{one-least}
 use Rattle.script.proofs.batch.gather.Statement.{statement}
 use Rattle.script.proofs.batch.gather.Tie as tie
 
 abbrev Inv-loop : tie.InvT-loop
-Inv-loop s at most requests₀ marks₀ count₀ lines₀ used₀ requests marks count lines used = (length requests ≡ 64) × (length marks ≡ 256) × (lines ≤ most) × (count ≤ 64) × Taken at s requests marks count lines used
+Inv-loop s at most requests₀ marks₀ count₀ lines₀ used₀ requests marks count lines used = (length requests ≡ 256) × (length marks ≡ 256) × (lines ≤ most) × Taken at s requests marks count lines used
 
 abbrev μ-loop : tie.MeasureT-loop
 μ-loop s at most requests₀ marks₀ count₀ lines₀ used₀ requests marks count lines used = most - lines
@@ -18,7 +19,7 @@ nothing-requires : tie.Need-nothing-requires Inv-loop μ-loop
 nothing-requires c κs = search needs
 
 loop-holds : tie.Need-loop-holds Inv-loop μ-loop
-loop-holds c = (search needs, search needs, search needs, search needs, taken-none _ _ _ _)
+loop-holds c = (search needs, search needs, search needs, taken-none _ _ _ _)
 
 sub-rest : tie.Need-sub-rest Inv-loop μ-loop
 sub-rest c = search needs
@@ -33,22 +34,22 @@ next-requires : tie.Need-next-requires Inv-loop μ-loop
 next-requires c κs = search needs
 
 returns : tie.Need-returns Inv-loop μ-loop
-returns c = taken-all _ (c .before .before .before .before .before .loop .inv .4) (c .before .before .before .before .before .loop .inv .0) (c .before .before .before .before .before .loop .inv .2) (c .before .before .before .before .before .loop .inv .3)
+returns c = taken-all _ (c .before .before .before .before .before .loop .inv .3) (c .before .before .before .before .before .loop .inv .0) (c .before .before .before .before .before .loop .inv .2) (c .before .before .before .before .before .before .before .before .pre)
 
 mul-requests : tie.Need-mul-requests Inv-loop μ-loop
-mul-requests c = search needs
+mul-requests c = let few = count-few (c .before .before .before .before .before .before .before .loop .inv .3) in search needs
 
 array-set-from-requests : tie.Need-array-set-from-requests Inv-loop μ-loop
-array-set-from-requests c = let turn = in-turn (c .before .before .before .before .before .before .before .loop .lines) (c .before .before .before .before .before .before .before .before .before .before .args .most) (c .before .before .before .before .before .before .before .loop .count) (c .before .before .before .before .before .before .loop-test .taken) in let low = turn .0 in let free = turn .1 in search needs
+array-set-from-requests c = let few = count-few (c .before .before .before .before .before .before .before .loop .inv .3) in search needs
 
 array-write-marks : tie.Need-array-write-marks Inv-loop μ-loop
-array-write-marks c = let turn = in-turn (c .before .before .before .before .before .before .before .loop .lines) (c .before .before .before .before .before .before .before .before .before .before .args .most) (c .before .before .before .before .before .before .before .loop .count) (c .before .before .before .before .before .before .loop-test .taken) in let low = turn .0 in let free = turn .1 in search needs
+array-write-marks c = search needs
 
 one-if-requires : tie.Need-one-if-requires Inv-loop μ-loop
 one-if-requires c κs = search needs
 
 add-count : tie.Need-add-count Inv-loop μ-loop
-add-count c = let turn = in-turn (c .before .before .before .before .before .before .before .before .loop .lines) (c .before .before .before .before .before .before .before .before .before .before .before .args .most) (c .before .before .before .before .before .before .before .before .loop .count) (c .before .before .before .before .before .before .before .loop-test .taken) in let low = turn .0 in let free = turn .1 in let fits = one-fits _ (c .one-if .ensures) (turn .1) in search needs
+add-count c = let few = count-few (c .before .before .before .before .before .before .before .before .loop .inv .3) in let one = one-least _ (c .one-if .ensures) in search needs
 
 add-lines : tie.Need-add-lines Inv-loop μ-loop
 add-lines c = search needs
@@ -60,16 +61,15 @@ add-used-2 : tie.Need-add-used-2 Inv-loop μ-loop
 add-used-2 c = search needs
 
 loop-less : tie.Need-loop-less Inv-loop μ-loop
-loop-less c = let turn = in-turn (c .before .before .before .before .before .before .before .before .before .loop .lines) (c .before .before .before .before .before .before .before .before .before .before .before .before .args .most) (c .before .before .before .before .before .before .before .before .before .loop .count) (c .before .before .before .before .before .before .before .before .loop-test .taken) in let low = turn .0 in let free = turn .1 in omega (arith, turn .0)
+loop-less c = search needs
 
 loop-again : tie.Need-loop-again Inv-loop μ-loop
 loop-again c =
-    let turn = in-turn (c .before .before .before .before .before .before .before .before .before .loop .lines) (c .before .before .before .before .before .before .before .before .before .before .before .before .args .most) (c .before .before .before .before .before .before .before .before .before .loop .count) (c .before .before .before .before .before .before .before .before .loop-test .taken) in let low = turn .0 in let free = turn .1 in
-    let more = c .before .one-if .ensures in
-    (search needs, search needs, omega (arith, turn .0), one-fits _ more (turn .1), taken-next (c .before .before .before .before .before .before .before .before .before .loop .inv .4) (omega (arith, turn .1)) (omega (arith, turn .0)) (c .before .before .before .before .before .before .next .ensures .0) (c .before .before .before .before .before .before .next .ensures .1) (c .before .before .before .before .if1 .left) refl more)
+    let few = count-few (c .before .before .before .before .before .before .before .before .before .loop .inv .3) in
+    (search needs, search needs, search needs, taken-next (c .before .before .before .before .before .before .before .before .before .loop .inv .3) (omega (arith, few)) (omega arith) (c .before .before .before .before .before .before .next .ensures .0) (c .before .before .before .before .before .before .next .ensures .1) (c .before .before .before .before .if1 .left) refl (c .before .one-if .ensures))
 
 returns-2 : tie.Need-returns-2 Inv-loop μ-loop
-returns-2 c = taken-all _ (c .before .loop .inv .4) (c .before .loop .inv .0) (c .before .loop .inv .2) (c .before .loop .inv .3)
+returns-2 c = taken-all _ (c .before .loop .inv .3) (c .before .loop .inv .0) (c .before .loop .inv .2) (c .before .before .before .before .pre)
 
 pub gather-spec : {M : Type 1} → statement M
 gather-spec =

@@ -25,7 +25,7 @@ array-read-asks : tie.Need-array-read-asks Inv-loop μ-loop
 array-read-asks c = search needs
 
 array-read-answer-of : tie.Need-array-read-answer-of Inv-loop μ-loop
-array-read-answer-of c = search needs
+array-read-answer-of c = let below = asked-below (c .before .before .before .args .t1) (c .before .loop .i) (c .before .loop .inv .4) in search needs
 
 answer-of-requires : tie.Need-answer-of-requires Inv-loop μ-loop
 answer-of-requires c κs = search needs
@@ -40,7 +40,7 @@ part-put-line-end : tie.Need-part-put-line-end Inv-loop μ-loop
 part-put-line-end c = search needs
 
 put-line-requires : tie.Need-put-line-requires Inv-loop μ-loop
-put-line-requires c κs = (omega (arith, room-left (c .before .before .before .loop .wrote) (c .before .before .before .loop .out)), search needs, said-small _ _ _ (c .before .answer-of .ensures) (c .before .before .before .before .before .pre .4 _))
+put-line-requires c κs = (omega (arith, room-left (c .before .before .before .loop .wrote) (c .before .before .before .loop .out)), search needs, said-small _ _ _ (c .before .answer-of .ensures) (c .before .before .before .before .before .pre .3 _))
 
 add-wrote : tie.Need-add-wrote Inv-loop μ-loop
 add-wrote c = let few = line-few _ _ (c .before .before .put-line .ensures) in search needs
@@ -64,7 +64,7 @@ loop-less : tie.Need-loop-less Inv-loop μ-loop
 loop-less c = search needs
 
 loop-again : tie.Need-loop-again Inv-loop μ-loop
-loop-again c = let few = line-few _ _ (c .before .before .before .put-line .ensures) in let many : length (c .before .before .before .before .before .before .before .before .before .args .t1) ≡ 256 = search (long, c .before .before .before .before .before .before .before .before .before .good .0) in (search needs, search needs, omega arith, search needs, asked-on _ (c .before .before .before .before .before .before .before .before .before .args .t2) _ _ _ (c .before .before .before .before .before .before .before .loop .inv .4) (c .before .before .before .before .before .before .loop-test .taken) (omega arith) (c .before .before .before .before .before .before .before .before .before .pre .1) (c .one-if .ensures), texts-more _ _ _ _ _ (c .before .before .before .before .before .before .before .loop .inv .4) (c .before .before .before .before .before .before .loop-test .taken) (omega arith) (c .before .before .before .before .before .before .before .before .before .pre .1) _ _ _ (c .before .before .before .before .before .before .before .loop .inv .5) (c .before .before .before .before .before .answer-of .ensures) (c .before .before .before .before .before .before .before .loop .inv .1) (omega arith) (omega arith) (c .before .before .before .put-line .ensures))
+loop-again c = let few = line-few _ _ (c .before .before .before .put-line .ensures) in let many : length (c .before .before .before .before .before .before .before .before .before .args .t1) ≡ 256 = search (long, c .before .before .before .before .before .before .before .before .before .good .0) in (search needs, search needs, omega arith, search needs, asked-on _ (c .before .before .before .before .before .before .before .before .before .args .t2) _ _ _ (c .before .before .before .before .before .before .before .loop .inv .4) (c .before .before .before .before .before .before .loop-test .taken) (omega arith) (c .one-if .ensures), texts-more _ _ _ _ _ (c .before .before .before .before .before .before .before .loop .inv .4) (c .before .before .before .before .before .before .loop-test .taken) (omega arith) _ _ _ (c .before .before .before .before .before .before .before .loop .inv .5) (c .before .before .before .before .before .answer-of .ensures) (c .before .before .before .before .before .before .before .loop .inv .1) (omega arith) (omega arith) (c .before .before .before .put-line .ensures))
 
 same-length : tie.Need-same-length Inv-loop μ-loop
 same-length c = search needs

@@ -30,7 +30,7 @@ put-answers-requires : tie.Need-put-answers-requires
 put-answers-requires c κs =
     let most = c .before .before .before .before .before .before .before .before .before .most .ensures in
     let took = c .before .before .before .before .before .before .before .before .gather .ensures in
-    (omega (arith, took .few, most .fits), omega (arith, took .count, took .fits), omega (arith, took .few, most .space), omega (arith, took .few, most .last), answers-low _ _ _ (c .before .before .before .before .run .ensures) (took .fits))
+    (omega (arith, took .few, most .fits), omega (arith, took .few, most .space), omega (arith, took .few, most .last), answers-low _ _ _ (c .before .before .before .before .run .ensures) (took .fits))
 
 cast-r : tie.Need-cast-r
 cast-r c = search needs
