@@ -6,7 +6,6 @@
 --     roles-from                    a sweep of the rights on an entity begins at its level
 --     swept-entity, swept-role      the sweeps of delete and of unmake, done
 --     Sized, sized-..               how many sessions and roles there are
---     long                          an array of records is as long as its type says
 -- Assumes nothing.
 use Prim.Native.Nat.{ℕ, zero, suc, _+_, _*_, _/_, _<_}
 use mathlib.Core.Path.{_≡_, refl, sym, ap, ap₂, _∙_}
@@ -14,7 +13,7 @@ use mathlib.Core.Bool.{true, false}
 use mathlib.Core.List.{List, [], _∷_, map}
 use native.Mathlib.Numerals.{add-one}
 use native.Mathlib.Omega.{arith}
-use lib.ListN.{length, length-map, length-set, getD, set}
+use lib.ListN.{length, length-set, getD, set}
 use lib.Seq.{set-getD}
 use borrow.Author.Tests.{lt-leb}
 use Rattle.bitset.specs.Tests.Laws.{every-at, clash, is-false}
@@ -27,10 +26,6 @@ use Rattle.guard.specs.declared.Role.{Role}
 use Rattle.guard.specs.declared.Entity.{Entity}
 use Rattle.guard.specs.declared.Tables.{Tables}
 use Rattle.guard.proofs.Laws.Sound.{sound-e}
-
--- an array of records: what a parameter's `good` says of its length stands at the records' parts
-pub long : {X Y : Type 0} (f : X → Y) (l : List X) (n : ℕ) → length (map f l) ≡ n → length l ≡ n
-long f l n e = sym (length-map l f) ∙ e
 
 module _ {A : Type 0} (f : A → A) where
   abbrev pub mapped : ℕ → List A → List A

@@ -4,7 +4,7 @@ use lib.ListN.{length}
 use borrow.Author.Tests.{eq-eqb}
 use Rattle.guard.specs.Sound.{usersInRange}
 use Rattle.guard.specs.Fresh.{fresh, build}
-use Rattle.guard.proofs.Sweeps.{long}
+use Rattle.guard.proofs.Soundness.Loops.{long}
 use Rattle.guard.proofs.Filling.{every-two}
 use borrow.Author.Needs.{needs}
 use Rattle.guard.proofs.Tables.fresh.Statement.{statement}

@@ -27,7 +27,8 @@ use Rattle.guard.proofs.Scans.{walk-in, Block, block-start, block-more,
 use Rattle.guard.proofs.Scans.Given.{Gathered, gathered-start, gathered-join, gathered-skip, gathered-at}
 use Rattle.guard.proofs.Scans.Climb.{exec, parent-small, steps-left, Climbing, climbing-start, climbing-more, climbing-all}
 use Rattle.guard.proofs.Scans.Kin.{kin-at, kin-root, kin-child, base-root, base-other}
-use Rattle.guard.proofs.Sweeps.{mapped, long, roles-from, roles-more, sessions-more, swept-entity, swept-role, Sized, sized-session, sized-entity, sized-role, sized-roles, sized-sessions}
+use Rattle.guard.proofs.Soundness.Loops.{long}
+use Rattle.guard.proofs.Sweeps.{mapped, roles-from, roles-more, sessions-more, swept-entity, swept-role, Sized, sized-session, sized-entity, sized-role, sized-roles, sized-sessions}
 use Rattle.guard.proofs.Stepping.{Concerned, Found, seen-of, scanned-of, refuses, does, outcome}
 use Rattle.guard.proofs.Doing.{ten-on, session-done, create-done, delete-done, rename-done, rights-done, marks-done, unmake-done}
 use Rattle.guard.proofs.Batches.{noRequest, Held, held-none, held-more, all-refused}
