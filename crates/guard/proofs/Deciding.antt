@@ -80,6 +80,7 @@ pub record InCreate (q : Request) : Type 0 where
   pub kind : q .kind ≤ container
   pub parent : q .parent < entityCount
   pub name : q .name ≤ topName
+  pub named : 1 ≤ q .name
   pub level : q .level ≤ topGrade
   pub cats : q .cats ≤ allCategories
   pub role : q .role < roleCount
@@ -94,6 +95,7 @@ in-create q h =
       kind = leb-true _ _ (every-at _ h 2);
       parent = ltb-true _ _ (every-at _ h 3);
       name = leb-true _ _ (every-at _ (every-at _ h 4) 1);
+      named = leb-true _ _ (every-at _ (every-at _ h 4) 0);
       level = leb-true _ _ (every-at _ (every-at _ h 5) 0);
       cats = leb-true _ _ (every-at _ (every-at _ h 5) 1);
       role = ltb-true _ _ (every-at _ h 6);

@@ -1,8 +1,8 @@
 -- What is stored where the answer is 0 is what the rule does, by the request's number.
---     past-six, ten-on                                none of the first six numbers, of the first ten
---     session-done, create-done, delete-done, rename-done, rights-done, marks-done, unmake-done
+--     past-six, nine                none of the first six numbers; the last of three
+--     session-done, create-done, deleted, delete-done, rename-done, role-done, unmade, unmake-done
 -- Assumes nothing.
-use Prim.Native.Nat.{ℕ, zero, suc, _+_, _%_, _≤_, _<_}
+use Prim.Native.Nat.{ℕ, zero, suc, _+_, _-_, _%_, _≤_, _<_}
 use mathlib.Core.Path.{_≡_, refl, sym, ap, _∙_}
 use mathlib.Core.Bool.{Bool, true, false}
 use mathlib.Core.List.{List}
@@ -23,8 +23,9 @@ use Rattle.guard.specs.Sound.{sound}
 use Rattle.guard.specs.Edits.{withSessions, withRoles, withEntities, atSession, atRole, atEntity, eachSession, eachRole, dropRole, closeBoth, setRights, addRights, removeRights, clearRights, listUser, unlistUser, renameTo}
 use Rattle.guard.specs.Refusals.{first}
 use Rattle.guard.specs.Requests.{Rule, fieldInRange, rules, unknown, ruleOf, login, loggedIn, logout, take, drop, openr, openw, close, create, created, delete, rename, grant, revoke, list, unlist, make, madeRole, unmake}
-use Rattle.guard.specs.Inside.{number, madeEntity, sessionAfter, usersAfter, rightsAfter}
+use Rattle.guard.specs.Inside.{number, sessionAfter, usersAfter, rightsAfter, entityAfter, roleAfter}
 use Rattle.guard.specs.declared.Session.{Session}
+use Rattle.guard.specs.declared.Role.{Role}
 use Rattle.guard.specs.declared.Entity.{Entity}
 use Rattle.guard.specs.declared.Tables.{Tables}
 use Rattle.guard.specs.declared.Request.{Request}
@@ -40,24 +41,26 @@ past k n h d = omega arith
 pub past-six : (n : ℕ) → (n ≡ 0 → ⊥) → (n ≡ 1 → ⊥) → (n ≡ 2 → ⊥) → (n ≡ 3 → ⊥) → (n ≡ 4 → ⊥) → (n ≡ 5 → ⊥) → 6 ≤ n
 past-six n a b c d e f = past 5 n (past 4 n (past 3 n (past 2 n (past 1 n (past 0 n (omega arith) a) b) c) d) e) f
 
-pub ten-on : (n : ℕ) → 6 < n → (n ≡ 7 → ⊥) → (n ≡ 8 → ⊥) → (n ≡ 9 → ⊥) → 10 ≤ n
-ten-on n low a b c = past 9 n (past 8 n (past 7 n (omega arith) a) b) c
+pub nine : (n : ℕ) → 6 < n → n ≤ 9 → (n ≡ 7 → ⊥) → (n ≡ 8 → ⊥) → n ≡ 9
+nine n low high a b = let more : 8 + 1 ≤ n = past 8 n (past 7 n (omega arith) a) b in omega arith
 
-one-of-two : (k n : ℕ) → k ≤ n → n ≤ k + 1 → (n ≡ k) ⊎ (n ≡ k + 1)
-one-of-two k n low high = go (eqb n k) refl
-  where
-    go : (b : Bool) → eqb n k ≡ b → (n ≡ k) ⊎ (n ≡ k + 1)
-    go true e = inl (eqb-true n k e)
-    go false e = inr (omega (arith, eqb-false n k e))
+past-fifteen : (n : ℕ) → n < 16 → (n ≡ 15 → ⊥) → n < 15
+past-fifteen n l h = omega arith
 
-one-of-three : (k n : ℕ) → k ≤ n → n ≤ k + 2 → (n ≡ k) ⊎ ((n ≡ k + 1) ⊎ (n ≡ k + 2))
-one-of-three k n low high = go (eqb n k) refl
+-- the five numbers from ten
+from-ten : (P : ℕ → Type 0) → P 10 → P 11 → P 12 → P 13 → P 14 → (n : ℕ) → 9 < n → n < 15 → P n
+from-ten P a b c d e n low high = go (n - 10) (omega arith)
   where
-    go : (b : Bool) → eqb n k ≡ b → (n ≡ k) ⊎ ((n ≡ k + 1) ⊎ (n ≡ k + 2))
-    go true e = inl (eqb-true n k e)
-    go false e =
-        let more : k + 1 ≤ n = omega (arith, eqb-false n k e) in
-        ⊎-elim (λ h. inr (inl h)) (λ h. let last : n ≡ k + 2 = omega arith in inr (inr last)) (one-of-two (k + 1) n more (omega arith))
+    at : (k : ℕ) → P k → n ≡ k → P n
+    at k h same = rw same h
+
+    go : (m : ℕ) → n ≡ 10 + m → P n
+    go zero h = at 10 a h
+    go (suc zero) h = at 11 b h
+    go (suc (suc zero)) h = at 12 c h
+    go (suc (suc (suc zero))) h = at 13 d h
+    go (suc (suc (suc (suc zero)))) h = at 14 e h
+    go (suc (suc (suc (suc (suc m))))) h = absurd (omega arith)
 
 no-rights : (l : List ℕ) → length l ≡ 64 → ((e : ℕ) → e < 64 → getD l e 0 ≡ 0) → l ≡ noRights
 no-rights l many none =
@@ -166,15 +169,10 @@ module _ (t : Tables) (q : Request) where
           rw same (to-six (λ (n : ℕ). q .call ≡ n → SessionDone) login-done logout-done take-done drop-done openr-done openw-done close-done (q .call) h refl)
 
       -- ---- the entity
-      pub create-done : q .call ≡ 7 → (f : Entity) (n : ℕ) → f ≡ madeEntity q → n ≡ join (rightsOn t r e) 8
-          → record {
-            users = t .users;
-            sessions = t .sessions;
-            roles = set (t .roles) r (record { live = roleAt t r .live; users = roleAt t r .users; rights = set (roleAt t r .rights) e n });
-            entities = set (t .entities) e f;
-          } ≡ ruleOf q .effect q t
-      unfolding rules create created addRights setRights atRole atEntity
-      create-done c f n same h =
+      pub create-done : q .call ≡ 7 → (f : Entity) (p : Role) → f ≡ entityAfter q (entityAt t e) → p ≡ roleAfter q k e (roleAt t r)
+          → withRoles (withEntities t (set (t .entities) e f)) (set (t .roles) r p) ≡ ruleOf q .effect q t
+      unfolding entityAfter roleAfter rightsAfter rules create created addRights setRights atRole atEntity
+      create-done c f p hf hp =
           let rule : ruleOf q ≡ create = rule-at 7 c in
           let i = in-create q (ranges create rule) in
           let kind : q .kind % 256 ≡ q .kind = mod-eq-of-lt (omega (arith, i .kind)) in
@@ -182,7 +180,11 @@ module _ (t : Tables) (q : Request) where
           let name : q .name % 65536 ≡ q .name = mod-eq-of-lt (omega (arith, i .name)) in
           let level : q .level % 256 ≡ q .level = mod-eq-of-lt (omega (arith, i .level)) in
           let cats : q .cats % 256 ≡ q .cats = mod-eq-of-lt (omega (arith, i .cats)) in
-          rw (rule, same, h, near .role .same (i .role), near .entity .same (i .entity), kind, parent, name, level, cats)
+          rw (rule, hf, hp, c, near .role .same (i .role), near .entity .same (i .entity), kind, parent, name, level, cats)
+
+      pub deleted : q .call ≡ 8 → (f g : Entity) → f ≡ entityAfter q g → f ≡ noEntity
+      unfolding entityAfter
+      deleted c f g h = h ∙ rw c
 
       pub delete-done : q .call ≡ 8
           → eachSession (closeBoth e) (eachRole (clearRights e) (atEntity e (λ old. noEntity) t)) ≡ ruleOf q .effect q t
@@ -192,57 +194,44 @@ module _ (t : Tables) (q : Request) where
           let met = every-at _ (ranges delete rule) in
           rw (rule, near .entity .same (ltb-true _ _ (met 1)))
 
-      pub rename-done : q .call ≡ 9 → (f : Entity) → f ≡ renameTo (q .name % 65536) (entityAt t e)
-          → withEntities t (set (t .entities) e f) ≡ ruleOf q .effect q t
-      unfolding rules rename fieldInRange atEntity
+      pub rename-done : q .call ≡ 9 → (f : Entity) → f ≡ entityAfter q (entityAt t e) → withEntities t (set (t .entities) e f) ≡ ruleOf q .effect q t
+      unfolding entityAfter rules rename fieldInRange atEntity
       rename-done c f same =
           let rule : ruleOf q ≡ rename = rule-at 9 c in
           let met = every-at _ (ranges rename rule) in
           let name : q .name % 65536 ≡ q .name = mod-eq-of-lt (omega (arith, leb-true (q .name) 65535 (every-at _ (met 2) 1))) in
-          rw (rule, same, near .entity .same (ltb-true _ _ (met 1)), name)
+          rw (rule, same, c, near .entity .same (ltb-true _ _ (met 1)), name)
 
       -- ---- the role
-      abbrev RightsDone : Type 0
-      RightsDone =
-          withRoles t (set (t .roles) r (record { live = roleAt t r .live; users = roleAt t r .users; rights = set (roleAt t r .rights) e (rightsAfter (q .call) (q .rights) (rightsOn t r e)) }))
-          ≡ ruleOf q .effect q t
+      abbrev RoleDone : Type 0
+      RoleDone = withRoles t (set (t .roles) r (roleAfter q k e (roleAt t r))) ≡ ruleOf q .effect q t
 
-      grant-done : q .call ≡ 10 → RightsDone
-      unfolding rightsAfter rules grant fieldInRange addRights setRights atRole
+      grant-done : q .call ≡ 10 → RoleDone
+      unfolding roleAfter rightsAfter rules grant fieldInRange addRights setRights atRole
       grant-done c =
           let rule : ruleOf q ≡ grant = rule-at 10 c in
           let met = every-at _ (ranges grant rule) in
           let rights : q .rights % 256 ≡ q .rights = mod-eq-of-lt (omega (arith, leb-true (q .rights) 15 (every-at _ (met 3) 1))) in
           rw (rule, c, near .role .same (ltb-true _ _ (met 1)), near .entity .same (ltb-true _ _ (met 2)), rights)
 
-      revoke-done : q .call ≡ 11 → RightsDone
-      unfolding rightsAfter rules revoke grant fieldInRange removeRights setRights atRole
+      revoke-done : q .call ≡ 11 → RoleDone
+      unfolding roleAfter rightsAfter rules revoke grant fieldInRange removeRights setRights atRole
       revoke-done c =
           let rule : ruleOf q ≡ revoke = rule-at 11 c in
           let met = every-at _ (ranges revoke rule) in
           let rights : q .rights % 256 ≡ q .rights = mod-eq-of-lt (omega (arith, leb-true (q .rights) 15 (every-at _ (met 3) 1))) in
           rw (rule, c, near .role .same (ltb-true _ _ (met 1)), near .entity .same (ltb-true _ _ (met 2)), rights)
 
-      pub rights-done : 10 ≤ q .call → q .call ≤ 11 → (n : ℕ) → n ≡ rightsAfter (q .call) (q .rights) (rightsOn t r e)
-          → withRoles t (set (t .roles) r (record { live = roleAt t r .live; users = roleAt t r .users; rights = set (roleAt t r .rights) e n }))
-          ≡ ruleOf q .effect q t
-      rights-done low high n same = rw same (⊎-elim grant-done revoke-done (one-of-two 10 (q .call) low high))
-
-      abbrev MarksDone : Type 0
-      MarksDone =
-          withRoles t (set (t .roles) r (record { live = true; users = usersAfter (q .call) k (roleAt t r .users); rights = roleAt t r .rights }))
-          ≡ ruleOf q .effect q t
-
-      list-done : q .call ≡ 12 → MarksDone
-      unfolding usersAfter rules list fieldInRange listUser atRole
+      list-done : q .call ≡ 12 → RoleDone
+      unfolding roleAfter usersAfter rules list fieldInRange listUser atRole
       list-done c =
           let rule : ruleOf q ≡ list = rule-at 12 c in
           let met = every-at _ (ranges list rule) in
           let live : roleAt t (q .role) .live ≡ true = of-not-false _ (unmet _ refl (allowed list rule) 7) in
           rw (rule, c, near .role .same (ltb-true _ _ (met 1)), near .user .same (ltb-true _ _ (met 2)), live)
 
-      unlist-done : q .call ≡ 13 → MarksDone
-      unfolding usersAfter rules unlist fieldInRange unlistUser atRole
+      unlist-done : q .call ≡ 13 → RoleDone
+      unfolding roleAfter usersAfter rules unlist fieldInRange unlistUser atRole
       unlist-done c =
           let rule : ruleOf q ≡ unlist = rule-at 13 c in
           let met = every-at _ (ranges unlist rule) in
@@ -250,8 +239,8 @@ module _ (t : Tables) (q : Request) where
           rw (rule, c, near .role .same (ltb-true _ _ (met 1)), near .user .same (ltb-true _ _ (met 2)), live)
 
       -- a dead role of sound tables is empty
-      make-done : sound t ≡ true → q .call ≡ 14 → MarksDone
-      unfolding usersAfter rules make madeRole fieldInRange atRole
+      make-done : sound t ≡ true → q .call ≡ 14 → RoleDone
+      unfolding roleAfter usersAfter rules make madeRole fieldInRange atRole
       make-done ok c =
           let rule : ruleOf q ≡ make = rule-at 14 c in
           let met = every-at _ (ranges make rule) in
@@ -261,14 +250,18 @@ module _ (t : Tables) (q : Request) where
           let bare : roleAt t (q .role) .rights ≡ noRights = no-rights _ (facts .many) (λ f l. facts .rights f l .none dead) in
           rw (rule, c, near .role .same role, facts .users .none dead, bare)
 
-      pub marks-done : sound t ≡ true → 12 ≤ q .call → q .call ≤ 14 → (n : ℕ) → n ≡ usersAfter (q .call) k (roleAt t r .users)
-          → withRoles t (set (t .roles) r (record { live = true; users = n; rights = roleAt t r .rights })) ≡ ruleOf q .effect q t
-      marks-done ok low high n same = rw same (⊎-elim list-done (⊎-elim unlist-done (make-done ok)) (one-of-three 12 (q .call) low high))
+      pub role-done : sound t ≡ true → 9 < q .call → (q .call ≡ 15 → ⊥) → (p : Role) → p ≡ roleAfter q k e (roleAt t r)
+          → withRoles t (set (t .roles) r p) ≡ ruleOf q .effect q t
+      role-done ok low other p same =
+          rw same (from-ten (λ (n : ℕ). q .call ≡ n → RoleDone) grant-done revoke-done list-done unlist-done (make-done ok) (q .call) low (past-fifteen _ known other) refl)
 
-      pub unmake-done : 14 < q .call → eachSession (dropRole r) (atRole r (λ old. noRole) t) ≡ ruleOf q .effect q t
+      pub unmade : q .call ≡ 15 → (p : Role) → p ≡ roleAfter q k e (roleAt t r) → p ≡ noRole
+      unfolding roleAfter
+      unmade c p h = h ∙ rw c
+
+      pub unmake-done : q .call ≡ 15 → eachSession (dropRole r) (atRole r (λ old. noRole) t) ≡ ruleOf q .effect q t
       unfolding rules unmake fieldInRange
-      unmake-done past-14 =
-          let c : q .call ≡ 15 = omega (arith, known) in
+      unmake-done c =
           let rule : ruleOf q ≡ unmake = rule-at 15 c in
           let met = every-at _ (ranges unmake rule) in
           rw (rule, near .role .same (ltb-true _ _ (met 1)))

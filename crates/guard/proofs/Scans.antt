@@ -15,7 +15,7 @@ use native.Mathlib.Omega.{arith}
 use lib.Pow.{pow-mono, shr-shr}
 use borrow.Author.Tests.{eqb-true, eq-eqb, le-leb, lt-leb}
 use Rattle.bitset.specs.Tests.{every, some}
-use Rattle.bitset.specs.Tests.Laws.{both, clash, of-not-true, every-at, some-i, some-e, some-more, some-no-i}
+use Rattle.bitset.specs.Tests.Laws.{both, clash, of-not-true, every-at, some-i, some-e, some-none, some-more, some-no-i}
 use Rattle.bitset.specs.Sets.{has, contains, from}
 use Rattle.bitset.specs.Sets.Laws.{has-none, has-one, contains-has, has-contains}
 use Rattle.bitset.specs.Sets.Shift.{has-from, from-has, from-zero}
@@ -103,26 +103,19 @@ module _ (t : Tables) (held right e : ℕ) where
 -- ---- the entities of a level
 -- one of the first m entities of p's level meets the test
 pub record Block (test : ℕ → Bool) (p m : ℕ) (found : Bool) : Type 0 where
-  pub least : 1 ≤ m
   pub most : m ≤ 16
   pub so-far : found ≡ some m (λ i. test (p / 16 * 16 + i))
 
 module _ (test : ℕ → Bool) (p : ℕ) where
-  -- the lowest is the root, which does not meet it
-  pub block-start : test (p / 16 * 16) ≡ false → Block test p 1 false
-  block-start root =
-      record {
-        least = omega arith;
-        most = omega arith;
-        so-far = sym (some-no-i 1 _ (λ i l. let z : i ≡ 0 = omega arith in rw (z, add-zero (p / 16 * 16)) root));
-      }
+  pub block-start : Block test p 0 false
+  block-start = record { most = omega arith; so-far = sym (some-none _) }
 
   pub block-more : (m : ℕ) (found one : Bool) → Block test p m found → one ≡ test (p / 16 * 16 + m) → m < 16 → Block test p (m + 1) (found || one)
   block-more m found one seen h l =
-      record { least = omega arith; most = omega arith; so-far = rw (seen .so-far, h) (sym (some-more m (λ i. test (p / 16 * 16 + i)))) }
+      record { most = omega arith; so-far = rw (seen .so-far, h) (sym (some-more m (λ i. test (p / 16 * 16 + i)))) }
 
   -- a test that children of p alone meet: they lie in p's level
-  module _ (t : Tables) (ok : sound t ≡ true) (inside : p < 64) (child : (f : ℕ) → test f ≡ true → isChild t p f ≡ true) where
+  module _ (t : Tables) (ok : sound t ≡ true) (inside : p < 64) (child : (f : ℕ) → f < 64 → test f ≡ true → isChild t p f ≡ true) where
     same-level : (f : ℕ) → f < 64 → isChild t p f ≡ true → f / 16 ≡ p / 16
     unfolding isChild
     same-level f l h =
@@ -134,7 +127,7 @@ module _ (test : ℕ → Bool) (p : ℕ) where
         let all : m ≡ 16 = omega (arith, seen .most) in
         rw all at (seen .so-far)
         ∙ both _ _ (λ h. let (i, k, g) = some-e _ _ h in some-i 64 _ (p / 16 * 16 + i) (omega arith) g)
-        (λ h. let (f, k, g) = some-e _ _ h in within f g (same-level f k (child f g)))
+        (λ h. let (f, k, g) = some-e _ _ h in within f g (same-level f k (child f k g)))
       where
         within : (f : ℕ) → test f ≡ true → f / 16 ≡ p / 16 → some 16 (λ i. test (p / 16 * 16 + i)) ≡ true
         within f g same =

@@ -4,16 +4,16 @@
 --     Found, scanned-of             what the scans find is what 13, 14 and 15 ask
 --     refuses, does                 a number, and where it is 0 what the rule does, are the step
 -- Assumes nothing.
-use Prim.Native.Nat.{ℕ, _/_, _<_}
+use Prim.Native.Nat.{ℕ, _/_, _≤_, _<_}
 use mathlib.Core.Path.{_≡_, refl, sym, ap, subst, _∙_}
-use mathlib.Core.Bool.{Bool, true, false, not, _&&_, and-true}
+use mathlib.Core.Bool.{Bool, true, false, not, _&&_, and-true, true≢false}
 use mathlib.Core.List.{List, [], _∷_}
 use lib.Dec.{eqb}
 use lib.ListN.{getD}
 use borrow.Author.Tests.{eqb-false, eq-eqb, ne-eqb}
 use Rattle.bitset.specs.Tests.{every, either, some}
 use Rattle.bitset.specs.Sets.{has, contains}
-use Rattle.guard.specs.Level.{entityCount}
+use Rattle.guard.specs.Level.{entityCount, isRoot}
 use Rattle.guard.specs.Tables.{userAt, sessionAt, roleAt, entityAt, hasRight, read, write, execute, own, isWriting, isChild}
 use Rattle.guard.specs.Chain.{parentOf, reaches, climbs}
 use Rattle.guard.specs.Sound.{sound}
@@ -57,7 +57,8 @@ pub record Concerned (q : Request) (x r e k : ℕ) : Type 0 where
 pub record Found (t : Tables) (w : Scope) (name : ℕ) (given : List ℕ) (may child : Bool) : Type 0 where
   pub gathered : (right a : ℕ) → Single right → a < 64 → a / 16 ≡ w .at / 16 → contains (getD given a 0) right ≡ gives t (w .held) right a
   pub way : may ≡ (w .opened && contains (getD given (w .at) 0) (w .right) && climbs (parentOf t) (exec given) 16 (w .from))
-  pub kids : w .kids ≡ true → child ≡ some entityCount (kinTest t (w .kin) (w .named) name)
+  pub kids : w .kids ≡ true → (w .named ≡ true → 1 ≤ name) → (w .named ≡ false → isRoot (w .kin) ≡ false)
+      → child ≡ some entityCount (kinTest t (w .kin) (w .named) name)
 
 module _ (t : Tables) (name : ℕ) (given : List ℕ) (may child : Bool) (held : ℕ) where
   found-open : (right e : ℕ) → sound t ≡ true → Single right → e < 64 → Found t (toOpen right e held) name given may child
@@ -142,13 +143,16 @@ module _ (t : Tables) (q : Request) (x r e k o : ℕ) (may child : Bool) (near :
           found-change t (q .name) given may child (sessionAt t x .roles) o kin (sessionAt t x .writing) named (p .small) (scoped _ h)
           ∙ change-flags parent same ix
 
-      named-of : (parent : ℕ) → w ≡ toChange o o true (sessionAt t x .roles) (sessionAt t x .writing) → o ≡ parent → child ≡ nameTaken t q parent
+      named-of : (parent : ℕ) → w ≡ toChange o o true (sessionAt t x .roles) (sessionAt t x .writing) → o ≡ parent → 1 ≤ q .name
+          → child ≡ nameTaken t q parent
       unfolding kinTest
-      named-of parent h same = scoped _ h .kids refl ∙ name-flag parent same
+      named-of parent h same least = scoped _ h .kids refl (λ e. least) (λ e. absurd (true≢false e)) ∙ name-flag parent same
 
-      kids-of : w ≡ toChange o e false (sessionAt t x .roles) (sessionAt t x .writing) → q .entity < 64 → child ≡ hasChildren t q
+      kids-of : w ≡ toChange o e false (sessionAt t x .roles) (sessionAt t x .writing) → q .entity < 64 → isRoot (q .entity) ≡ false
+          → child ≡ hasChildren t q
       unfolding kinTest
-      kids-of h ie = scoped _ h .kids refl ∙ child-flag ie
+      kids-of h ie other =
+          scoped _ h .kids refl (λ e. absurd (true≢false (sym e))) (λ e. ap isRoot (near .entity .same ie) ∙ other) ∙ child-flag ie
 
       granted : w ≡ toGrant e (sessionAt t x .roles) → MayGrant t q (viewOf t x r e k o may child)
       granted h =
@@ -162,15 +166,15 @@ module _ (t : Tables) (q : Request) (x r e k o : ℕ) (may child : Bool) (near :
             create = λ c. record {
               parent = λ ip. ap (entityAt t) (p .named c ip);
               may = λ ix ip. changed o (q .parent) true (s .create c) (p .named c ip) ix;
-              child = λ ip. named-of (q .parent) (s .create c) (p .named c ip);
+              child = λ ip least. named-of (q .parent) (s .create c) (p .named c ip) least;
             };
             delete = λ c. record {
               may = λ ix ie. changed e (recordedParent t q) false (s .delete c) (recorded 8 c refl ie) ix;
-              child = λ ie. kids-of (s .delete c) ie;
+              child = λ ie other. kids-of (s .delete c) ie other;
             };
             rename = λ c. record {
               may = λ ix ie. changed o (recordedParent t q) true (s .rename c) (recorded 9 c refl ie) ix;
-              child = λ ie. named-of (recordedParent t q) (s .rename c) (recorded 9 c refl ie);
+              child = λ ie least. named-of (recordedParent t q) (s .rename c) (recorded 9 c refl ie) least;
             };
             grant = λ c. granted (s .grant c);
             revoke = λ c. granted (s .revoke c);

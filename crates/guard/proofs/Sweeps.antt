@@ -1,9 +1,9 @@
 -- Loops that take each record of a list by a function.
 --     mapped                        the first i records by f, the others as they are
 --     mapped-more, mapped-all       one record more; all of them
---     mapped-same                   .. by one that leaves those as they are
+--     mapped-at, mapped-same        the next one is as it was; all are, by a function that leaves them
 --     sessions-more, sessions-all   .. of the tables' sessions;   roles-more, roles-all   .. of their roles
---     roles-from                    a sweep of the rights on an entity begins at its level
+--     roles-from, roles-dead        a sweep of the rights on an entity begins at its level, and passes over dead roles
 --     swept-entity, swept-role      the sweeps of delete and of unmake, done
 --     Sized, sized-..               how many sessions and roles there are
 -- Assumes nothing.
@@ -51,6 +51,12 @@ module _ {A : Type 0} (f : A → A) where
   mapped-length (suc i) [] = refl
   mapped-length (suc i) (x ∷ l) = ap suc (mapped-length i l)
 
+  -- the next one is as it was
+  pub mapped-at : (i : ℕ) (l : List A) (d : A) → getD (mapped i l) i d ≡ getD l i d
+  mapped-at zero l d = refl
+  mapped-at (suc i) [] d = refl
+  mapped-at (suc i) (x ∷ l) d = mapped-at i l d
+
   -- those that f leaves as they are
   pub mapped-same : (i : ℕ) (l : List A) (d : A) → ((k : ℕ) → k < i → f (getD l k d) ≡ getD l k d) → mapped i l ≡ l
   mapped-same zero l d h = refl
@@ -74,8 +80,27 @@ pub roles-all : (f : Role → Role) (t t₀ : Tables) (i : ℕ) → length (t₀
     → t ≡ withRoles t₀ (mapped f i (t₀ .roles)) → t ≡ withRoles t₀ (map f (t₀ .roles))
 roles-all f t t₀ i e h = h ∙ ap (withRoles t₀) (rw (← e) (mapped-all f (t₀ .roles)))
 
--- a role below the level of e has no rights on it, so that clearing them changes nothing
+-- one that f leaves as it is need not be stored
+pub roles-skip : (f : Role → Role) (t t₀ : Tables) (i : ℕ) → t ≡ withRoles t₀ (mapped f i (t₀ .roles)) → f (roleAt t i) ≡ roleAt t i
+    → t ≡ withRoles t₀ (mapped f (i + 1) (t₀ .roles))
+roles-skip f t t₀ i h same = sym (ap (withRoles t) (ap (set (t .roles) i) same ∙ set-getD (t .roles) i _)) ∙ roles-more f t t₀ i h
+
+-- a role below the level of e has no rights on it, nor has one that is not live, so that clearing them changes nothing
 module _ (t : Tables) (e : ℕ) (ok : sound t ≡ true) (inside : e < 64) where
+  cleared : (r : ℕ) → rightsOn t r e ≡ 0 → clearRights e (roleAt t r) ≡ roleAt t r
+  unfolding clearRights setRights
+  cleared r none =
+      ap (λ (n : List ℕ). record { live = roleAt t r .live; users = roleAt t r .users; rights = n })
+      (ap (set (roleAt t r .rights) e) (sym none) ∙ set-getD (roleAt t r .rights) e 0)
+
+  -- where those before r are done
+  pub roles-dead : (u u₀ : Tables) (r : ℕ) → u₀ .roles ≡ t .roles → r < 16 → u ≡ withRoles u₀ (mapped (clearRights e) r (u₀ .roles)) → roleAt u r .live ≡ false
+      → u ≡ withRoles u₀ (mapped (clearRights e) (r + 1) (u₀ .roles))
+  roles-dead u u₀ r same l h dead =
+      let here : roleAt u r ≡ roleAt t r = ap (λ (v : Tables). roleAt v r) h ∙ mapped-at (clearRights e) r (u₀ .roles) _ ∙ ap (λ (v : List Role). getD v r (record { live = false; users = 0; rights = [] })) same in
+      roles-skip (clearRights e) u u₀ r h
+      (rw here (cleared r (sound-e t ok .role r l .rights e inside .none (ap (λ (p : Role). p .live) (sym here) ∙ dead))))
+
   none-below : (r : ℕ) → r < e / 16 * 4 → rightsOn t r e ≡ 0
   none-below r l =
       let rights = sound-e t ok .role r (omega arith) .rights e inside in
@@ -84,11 +109,9 @@ module _ (t : Tables) (e : ℕ) (ok : sound t ≡ true) (inside : e < 64) where
       ∙ sym (has-none i))
 
   pub roles-from : (u : Tables) → u .roles ≡ t .roles → u ≡ withRoles u (mapped (clearRights e) (e / 16 * 4) (u .roles))
-  unfolding clearRights setRights
   roles-from u same =
       ap (withRoles u) (sym (mapped-same (clearRights e) (e / 16 * 4) (u .roles) (record { live = false; users = 0; rights = [] })
-      (λ r l. rw same (ap (λ (n : List ℕ). record { live = roleAt t r .live; users = roleAt t r .users; rights = n })
-      (ap (set (roleAt t r .rights) e) (sym (none-below r l)) ∙ set-getD (roleAt t r .rights) e 0)))))
+      (λ r l. rw same (cleared r (none-below r l)))))
 
 -- ---- the sweeps of delete and of unmake, done
 pub swept-entity : (t : Tables) (e : ℕ) (f : Entity) (u v : Tables) → f ≡ noEntity → length (t .roles) ≡ 16 → length (t .sessions) ≡ 16

@@ -1,21 +1,22 @@
 -- The words in which the contracts of private functions are put. No public entry's contract cites them, so a buyer need
 -- not read them.
-use Prim.Native.Nat.{ℕ, _*_, _/_, _%_, _^_, _<_}
+use Prim.Native.Nat.{ℕ, _*_, _/_, _%_, _^_, _≤_, _<_}
 use mathlib.Core.Path.{_≡_}
 use mathlib.Core.Bool.{Bool, true, false, not, cond}
 use mathlib.Core.List.{[], _∷_, map}
-use lib.Dec.{eqb}
+use lib.Dec.{leb, eqb}
 use lib.ListN.{getD}
-use Rattle.bitset.specs.Tests.{every}
+use Rattle.bitset.specs.Tests.{every, either}
 use Rattle.bitset.specs.Sets.{has, with, without, join, minus}
-use Rattle.guard.specs.Level.{userCount, sessionCount, roleCount, entityCount}
-use Rattle.guard.specs.Tables.{noSession, userAt, sessionAt, roleAt, entityAt, read, write, execute, own, isChild}
-use Rattle.guard.specs.Edits.{takeRole, dropRole, openReading, openWriting, closeBoth}
+use Rattle.guard.specs.Level.{userCount, sessionCount, roleCount, entityCount, isRoot}
+use Rattle.guard.specs.Tables.{noSession, noRole, noEntity, userAt, sessionAt, roleAt, entityAt, read, write, execute, own, isChild}
+use Rattle.guard.specs.Edits.{takeRole, dropRole, openReading, openWriting, closeBoth, setRights, renameTo}
 use Rattle.guard.specs.Refusals.{_when_, first}
 use Rattle.guard.specs.Conditions.{cannotOpen, cannotChange, notOwned, nameTaken, hasChildren, recordedParent}
 use Rattle.guard.specs.Requests.{Rule, fieldInRange}
 use Rattle.guard.specs.declared.Label.{Label}
 use Rattle.guard.specs.declared.Session.{Session}
+use Rattle.guard.specs.declared.Role.{Role}
 use Rattle.guard.specs.declared.Entity.{Entity}
 use Rattle.guard.specs.declared.Tables.{Tables}
 use Rattle.guard.specs.declared.Request.{Request}
@@ -41,15 +42,15 @@ pub record MayOpen (right : ℕ) (t : Tables) (q : Request) (v : View) : Type 0 
 pub record MayCreate (t : Tables) (q : Request) (v : View) : Type 0 where
   pub parent : q .parent < entityCount → v .parent ≡ entityAt t (q .parent)
   pub may : q .seat < sessionCount → q .parent < entityCount → v .may ≡ not (cannotChange t q (q .parent))
-  pub child : q .parent < entityCount → v .child ≡ nameTaken t q (q .parent)
+  pub child : q .parent < entityCount → 1 ≤ q .name → v .child ≡ nameTaken t q (q .parent)
 
 pub record MayDelete (t : Tables) (q : Request) (v : View) : Type 0 where
   pub may : q .seat < sessionCount → q .entity < entityCount → v .may ≡ not (cannotChange t q (recordedParent t q))
-  pub child : q .entity < entityCount → v .child ≡ hasChildren t q
+  pub child : q .entity < entityCount → isRoot (q .entity) ≡ false → v .child ≡ hasChildren t q
 
 pub record MayRename (t : Tables) (q : Request) (v : View) : Type 0 where
   pub may : q .seat < sessionCount → q .entity < entityCount → v .may ≡ not (cannotChange t q (recordedParent t q))
-  pub child : q .entity < entityCount → v .child ≡ nameTaken t q (recordedParent t q)
+  pub child : q .entity < entityCount → 1 ≤ q .name → v .child ≡ nameTaken t q (recordedParent t q)
 
 pub record MayGrant (t : Tables) (q : Request) (v : View) : Type 0 where
   pub may : q .seat < sessionCount → q .entity < entityCount → v .may ≡ not (notOwned t q)
@@ -83,9 +84,21 @@ sessionAfter q r e s =
 unfoldable pub usersAfter : ℕ → ℕ → ℕ → ℕ
 usersAfter call k users = cond (eqb call 12) (with users k) (cond (eqb call 13) (without users k) users)
 
--- a role's rights on an entity after grant (10) or revoke
+-- a role's rights on an entity after create (7), grant (10) or revoke
 unfoldable pub rightsAfter : ℕ → ℕ → ℕ → ℕ
-rightsAfter call named rights = cond (eqb call 10) (join rights (named % 256)) (minus rights (named % 256))
+rightsAfter call named rights =
+    cond (eqb call 7) (join rights own) (cond (eqb call 10) (join rights (named % 256)) (minus rights (named % 256)))
+
+-- the entity f after create (7), delete (8) or rename
+unfoldable pub entityAfter : Request → Entity → Entity
+entityAfter q f = cond (eqb (q .call) 7) (madeEntity q) (cond (eqb (q .call) 8) noEntity (renameTo (q .name % 65536) f))
+
+-- the role p after create, grant, revoke, list, unlist, make or unmake (15), with user k and entity e
+unfoldable pub roleAfter : Request → ℕ → ℕ → Role → Role
+roleAfter q k e p =
+    cond (eqb (q .call) 15) noRole
+    (cond (leb (q .call) 11) (setRights e (rightsAfter (q .call) (q .rights)) p)
+    (record { live = true; users = usersAfter (q .call) k (p .users); rights = p .rights }))
 
 -- ---- a number for an index: itself below the end, and some number below it otherwise
 pub record Below (end n i : ℕ) : Type 0 where
@@ -158,3 +171,8 @@ pub record Scoped (call e o held writing : ℕ) (w : Scope) : Type 0 where
 -- f is a child of p, and has the name where that is asked
 unfoldable pub kinTest : Tables → ℕ → Bool → ℕ → ℕ → Bool
 kinTest t p named name f = cond named (every (isChild t p f ∷ eqb (entityAt t f .name) name ∷ [])) (isChild t p f)
+
+-- .. and as one record shows it, which for a root may be otherwise
+unfoldable pub kinSeen : Tables → ℕ → Bool → ℕ → ℕ → Bool
+kinSeen t p named name f =
+    every (entityAt t f .live ∷ eqb (entityAt t f .parent) p ∷ either (not named) (eqb (entityAt t f .name) name) ∷ [])

@@ -17,7 +17,7 @@ ghost use Rattle.guard.specs.Tables.{container, noEntity};
 ghost use Rattle.guard.specs.Edits.{renameTo};
 ghost use Rattle.guard.specs.Refusals.{first, _when_};
 ghost use Rattle.guard.specs.Requests.{fieldInRange, create, delete, rename};
-ghost use Rattle.guard.specs.Inside.{number, Seen, MayCreate, MayDelete, MayRename, madeEntity};
+ghost use Rattle.guard.specs.Inside.{number, Seen, MayCreate, MayDelete, MayRename, madeEntity, entityAfter};
 ghost use Rattle.guard.specs.declared.Tables.{Tables as TablesOf};
 
 // Whether each number of a create is in its range.
@@ -171,7 +171,7 @@ pub fn made(q: Request) -> Entity
     }
 }
 
-pub fn renamed(name: u32, f: Entity) -> Entity
+fn renamed(name: u32, f: Entity) -> Entity
     ensures { λ n. ⌜ n ≡ renameTo (name % 65536) f ⌝ }
 {
     let mut n = f;
@@ -179,7 +179,7 @@ pub fn renamed(name: u32, f: Entity) -> Entity
     n
 }
 
-pub fn empty() -> Entity
+fn empty() -> Entity
     ensures { λ n. ⌜ n ≡ noEntity ⌝ }
 {
     let none = Label { cats: 0, grade: 0 };
@@ -190,4 +190,17 @@ pub fn empty() -> Entity
         name: 0,
         label: none,
     }
+}
+
+// Entity `f` after a create, a delete or a rename of it.
+pub fn after(q: Request, f: Entity) -> Entity
+    ensures { λ n. ⌜ n ≡ entityAfter q f ⌝ }
+{
+    if q.call == 7 {
+        return made(q);
+    }
+    if q.call == 8 {
+        return empty();
+    }
+    renamed(q.name, f)
 }

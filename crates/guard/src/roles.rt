@@ -15,7 +15,7 @@ ghost use Rattle.guard.specs.Level.{sessionLevel, roleLevel, entityLevel
 ghost use Rattle.guard.specs.Tables.{noRole};
 ghost use Rattle.guard.specs.Refusals.{first, _when_};
 ghost use Rattle.guard.specs.Requests.{grant, list, unlist, make, unmake};
-ghost use Rattle.guard.specs.Inside.{number, Seen, MayGrant, usersAfter, rightsAfter};
+ghost use Rattle.guard.specs.Inside.{number, Seen, MayGrant, usersAfter, rightsAfter, roleAfter};
 ghost use Rattle.guard.specs.declared.Tables.{Tables as TablesOf};
 
 fn rights_refusal(s: Session, f: Entity, live: bool, q: Request, may: bool) -> u8
@@ -181,7 +181,7 @@ pub fn unmake_number(q: Request, v: View) -> u8
 }
 
 // The users listed by the role after list, 12, or unlist, 13, of user `k`; make, 14, leaves them.
-pub fn users_after(call: u32, k: usize, users: u16) -> u16
+fn users_after(call: u32, k: usize, users: u16) -> u16
     requires { ⌜ k < 16 ⌝ }
     ensures { λ n. ⌜ n ≡ usersAfter call k users ⌝ }
 {
@@ -194,17 +194,20 @@ pub fn users_after(call: u32, k: usize, users: u16) -> u16
     users
 }
 
-// The role's rights on the entity after grant, 10, or revoke, 11, of those named.
-pub fn rights_after(call: u32, named: u32, rights: u8) -> u8
+// The role's rights on the entity after create, 7, grant, 10, or revoke of those named.
+fn rights_after(call: u32, named: u32, rights: u8) -> u8
     ensures { λ n. ⌜ n ≡ rightsAfter call named rights ⌝ }
 {
+    if call == 7 {
+        return bitset::join8(rights, 8);
+    }
     if call == 10 {
         return bitset::join8(rights, (named % 256) as u8);
     }
     bitset::minus8(rights, (named % 256) as u8)
 }
 
-pub fn empty() -> Role
+fn empty() -> Role
     ensures { λ n. ⌜ n ≡ noRole ⌝ }
 {
     Role {
@@ -212,4 +215,23 @@ pub fn empty() -> Role
         users: 0,
         rights: [0u8; 64],
     }
+}
+
+// Role `p` after a create by it, a grant, a revoke, or an edit of its list or its life, with user `k` and entity `e`. A dead
+// role of sound tables is empty already, so that a make only marks it.
+pub fn after(q: Request, k: usize, e: usize, p: Role) -> Role
+    requires { ⌜ (k < 16) × (e < 64) ⌝ }
+    ensures { λ n. ⌜ n ≡ roleAfter q k e p ⌝ }
+{
+    if q.call == 15 {
+        return empty();
+    }
+    let mut n = p;
+    if q.call <= 11 {
+        n.rights[e] = rights_after(q.call, q.rights, n.rights[e]);
+        return n;
+    }
+    n.live = true;
+    n.users = users_after(q.call, k, n.users);
+    n
 }

@@ -40,7 +40,7 @@ fn mask(named: bool) -> u32
     if named { 4294967295 } else { 0 }
 }
 
-// `f`, which is no root, is a child of `p`, and has the name where `named`. (Two comparisons of whole numbers, so that a
+// `f` is live, its parent is `p`, and it has the name where `named`. (Two comparisons of whole numbers, so that a
 // loop over entities needs no branch.)
 pub fn is_kin(f: Entity, p: usize, named: bool, name: u32) -> bool
     requires { ⌜ p < 64 ⌝ }

@@ -16,6 +16,7 @@ ghost use Rattle.bitset.specs.Sets.{has};
 ghost use Rattle.guard.specs.Level.{sessionLevel};
 ghost use Rattle.guard.specs.Label.{dominates};
 ghost use Rattle.guard.specs.Tables.{noSession};
+ghost use Rattle.guard.specs.Edits.{dropRole, closeBoth};
 ghost use Rattle.guard.specs.Refusals.{first, _when_};
 ghost use Rattle.guard.specs.Requests.{login, logout, take, drop};
 ghost use Rattle.guard.specs.Inside.{number, Seen, enteredOf, sessionAfter};
@@ -155,6 +156,26 @@ fn empty() -> Session
     }
 }
 
+// Session `s` without role `r`, and without entity `e` open.
+pub fn dropped(r: usize, s: Session) -> Session
+    requires { ⌜ r < 16 ⌝ }
+    ensures { λ n. ⌜ n ≡ dropRole r s ⌝ }
+{
+    let mut n = s;
+    n.roles = bitset::without16(s.roles, r as u32);
+    n
+}
+
+pub fn closed(e: usize, s: Session) -> Session
+    requires { ⌜ e < 64 ⌝ }
+    ensures { λ n. ⌜ n ≡ closeBoth e s ⌝ }
+{
+    let mut n = s;
+    n.reading = bitset::without64(s.reading, e as u32);
+    n.writing = bitset::without64(s.writing, e as u32);
+    n
+}
+
 // Session `s` after a request on it, with role `r` and entity `e`.
 pub fn after(q: Request, r: usize, e: usize, s: Session) -> Session
     requires { ⌜ (r < 16) × (e < 64) ⌝ }
@@ -166,13 +187,12 @@ pub fn after(q: Request, r: usize, e: usize, s: Session) -> Session
     if q.call == 1 {
         return empty();
     }
+    if q.call == 3 {
+        return dropped(r, s);
+    }
     let mut n = s;
     if q.call == 2 {
         n.roles = bitset::with16(s.roles, r as u32);
-        return n;
-    }
-    if q.call == 3 {
-        n.roles = bitset::without16(s.roles, r as u32);
         return n;
     }
     if q.call == 4 {
@@ -183,7 +203,5 @@ pub fn after(q: Request, r: usize, e: usize, s: Session) -> Session
         n.writing = bitset::with64(s.writing, e as u32);
         return n;
     }
-    n.reading = bitset::without64(s.reading, e as u32);
-    n.writing = bitset::without64(s.writing, e as u32);
-    n
+    closed(e, s)
 }

@@ -61,7 +61,7 @@ impl Tables {
         if w.kids {
             let kin = w.kin;
             let base = kin / 16 * 16;
-            let mut j = 1usize;
+            let mut j = 0usize;
             while j < 16 {
                 let h = self.entities[base + j];
                 child = child | scan::is_kin(h, kin, w.named, q.name);
@@ -80,60 +80,52 @@ impl Tables {
         };
         let n = judge::judge(q, v);
         if n == 0 {
-            // Each kind stores what it changes: a session, up to 6; create, 7; delete, 8; rename, 9; grant and revoke; list,
-            // unlist and make, up to 14; unmake.
+            // What is stored: the session, up to close, 6; the entity, up to rename, 9, with the role of a create, 7, and the
+            // sweeps of a delete, 8; the role, with the sweep of an unmake, 15.
             let call = q.call;
             if call <= 6 {
                 let s2 = sessions::after(q, r, e, s);
                 self.sessions[x] = s2;
-            } else if call == 7 {
-                let f2 = entities::made(q);
+            } else if call <= 9 {
+                let f2 = entities::after(q, f);
                 self.entities[e] = f2;
-                let mut p2 = self.roles[r];
-                p2.rights[e] = bitset::join8(p2.rights[e], 8);
-                self.roles[r] = p2;
-            } else if call == 8 {
-                let f2 = entities::empty();
-                self.entities[e] = f2;
-                // No role below the entity has rights on it.
-                let mut i2 = e / 16 * 4;
-                while i2 < 16 {
-                    let mut h = self.roles[i2];
-                    h.rights[e] = 0;
-                    self.roles[i2] = h;
-                    i2 += 1;
-                }
-                let mut j2 = 0usize;
-                while j2 < 16 {
-                    let mut h = self.sessions[j2];
-                    h.reading = bitset::without64(h.reading, e as u32);
-                    h.writing = bitset::without64(h.writing, e as u32);
-                    self.sessions[j2] = h;
-                    j2 += 1;
-                }
-            } else if call == 9 {
-                let f2 = entities::renamed(q.name, f);
-                self.entities[e] = f2;
-            } else if call <= 14 {
-                let mut p2 = self.roles[r];
-                if call <= 11 {
-                    p2.rights[e] = roles::rights_after(call, q.rights, p2.rights[e]);
-                    self.roles[r] = p2;
-                } else {
-                    // A dead role of sound tables is empty already.
-                    p2.live = true;
-                    p2.users = roles::users_after(call, k, p2.users);
-                    self.roles[r] = p2;
+                if call == 7 {
+                    let p2 = self.roles[r];
+                    let p3 = roles::after(q, k, e, p2);
+                    self.roles[r] = p3;
+                } else if call == 8 {
+                    // No role below the entity has rights on it, nor has one that is not live.
+                    let mut i2 = e / 16 * 4;
+                    while i2 < 16 {
+                        let j2 = i2;
+                        let g = self.roles[j2];
+                        i2 += 1;
+                        if g.live {
+                            let mut h = self.roles[j2];
+                            h.rights[e] = 0;
+                            self.roles[j2] = h;
+                        }
+                    }
+                    let mut i3 = 0usize;
+                    while i3 < 16 {
+                        let h = self.sessions[i3];
+                        let h2 = sessions::closed(e, h);
+                        self.sessions[i3] = h2;
+                        i3 += 1;
+                    }
                 }
             } else {
-                let p2 = roles::empty();
-                self.roles[r] = p2;
-                let mut i2 = 0usize;
-                while i2 < 16 {
-                    let mut h = self.sessions[i2];
-                    h.roles = bitset::without16(h.roles, r as u32);
-                    self.sessions[i2] = h;
-                    i2 += 1;
+                let p2 = self.roles[r];
+                let p3 = roles::after(q, k, e, p2);
+                self.roles[r] = p3;
+                if call == 15 {
+                    let mut i3 = 0usize;
+                    while i3 < 16 {
+                        let h = self.sessions[i3];
+                        let h2 = sessions::dropped(r, h);
+                        self.sessions[i3] = h2;
+                        i3 += 1;
+                    }
                 }
             }
         }

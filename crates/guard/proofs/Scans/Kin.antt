@@ -1,11 +1,10 @@
 -- A child by its parent and its name, compared as whole numbers.
 --     kin-test      what the code compares is what is asked of one entity
---     kin-at, kin-root, kin-child      .. which is the test of the tables, for an entity that is no root; a root does not
---                   meet it; and one that meets it is a child
---     base-root, base-other    the numbers of a level
+--     kin-seen      .. which is the test of the tables: a root has no name, and is its own parent
+--     kin-all       so that a walk over the level finds whether there is one
 -- Assumes nothing.
 use Prim.Native.Nat.{ℕ, _+_, _*_, _/_, _%_, _^_, _≤_, _<_}
-use mathlib.Core.Path.{_≡_, refl, ap, ap₂, _∙_}
+use mathlib.Core.Path.{_≡_, refl, sym, ap, ap₂, _∙_}
 use mathlib.Core.Bool.{Bool, true, false, not, cond, _&&_}
 use mathlib.Core.List.{[], _∷_}
 use native.Mathlib.Nat.{mod-eq-of-lt}
@@ -13,13 +12,16 @@ use native.Mathlib.Omega.{arith}
 use lib.Bits.{bitAnd, and-mask, and-zero-r}
 use lib.Dec.{eqb}
 use borrow.Author.Tests.{eqb-true, eq-eqb, ne-eqb}
-use Rattle.bitset.specs.Tests.{every, either}
-use Rattle.bitset.specs.Tests.Laws.{both, every-at}
+use Rattle.bitset.specs.Tests.{every, either, some}
+use Rattle.bitset.specs.Tests.Laws.{both, clash, is-false, every-at, some-cong}
 use Rattle.guard.specs.Level.{isRoot}
 use Rattle.guard.specs.Tables.{entityAt, isChild}
 use Rattle.guard.specs.Scan.{markedOf, maskOf}
-use Rattle.guard.specs.Inside.{kinTest}
+use Rattle.guard.specs.Sound.{sound, isRootRecord}
+use Rattle.guard.specs.Inside.{kinTest, kinSeen}
 use Rattle.guard.specs.declared.Tables.{Tables}
+use Rattle.guard.proofs.Laws.Sound.{sound-e}
+use Rattle.guard.proofs.Scans.{Block, block-all}
 
 no-mark : (parent p : ℕ) → parent * 65536 ≡ p * 65536 + 1 → ⊥
 no-mark parent p h = omega arith
@@ -64,9 +66,9 @@ flags false true true c = refl
 flags false true false c = refl
 flags false false b c = refl
 
-pub kin-at : (t : Tables) (p : ℕ) (named : Bool) (name f : ℕ) → isRoot f ≡ false
-    → every (entityAt t f .live ∷ eqb (entityAt t f .parent) p ∷ either (not named) (eqb (entityAt t f .name) name) ∷ []) ≡ kinTest t p named name f
-unfolding kinTest isChild
+kin-at : (t : Tables) (p : ℕ) (named : Bool) (name f : ℕ) → isRoot f ≡ false
+    → kinSeen t p named name f ≡ kinTest t p named name f
+unfolding kinTest kinSeen isChild
 kin-at t p named name f other = rw other (flags named (entityAt t f .live) (eqb (entityAt t f .parent) p) (eqb (entityAt t f .name) name))
 
 no-child : (named a b c : Bool) → cond named (every (every (a ∷ false ∷ b ∷ []) ∷ c ∷ [])) (every (a ∷ false ∷ b ∷ [])) ≡ false
@@ -76,22 +78,40 @@ no-child true false b c = refl
 no-child false true b c = refl
 no-child false false b c = refl
 
-pub kin-root : (t : Tables) (p : ℕ) (named : Bool) (name f : ℕ) → isRoot f ≡ true → kinTest t p named name f ≡ false
+kin-root : (t : Tables) (p : ℕ) (named : Bool) (name f : ℕ) → isRoot f ≡ true → kinTest t p named name f ≡ false
 unfolding kinTest isChild
 kin-root t p named name f root = rw root (no-child named (entityAt t f .live) (eqb (entityAt t f .parent) p) (eqb (entityAt t f .name) name))
 
 -- one that meets it is a child
-pub kin-child : (t : Tables) (p : ℕ) (named : Bool) (name f : ℕ) → kinTest t p named name f ≡ true → isChild t p f ≡ true
+kin-child : (t : Tables) (p : ℕ) (named : Bool) (name f : ℕ) → kinTest t p named name f ≡ true → isChild t p f ≡ true
 unfolding kinTest
 kin-child t p true name f h = every-at _ h 0
 kin-child t p false name f h = h
 
--- ---- the numbers of a level: the lowest is its root, and no other is a root
-pub base-root : (p : ℕ) → isRoot (p / 16 * 16) ≡ true
-base-root p = let z : p / 16 * 16 % 16 ≡ 0 = omega arith in eq-eqb _ _ z
-
-pub base-other : (p j : ℕ) → 1 ≤ j → j < 16 → isRoot (p / 16 * 16 + j) ≡ false
-base-other p j low high = ne-eqb _ _ (past p j low high)
+module _ (t : Tables) (ok : sound t ≡ true) (p : ℕ) (named : Bool) (name : ℕ) (asked : named ≡ true → 1 ≤ name) (other : named ≡ false → isRoot p ≡ false)
   where
-    past : (p j : ℕ) → 1 ≤ j → j < 16 → (p / 16 * 16 + j) % 16 ≡ 0 → ⊥
-    past p j low high h = omega arith
+    no-root : (f : ℕ) → f < 64 → isRoot f ≡ true → kinSeen t p named name f ≡ true → ⊥
+    unfolding kinSeen isRootRecord either
+    no-root f l root h = go named refl
+      where
+        record-of : isRootRecord f (entityAt t f) ≡ true
+        record-of = sound-e t ok .entity f l .root root
+
+        go : (b : Bool) → named ≡ b → ⊥
+        go true e =
+            let same : entityAt t f .name ≡ name = eqb-true _ _ (rw e at (every-at _ h 2)) in
+            let none : entityAt t f .name ≡ 0 = eqb-true _ _ (every-at _ record-of 3) in
+            omega (arith, asked e)
+        go false e =
+            clash (isRoot p) (ap isRoot (sym (eqb-true _ p (every-at _ h 1)) ∙ eqb-true _ f (every-at _ record-of 4)) ∙ root) (other e)
+
+    kin-seen : (f : ℕ) → f < 64 → kinSeen t p named name f ≡ kinTest t p named name f
+    kin-seen f l = go (isRoot f) refl
+      where
+        go : (b : Bool) → isRoot f ≡ b → kinSeen t p named name f ≡ kinTest t p named name f
+        go true root = is-false _ (no-root f l root) ∙ sym (kin-root t p named name f root)
+        go false root = kin-at t p named name f root
+
+    pub kin-all : p < 64 → (m : ℕ) (found : Bool) → Block (kinSeen t p named name) p m found → 16 ≤ m → found ≡ some 64 (kinTest t p named name)
+    kin-all inside m found seen l =
+        block-all _ p t ok inside (λ f k h. kin-child t p named name f (sym (kin-seen f k) ∙ h)) m found seen l ∙ some-cong 64 _ _ kin-seen

@@ -3,7 +3,7 @@
 -- `step`. Assumes nothing.
 use Prim.Native.Nat.{_+_, _-_, _≤_, _<_}
 use mathlib.Core.Path.{_≡_, refl, sym, ap, _∙_}
-use mathlib.Core.Bool.{Bool, true, _&&_}
+use mathlib.Core.Bool.{Bool, true, false, _&&_}
 use mathlib.Core.Logic.{⊎-elim}
 use native.Mathlib.Omega.{arith}
 use lib.ListN.{length, getD, set, take}
@@ -19,18 +19,18 @@ use Rattle.guard.specs.Edits.{withSessions, withRoles, closeBoth, dropRo
 use Rattle.guard.specs.Requests.{ruleOf}
 use Rattle.guard.specs.Step.{step}
 use Rattle.guard.specs.Batch.{batch}
-use Rattle.guard.specs.Inside.{number, kinTest}
+use Rattle.guard.specs.Inside.{number, kinTest, kinSeen}
 use Rattle.guard.specs.declared.Tables.{Tables}
 use Rattle.guard.specs.declared.Request.{Request}
 use Rattle.guard.specs.declared.Outcome.{Outcome}
-use Rattle.guard.proofs.Scans.{walk-in, Block, block-start, block-more, block-all}
+use Rattle.guard.proofs.Scans.{walk-in, Block, block-start, block-more}
 use Rattle.guard.proofs.Scans.Given.{Gathered, gathered-start, gathered-join, gathered-skip, gathered-at}
 use Rattle.guard.proofs.Scans.Climb.{exec, parent-small, steps-left, Climbing, climbing-start, climbing-more, climbing-all}
-use Rattle.guard.proofs.Scans.Kin.{kin-at, kin-root, kin-child, base-root, base-other}
+use Rattle.guard.proofs.Scans.Kin.{kin-all}
 use Rattle.guard.proofs.Soundness.Loops.{long}
-use Rattle.guard.proofs.Sweeps.{mapped, roles-from, roles-more, sessions-more, swept-entity, swept-role, Sized, sized-session, sized-entity, sized-role, sized-roles, sized-sessions}
+use Rattle.guard.proofs.Sweeps.{mapped, roles-from, roles-dead, roles-more, sessions-more, swept-entity, swept-role, Sized, sized-session, sized-entity, sized-role, sized-roles, sized-sessions}
 use Rattle.guard.proofs.Stepping.{Concerned, Found, seen-of, scanned-of, refuses, does, outcome}
-use Rattle.guard.proofs.Doing.{ten-on, session-done, create-done, delete-done, rename-done, rights-done, marks-done, unmake-done}
+use Rattle.guard.proofs.Doing.{nine, session-done, create-done, deleted, delete-done, rename-done, role-done, unmade, unmake-done}
 use Rattle.guard.proofs.Batches.{noRequest, Held, held-none, held-more, all-refused}
 use Rattle.guard.proofs.Tables.run.Statement.{statement}
 use Rattle.guard.proofs.Tables.run.Tie as tie
@@ -48,7 +48,7 @@ abbrev μ-loop3 : tie.MeasureT-loop3
 μ-loop3 count self requests answers t q x r e k s u p f o m w at given i left may₀ a₀ steps₀ may a steps = steps
 
 abbrev Inv-loop4 : tie.InvT-loop4
-Inv-loop4 count self requests answers t q x r e k s u p f o m w at i left may a steps child₀ kin base j₀ child j = Block (kinTest self kin (w .named) (q .name)) kin j child
+Inv-loop4 count self requests answers t q x r e k s u p f o m w at i left may a steps child₀ kin base j₀ child j = Block (kinSeen self kin (w .named) (q .name)) kin j child
 
 abbrev μ-loop4 : tie.MeasureT-loop4
 μ-loop4 count self requests answers t q x r e k s u p f o m w at i left may a steps child₀ kin base j₀ child j = 16 - j
@@ -60,16 +60,16 @@ abbrev μ-loop5 : tie.MeasureT-loop5
 μ-loop5 count self₀ requests answers t x r e k o at i left may a steps child n call i2₀ self i2 = 16 - i2
 
 abbrev Inv-loop6 : tie.InvT-loop6
-Inv-loop6 count self₀ requests answers t x r e k o at i left may a steps child n call i2 j2₀ self j2 = (j2 ≤ 16) × (self ≡ withSessions self₀ (mapped (closeBoth e) j2 (self₀ .sessions)))
+Inv-loop6 count self₀ requests answers t x r e k o at i left may a steps child n call i2 i3₀ self i3 = (i3 ≤ 16) × (self ≡ withSessions self₀ (mapped (closeBoth e) i3 (self₀ .sessions)))
 
 abbrev μ-loop6 : tie.MeasureT-loop6
-μ-loop6 count self₀ requests answers t x r e k o at i left may a steps child n call i2 j2₀ self j2 = 16 - j2
+μ-loop6 count self₀ requests answers t x r e k o at i left may a steps child n call i2 i3₀ self i3 = 16 - i3
 
 abbrev Inv-loop7 : tie.InvT-loop7
-Inv-loop7 count self₀ requests answers t x r e k o at i left may a steps child n call i2₀ self i2 = (i2 ≤ 16) × (self ≡ withSessions self₀ (mapped (dropRole r) i2 (self₀ .sessions)))
+Inv-loop7 count self₀ requests answers t x r e k o at i left may a steps child n call i3₀ self i3 = (i3 ≤ 16) × (self ≡ withSessions self₀ (mapped (dropRole r) i3 (self₀ .sessions)))
 
 abbrev μ-loop7 : tie.MeasureT-loop7
-μ-loop7 count self₀ requests answers t x r e k o at i left may a steps child n call i2₀ self i2 = 16 - i2
+μ-loop7 count self₀ requests answers t x r e k o at i left may a steps child n call i3₀ self i3 = 16 - i3
 
 abbrev Inv-loop : tie.InvT-loop
 Inv-loop count self₀ requests answers₀ t₀ self answers t = (t ≤ count) × Held self₀ requests t self answers × Sized self
@@ -94,9 +94,11 @@ turned c o stepped sized =
     let l = many (c .before .before .before .before .before) in
     (omega arith, held-more _ _ _ _ _ noRequest (c .before .loop .inv .1) o stepped (omega arith) (omega arith), sized)
 
-children : (c : At tie.Joined4) → (c .before .before .before .before .before .before .before .scope-of .result) .kids ≡ true → c .if4 .child ≡ some 64 (kinTest (c .before .before .before .before .before .before .before .before .before .before .before .before .before .before .before .before .before .before .before .before .loop .self) ((c .before .before .before .before .before .before .before .scope-of .result) .kin) ((c .before .before .before .before .before .before .before .scope-of .result) .named) ((getD (c .before .before .before .before .before .before .before .before .before .before .before .before .before .before .before .before .before .before .before .before .before .before .before .before .args .t2) (c .before .before .before .before .before .before .before .before .before .before .before .before .before .before .before .before .before .before .before .before .loop .t) noRequest) .name))
-children c on = ⊎-elim
-    (λ y. y .3 ∙ block-all _ _ (c .before .before .before .before .before .before .before .before .before .before .before .before .before .before .before .before .before .before .before .before .loop .self) (c .before .before .before .before .before .before .before .before .before .before .before .before .before .before .before .before .before .before .before .before .loop .inv .1 .isSound) (c .before .before .before .before .before .before .before .scope-of .ensures .kinIn) (kin-child _ _ _ _) _ _ (y .1 .inv) (omega (arith, y .2 .left)))
+children : (c : At tie.Joined4) → (c .before .before .before .before .before .before .before .scope-of .result) .kids ≡ true → ((c .before .before .before .before .before .before .before .scope-of .result) .named ≡ true → 1 ≤ (getD (c .before .before .before .before .before .before .before .before .before .before .before .before .before .before .before .before .before .before .before .before .before .before .before .before .args .t2) (c .before .before .before .before .before .before .before .before .before .before .before .before .before .before .before .before .before .before .before .before .loop .t) noRequest) .name) → ((c .before .before .before .before .before .before .before .scope-of .result) .named ≡ false → isRoot ((c .before .before .before .before .before .before .before .scope-of .result) .kin) ≡ false)
+    → c .if4 .child ≡ some 64 (kinTest (c .before .before .before .before .before .before .before .before .before .before .before .before .before .before .before .before .before .before .before .before .loop .self) ((c .before .before .before .before .before .before .before .scope-of .result) .kin) ((c .before .before .before .before .before .before .before .scope-of .result) .named) ((getD (c .before .before .before .before .before .before .before .before .before .before .before .before .before .before .before .before .before .before .before .before .before .before .before .before .args .t2) (c .before .before .before .before .before .before .before .before .before .before .before .before .before .before .before .before .before .before .before .before .loop .t) noRequest) .name))
+children c on asked other =
+    ⊎-elim
+    (λ y. y .3 ∙ kin-all _ (c .before .before .before .before .before .before .before .before .before .before .before .before .before .before .before .before .before .before .before .before .loop .inv .1 .isSound) _ _ _ asked other (c .before .before .before .before .before .before .before .scope-of .ensures .kinIn) _ _ (y .1 .inv) (omega (arith, y .2 .left)))
     (λ y. absurd (clash _ on (y .0 .left)))
     (c .if4 .came)
 
@@ -129,24 +131,25 @@ sure c = c .before .before .before .before .before .before .before .before .befo
 near : (c : At tie.After-judge) → Concerned (asked c) (c .before .before .before .before .before .before .before .before .before .before .before .before .before .before .before .before .before .before .below16 .result) (c .before .before .before .before .before .before .before .before .before .before .before .before .before .before .before .before .before .below162 .result) (c .before .before .before .before .before .before .before .before .before .before .before .before .before .before .before .before .below64 .result) (c .before .before .before .before .before .before .before .before .before .before .before .before .before .before .before .below163 .result)
 near c = concerned (c .before .before .before .before .before .before .before .before .before .before .before .before .before .before .before)
 
-bounds : (c : At tie.After-judge) → (c .before .before .before .before .before .before .before .before .before .before .before .before .before .before .before .before .before .before .below16 .result < 16) × (c .before .before .before .before .before .before .before .before .before .before .before .before .before .before .before .before .before .below162 .result < 16) × (c .before .before .before .before .before .before .before .before .before .before .before .before .before .before .before .before .below64 .result < 64) × (c .before .before .before .before .before .before .before .before .before .before .before .before .before .before .before .below163 .result < 16)
-bounds c = (c .before .before .before .before .before .before .before .before .before .before .before .before .before .before .before .before .before .before .below16 .ensures .small, c .before .before .before .before .before .before .before .before .before .before .before .before .before .before .before .before .before .below162 .ensures .small, c .before .before .before .before .before .before .before .before .before .before .before .before .before .before .before .before .below64 .ensures .small, c .before .before .before .before .before .before .before .before .before .before .before .before .before .before .before .below163 .ensures .small)
-
-swept-delete : (c : At tie.After-loop6) → c .before .loop6 .self ≡ ruleOf (asked (c .before .before .before .before .before .before .before .before .before)) .effect (asked (c .before .before .before .before .before .before .before .before .before)) (tables (c .before .before .before .before .before .before .before .before .before))
+swept-delete : (c : At tie.After-loop6) → c .before .loop6 .self ≡ ruleOf (asked (c .before .before .before .before .before .before .before .before .before .before)) .effect (asked (c .before .before .before .before .before .before .before .before .before .before)) (tables (c .before .before .before .before .before .before .before .before .before .before))
 swept-delete c =
-    let roles : length ((tables (c .before .before .before .before .before .before .before .before .before)) .roles) ≡ 16 = c .before .before .before .before .before .before .before .before .before .before .before .before .before .before .before .before .before .before .before .before .before .before .before .before .before .before .before .before .before .before .loop .inv .2 .roles in
-    let sessions : length ((tables (c .before .before .before .before .before .before .before .before .before)) .sessions) ≡ 16 = c .before .before .before .before .before .before .before .before .before .before .before .before .before .before .before .before .before .before .before .before .before .before .before .before .before .before .before .before .before .before .loop .inv .2 .sessions in
+    let roles : length ((tables (c .before .before .before .before .before .before .before .before .before .before)) .roles) ≡ 16 = c .before .before .before .before .before .before .before .before .before .before .before .before .before .before .before .before .before .before .before .before .before .before .before .before .before .before .before .before .before .before .before .loop .inv .2 .roles in
+    let sessions : length ((tables (c .before .before .before .before .before .before .before .before .before .before)) .sessions) ≡ 16 = c .before .before .before .before .before .before .before .before .before .before .before .before .before .before .before .before .before .before .before .before .before .before .before .before .before .before .before .before .before .before .before .loop .inv .2 .sessions in
     let i : c .before .before .before .loop5 .i2 ≡ 16 = omega arith in
-    let j : c .before .loop6 .j2 ≡ 16 = omega arith in
-    swept-entity (tables (c .before .before .before .before .before .before .before .before .before)) (c .before .before .before .before .before .before .before .before .before .before .before .before .before .before .before .before .before .before .before .before .before .before .before .before .before .below64 .result) (c .before .before .before .before .empty .result) (c .before .before .before .loop5 .self) (c .before .loop6 .self) (c .before .before .before .before .empty .ensures) roles sessions (rw i at (c .before .before .before .loop5 .inv .1)) (rw j at (c .before .loop6 .inv .1))
-    ∙ delete-done _ _ (sym (c .before .before .before .before .before .before .before .before .if5 .taken) ∙ judged (c .before .before .before .before .before .before .before .before .before)) _ _ _ _ (near (c .before .before .before .before .before .before .before .before .before)) (c .before .before .before .before .before .if8 .taken)
+    let j : c .before .loop6 .i3 ≡ 16 = omega arith in
+    let delete : asked (c .before .before .before .before .before .before .before .before .before .before) .call ≡ 8 = c .before .before .before .before .if9 .taken in
+    let z = (sym (c .before .before .before .before .before .before .before .before .before .if5 .taken) ∙ judged (c .before .before .before .before .before .before .before .before .before .before)) in
+    swept-entity (tables (c .before .before .before .before .before .before .before .before .before .before)) (c .before .before .before .before .before .before .before .before .before .before .before .before .before .before .before .before .before .before .before .before .before .before .before .before .before .before .below64 .result) (c .before .before .before .before .before .before .after2 .result) (c .before .before .before .loop5 .self) (c .before .loop6 .self) (deleted _ _ z _ _ _ _ (near (c .before .before .before .before .before .before .before .before .before .before)) delete _ _ (c .before .before .before .before .before .before .after2 .ensures)) roles sessions (rw i at (c .before .before .before .loop5 .inv .1)) (rw j at (c .before .loop6 .inv .1))
+    ∙ delete-done _ _ z _ _ _ _ (near (c .before .before .before .before .before .before .before .before .before .before)) delete
 
-swept-unmake : (c : At tie.After-loop7) → c .before .loop7 .self ≡ ruleOf (asked (c .before .before .before .before .before .before .before .before .before)) .effect (asked (c .before .before .before .before .before .before .before .before .before)) (tables (c .before .before .before .before .before .before .before .before .before))
+swept-unmake : (c : At tie.After-loop7) → c .before .loop7 .self ≡ ruleOf (asked (c .before .before .before .before .before .before .before .before)) .effect (asked (c .before .before .before .before .before .before .before .before)) (tables (c .before .before .before .before .before .before .before .before))
 swept-unmake c =
-    let sessions : length ((tables (c .before .before .before .before .before .before .before .before .before)) .sessions) ≡ 16 = c .before .before .before .before .before .before .before .before .before .before .before .before .before .before .before .before .before .before .before .before .before .before .before .before .before .before .before .before .before .before .loop .inv .2 .sessions in
-    let i : c .before .loop7 .i2 ≡ 16 = omega arith in
-    swept-role (tables (c .before .before .before .before .before .before .before .before .before)) (c .before .before .before .before .before .before .before .before .before .before .before .before .before .before .before .before .before .before .before .before .before .before .before .before .before .before .below162 .result) (c .before .before .empty2 .result) (c .before .loop7 .self) (c .before .before .empty2 .ensures) sessions (rw i at (c .before .loop7 .inv .1))
-    ∙ unmake-done _ _ (sym (c .before .before .before .before .before .before .before .before .if5 .taken) ∙ judged (c .before .before .before .before .before .before .before .before .before)) _ _ _ _ (near (c .before .before .before .before .before .before .before .before .before)) (c .before .before .before .if10 .left)
+    let sessions : length ((tables (c .before .before .before .before .before .before .before .before)) .sessions) ≡ 16 = c .before .before .before .before .before .before .before .before .before .before .before .before .before .before .before .before .before .before .before .before .before .before .before .before .before .before .before .before .before .loop .inv .2 .sessions in
+    let i : c .before .loop7 .i3 ≡ 16 = omega arith in
+    let unmake : asked (c .before .before .before .before .before .before .before .before) .call ≡ 15 = c .before .before .if11 .taken in
+    let z = (sym (c .before .before .before .before .before .before .before .if5 .taken) ∙ judged (c .before .before .before .before .before .before .before .before)) in
+    swept-role (tables (c .before .before .before .before .before .before .before .before)) (c .before .before .before .before .before .before .before .before .before .before .before .before .before .before .before .before .before .before .before .before .before .before .before .before .before .below162 .result) (c .before .before .before .after4 .result) (c .before .loop7 .self) (unmade _ _ z _ _ _ _ (near (c .before .before .before .before .before .before .before .before)) unmake _ (c .before .before .before .after4 .ensures)) sessions (rw i at (c .before .loop7 .inv .1))
+    ∙ unmake-done _ _ z _ _ _ _ (near (c .before .before .before .before .before .before .before .before)) unmake
 
 returns : At tie.Need-returns
 unfolding batch
@@ -292,7 +295,7 @@ mul-base : At tie.Need-mul-base
 mul-base c = omega (arith, c .before .before .before .before .before .before .before .scope-of .ensures .kinIn)
 
 loop4-holds : At tie.Need-loop4-holds
-loop4-holds c = block-start _ _ (kin-root _ _ _ _ _ (base-root (c .before .before .before .before .before .before .before .scope-of .result .kin)))
+loop4-holds c = block-start _ _
 
 add-h : At tie.Need-add-h
 add-h c = omega (arith, c .before .before .before .before .before .before .before .before .before .scope-of .ensures .kinIn)
@@ -313,7 +316,8 @@ loop4-less : At tie.Need-loop4-less
 loop4-less c = omega arith
 
 loop4-again : At tie.Need-loop4-again
-loop4-again c = block-more _ _ _ _ _ (c .before .before .before .loop4 .inv) (c .is-kin .ensures ∙ kin-at _ _ _ _ _ (base-other _ _ (c .before .before .before .loop4 .inv .least) (c .before .before .loop4-test .taken))) (c .before .before .loop4-test .taken)
+unfolding kinSeen
+loop4-again c = block-more _ _ _ _ _ (c .before .before .before .loop4 .inv) (c .is-kin .ensures) (c .before .before .loop4-test .taken)
 
 judge-requires : At tie.Need-judge-requires
 judge-requires c κs = search needs
@@ -339,8 +343,8 @@ loop-less c = let h = turn (c .before .before .before .before .before .before .b
 loop-again : At tie.Need-loop-again
 loop-again c = turned (c .before .before .before .before .before .before .before .before .before .before .before .before .before .before .before .before .before .before .before .before .before .before .before) (outcome _ _) (does _ _ _ (sure (c .before .before .before)) (judged (c .before .before .before)) (c .before .before .if5 .taken) _ (session-done _ _ (sym (c .before .before .if5 .taken) ∙ judged (c .before .before .before)) _ _ _ _ (near (c .before .before .before)) (c .before .if6 .taken) _ (c .after .ensures))) (sized-session _ (c .before .before .before .before .before .before .before .before .before .before .before .before .before .before .before .before .before .before .before .before .before .before .before .before .loop .inv .2) _ _)
 
-made-requires : At tie.Need-made-requires
-made-requires c κs = search needs
+after-requires-2 : At tie.Need-after-requires-2
+after-requires-2 c κs = search needs
 
 mul-f2 : At tie.Need-mul-f2
 mul-f2 c = omega (arith, near (c .before .before .before .before) .entity .small)
@@ -349,80 +353,77 @@ element-set-from-f2 : At tie.Need-element-set-from-f2
 element-set-from-f2 c = near (c .before .before .before .before) .entity .small
 
 mul-p2 : At tie.Need-mul-p2
-mul-p2 c = omega (arith, near (c .before .before .before .before) .role .small)
+mul-p2 c = omega (arith, near (c .before .before .before .before .before) .role .small)
 
 element-copy-out-p2 : At tie.Need-element-copy-out-p2
-element-copy-out-p2 c = near (c .before .before .before .before) .role .small
+element-copy-out-p2 c = near (c .before .before .before .before .before) .role .small
 
-element-copy-out-join8 : At tie.Need-element-copy-out-join8
-element-copy-out-join8 c = near (c .before .before .before .before .before) .entity .small
+after-requires-3 : At tie.Need-after-requires-3
+after-requires-3 c κs = (near (c .before .before .before .before .before .before) .user .small, near (c .before .before .before .before .before .before) .entity .small)
 
-join8-requires : At tie.Need-join8-requires
-join8-requires c κs = search needs
+mul-p3 : At tie.Need-mul-p3
+mul-p3 c = omega (arith, near (c .before .before .before .before .before .before .before) .role .small)
 
-element-write-p2 : At tie.Need-element-write-p2
-element-write-p2 c = near (c .before .before .before .before .before .before .before) .entity .small
-
-mul-t114 : At tie.Need-mul-t114
-mul-t114 c = omega (arith, near (c .before .before .before .before .before .before .before) .role .small)
-
-element-set-from-self : At tie.Need-element-set-from-self
-element-set-from-self c = near (c .before .before .before .before .before .before .before) .role .small
+element-set-from-p3 : At tie.Need-element-set-from-p3
+element-set-from-p3 c = near (c .before .before .before .before .before .before .before) .role .small
 
 loop-less-2 : At tie.Need-loop-less-2
 loop-less-2 c = let h = turn (c .before .before .before .before .before .before .before .before .before .before .before .before .before .before .before .before .before .before .before .before .before .before .before .before .before .before .before) in search needs
 
 loop-again-2 : At tie.Need-loop-again-2
-loop-again-2 c = turned (c .before .before .before .before .before .before .before .before .before .before .before .before .before .before .before .before .before .before .before .before .before .before .before .before .before .before .before) (outcome _ _) (does _ _ _ (sure (c .before .before .before .before .before .before .before)) (judged (c .before .before .before .before .before .before .before)) (c .before .before .before .before .before .before .if5 .taken) _ (create-done _ _ (sym (c .before .before .before .before .before .before .if5 .taken) ∙ judged (c .before .before .before .before .before .before .before)) _ _ _ _ (near (c .before .before .before .before .before .before .before)) (c .before .before .before .before .if7 .taken) _ _ (c .before .before .before .made .ensures) (c .join8 .ensures))) (sized-role _ (c .before .before .before .before .before .before .before .before .before .before .before .before .before .before .before .before .before .before .before .before .before .before .before .before .before .before .before .before .loop .inv .2) _ _ _)
-
-empty-requires : At tie.Need-empty-requires
-empty-requires c κs = search needs
-
-mul-f2-2 : At tie.Need-mul-f2-2
-mul-f2-2 c = omega (arith, near (c .before .before .before .before .before) .entity .small)
-
-element-set-from-f2-2 : At tie.Need-element-set-from-f2-2
-element-set-from-f2-2 c = near (c .before .before .before .before .before) .entity .small
+loop-again-2 c = turned (c .before .before .before .before .before .before .before .before .before .before .before .before .before .before .before .before .before .before .before .before .before .before .before .before .before .before .before) (outcome _ _) (does _ _ _ (sure (c .before .before .before .before .before .before .before)) (judged (c .before .before .before .before .before .before .before)) (c .before .before .before .before .before .before .if5 .taken) _ (create-done _ _ (sym (c .before .before .before .before .before .before .if5 .taken) ∙ judged (c .before .before .before .before .before .before .before)) _ _ _ _ (near (c .before .before .before .before .before .before .before)) (c .before .before .if8 .taken) _ _ (c .before .before .before .after2 .ensures) (c .after3 .ensures))) (sized-role _ (c .before .before .before .before .before .before .before .before .before .before .before .before .before .before .before .before .before .before .before .before .before .before .before .before .before .before .before .before .loop .inv .2) _ _ _)
 
 mul-i2 : At tie.Need-mul-i2
-mul-i2 c = omega (arith, near (c .before .before .before .before .before) .entity .small)
+mul-i2 c = omega (arith, near (c .before .before .before .before .before .before) .entity .small)
 
 loop5-holds : At tie.Need-loop5-holds
-loop5-holds c = (omega (arith, near (c .before .before .before .before .before) .entity .small), roles-from (tables (c .before .before .before .before .before)) _ (sure (c .before .before .before .before .before)) (near (c .before .before .before .before .before) .entity .small) _ refl)
+loop5-holds c = (omega (arith, near (c .before .before .before .before .before .before) .entity .small), roles-from (tables (c .before .before .before .before .before .before)) _ (sure (c .before .before .before .before .before .before)) (near (c .before .before .before .before .before .before) .entity .small) _ refl)
 
-mul-h-4 : At tie.Need-mul-h-4
-mul-h-4 c = omega (arith, c .loop5-test .taken)
+mul-g : At tie.Need-mul-g
+mul-g c = omega (arith, c .loop5-test .taken)
 
-element-copy-out-h-4 : At tie.Need-element-copy-out-h-4
-element-copy-out-h-4 c = c .loop5-test .taken
-
-element-write-h : At tie.Need-element-write-h
-element-write-h c = near (c .before .before .before .before .before .before .before .before) .entity .small
-
-mul-t133 : At tie.Need-mul-t133
-mul-t133 c = omega (arith, c .before .loop5-test .taken)
-
-element-set-from-self-2 : At tie.Need-element-set-from-self-2
-element-set-from-self-2 c = c .before .loop5-test .taken
+element-copy-out-g : At tie.Need-element-copy-out-g
+element-copy-out-g c = c .loop5-test .taken
 
 add-i2 : At tie.Need-add-i2
-add-i2 c = let h = bounds (c .before .before .before .before .before .before .before .before) in search needs
+add-i2 c = omega (arith, c .before .loop5-test .taken)
+
+mul-h-4 : At tie.Need-mul-h-4
+mul-h-4 c = omega (arith, c .before .before .loop5-test .taken)
+
+element-copy-out-h-4 : At tie.Need-element-copy-out-h-4
+element-copy-out-h-4 c = c .before .before .loop5-test .taken
+
+element-write-h : At tie.Need-element-write-h
+element-write-h c = near (c .before .before .before .before .before .before .before .before .before .before .before) .entity .small
+
+mul-t134 : At tie.Need-mul-t134
+mul-t134 c = omega (arith, c .before .before .before .loop5-test .taken)
+
+element-set-from-self : At tie.Need-element-set-from-self
+element-set-from-self c = c .before .before .before .loop5-test .taken
 
 loop5-less : At tie.Need-loop5-less
-loop5-less c = omega arith
+loop5-less c = omega (arith, c .before .before .before .loop5-test .taken)
 
 loop5-again : At tie.Need-loop5-again
 unfolding clearRights setRights
-loop5-again c = (omega arith, roles-more (clearRights _) _ _ _ (c .before .before .loop5 .inv .1))
+loop5-again c = (omega (arith, c .before .before .before .loop5-test .taken), roles-more (clearRights _) _ _ _ (c .before .before .before .before .loop5 .inv .1))
+
+loop5-less-2 : At tie.Need-loop5-less-2
+loop5-less-2 c = omega (arith, c .before .before .loop5-test .taken)
+
+loop5-again-2 : At tie.Need-loop5-again-2
+loop5-again-2 c = (omega (arith, c .before .before .loop5-test .taken), roles-dead (tables (c .before .before .before .before .before .before .before .before .before .before)) _ (sure (c .before .before .before .before .before .before .before .before .before .before)) (near (c .before .before .before .before .before .before .before .before .before .before) .entity .small) _ _ _ refl (c .before .before .loop5-test .taken) (c .before .before .before .loop5 .inv .1) (c .if10 .left))
 
 loop6-holds : At tie.Need-loop6-holds
 loop6-holds c = (omega arith, refl)
 
 loop-less-3 : At tie.Need-loop-less-3
-loop-less-3 c = let h = turn (c .before .before .before .before .before .before .before .before .before .before .before .before .before .before .before .before .before .before .before .before .before .before .before .before .before .before .before .before .before) in search needs
+loop-less-3 c = let h = turn (c .before .before .before .before .before .before .before .before .before .before .before .before .before .before .before .before .before .before .before .before .before .before .before .before .before .before .before .before .before .before) in search needs
 
 loop-again-3 : At tie.Need-loop-again-3
-loop-again-3 c = turned (c .before .before .before .before .before .before .before .before .before .before .before .before .before .before .before .before .before .before .before .before .before .before .before .before .before .before .before .before .before) (outcome _ _) (does _ _ _ (sure (c .before .before .before .before .before .before .before .before .before)) (judged (c .before .before .before .before .before .before .before .before .before)) (c .before .before .before .before .before .before .before .before .if5 .taken) _ (swept-delete (c))) (sized-sessions _ (sized-roles _ (sized-entity _ (c .before .before .before .before .before .before .before .before .before .before .before .before .before .before .before .before .before .before .before .before .before .before .before .before .before .before .before .before .before .before .loop .inv .2) _) (clearRights (c .before .before .before .before .before .before .before .before .before .before .before .before .before .before .before .before .before .before .before .before .before .before .before .before .before .below64 .result)) (c .before .before .before .loop5 .i2) _ (c .before .before .before .loop5 .inv .1)) (closeBoth (c .before .before .before .before .before .before .before .before .before .before .before .before .before .before .before .before .before .before .before .before .before .before .before .before .before .below64 .result)) (c .before .loop6 .j2) _ (c .before .loop6 .inv .1))
+loop-again-3 c = turned (c .before .before .before .before .before .before .before .before .before .before .before .before .before .before .before .before .before .before .before .before .before .before .before .before .before .before .before .before .before .before) (outcome _ _) (does _ _ _ (sure (c .before .before .before .before .before .before .before .before .before .before)) (judged (c .before .before .before .before .before .before .before .before .before .before)) (c .before .before .before .before .before .before .before .before .before .if5 .taken) _ (swept-delete (c))) (sized-sessions _ (sized-roles _ (sized-entity _ (c .before .before .before .before .before .before .before .before .before .before .before .before .before .before .before .before .before .before .before .before .before .before .before .before .before .before .before .before .before .before .before .loop .inv .2) _) (clearRights (c .before .before .before .before .before .before .before .before .before .before .before .before .before .before .before .before .before .before .before .before .before .before .before .before .before .before .below64 .result)) (c .before .before .before .loop5 .i2) _ (c .before .before .before .loop5 .inv .1)) (closeBoth (c .before .before .before .before .before .before .before .before .before .before .before .before .before .before .before .before .before .before .before .before .before .before .before .before .before .before .below64 .result)) (c .before .loop6 .i3) _ (c .before .loop6 .inv .1))
 
 mul-h-5 : At tie.Need-mul-h-5
 mul-h-5 c = omega (arith, c .loop6-test .taken)
@@ -430,142 +431,89 @@ mul-h-5 c = omega (arith, c .loop6-test .taken)
 element-copy-out-h-5 : At tie.Need-element-copy-out-h-5
 element-copy-out-h-5 c = c .loop6-test .taken
 
-cast-without64 : At tie.Need-cast-without64
-cast-without64 c = let h = bounds (c .before .before .before .before .before .before .before .before .before .before) in search needs
+closed-requires : At tie.Need-closed-requires
+closed-requires c κs = near (c .before .before .before .before .before .before .before .before .before .before .before) .entity .small
 
-without64-requires : At tie.Need-without64-requires
-without64-requires c κs = search needs
+mul-h2 : At tie.Need-mul-h2
+mul-h2 c = omega (arith, c .before .before .loop6-test .taken)
 
-cast-without64-2 : At tie.Need-cast-without64-2
-cast-without64-2 c = let h = bounds (c .before .before .before .before .before .before .before .before .before .before .before) in search needs
+element-set-from-h2 : At tie.Need-element-set-from-h2
+element-set-from-h2 c = c .before .before .loop6-test .taken
 
-without64-requires-2 : At tie.Need-without64-requires-2
-without64-requires-2 c κs = let h = bounds (c .before .before .before .before .before .before .before .before .before .before .before) in search needs
-
-mul-h-6 : At tie.Need-mul-h-6
-mul-h-6 c = omega (arith, c .before .before .before .loop6-test .taken)
-
-element-set-from-h : At tie.Need-element-set-from-h
-element-set-from-h c = c .before .before .before .loop6-test .taken
-
-add-j2 : At tie.Need-add-j2
-add-j2 c = let h = bounds (c .before .before .before .before .before .before .before .before .before .before .before .before) in search needs
+add-i3 : At tie.Need-add-i3
+add-i3 c = omega (arith, c .before .before .loop6-test .taken)
 
 loop6-less : At tie.Need-loop6-less
-loop6-less c = omega arith
+loop6-less c = omega (arith, c .before .before .loop6-test .taken)
 
 loop6-again : At tie.Need-loop6-again
-unfolding closeBoth
-loop6-again c = (omega arith, rw (c .before .without64 .ensures, c .without642 .ensures) (sessions-more (closeBoth _) _ _ _ (c .before .before .before .before .loop6 .inv .1)))
-
-renamed-requires : At tie.Need-renamed-requires
-renamed-requires c κs = search needs
-
-mul-f2-3 : At tie.Need-mul-f2-3
-mul-f2-3 c = omega (arith, near (c .before .before .before .before .before .before) .entity .small)
-
-element-set-from-f2-3 : At tie.Need-element-set-from-f2-3
-element-set-from-f2-3 c = near (c .before .before .before .before .before .before) .entity .small
+loop6-again c = (omega (arith, c .before .before .loop6-test .taken), rw (c .closed .ensures) (sessions-more (closeBoth _) _ _ _ (c .before .before .before .loop6 .inv .1)))
 
 loop-less-4 : At tie.Need-loop-less-4
 loop-less-4 c = let h = turn (c .before .before .before .before .before .before .before .before .before .before .before .before .before .before .before .before .before .before .before .before .before .before .before .before .before .before) in search needs
 
 loop-again-4 : At tie.Need-loop-again-4
-loop-again-4 c = turned (c .before .before .before .before .before .before .before .before .before .before .before .before .before .before .before .before .before .before .before .before .before .before .before .before .before .before) (outcome _ _) (does _ _ _ (sure (c .before .before .before .before .before .before)) (judged (c .before .before .before .before .before .before)) (c .before .before .before .before .before .if5 .taken) _ (rename-done _ _ (sym (c .before .before .before .before .before .if5 .taken) ∙ judged (c .before .before .before .before .before .before)) _ _ _ _ (near (c .before .before .before .before .before .before)) (c .before .if9 .taken) _ (c .renamed .ensures))) (sized-entity _ (c .before .before .before .before .before .before .before .before .before .before .before .before .before .before .before .before .before .before .before .before .before .before .before .before .before .before .before .loop .inv .2) _)
+loop-again-4 c = turned (c .before .before .before .before .before .before .before .before .before .before .before .before .before .before .before .before .before .before .before .before .before .before .before .before .before .before) (outcome _ _) (does _ _ _ (sure (c .before .before .before .before .before .before)) (judged (c .before .before .before .before .before .before)) (c .before .before .before .before .before .if5 .taken) _ (rename-done _ _ (sym (c .before .before .before .before .before .if5 .taken) ∙ judged (c .before .before .before .before .before .before)) _ _ _ _ (near (c .before .before .before .before .before .before)) (nine _ (c .before .before .before .before .if6 .left) (c .before .before .before .if7 .taken) (c .before .if8 .left) (c .if9 .left)) _ (c .before .before .after2 .ensures))) (sized-entity _ (c .before .before .before .before .before .before .before .before .before .before .before .before .before .before .before .before .before .before .before .before .before .before .before .before .before .before .before .loop .inv .2) _)
 
 mul-p2-2 : At tie.Need-mul-p2-2
-mul-p2-2 c = omega (arith, near (c .before .before .before .before .before .before) .role .small)
+mul-p2-2 c = omega (arith, near (c .before .before .before) .role .small)
 
 element-copy-out-p2-2 : At tie.Need-element-copy-out-p2-2
-element-copy-out-p2-2 c = near (c .before .before .before .before .before .before) .role .small
+element-copy-out-p2-2 c = near (c .before .before .before) .role .small
 
-element-copy-out-rights-after : At tie.Need-element-copy-out-rights-after
-element-copy-out-rights-after c = near (c .before .before .before .before .before .before .before .before) .entity .small
+after-requires-4 : At tie.Need-after-requires-4
+after-requires-4 c κs = (near (c .before .before .before .before) .user .small, near (c .before .before .before .before) .entity .small)
 
-rights-after-requires : At tie.Need-rights-after-requires
-rights-after-requires c κs = search needs
+mul-p3-2 : At tie.Need-mul-p3-2
+mul-p3-2 c = omega (arith, near (c .before .before .before .before .before) .role .small)
 
-element-write-p2-2 : At tie.Need-element-write-p2-2
-element-write-p2-2 c = near (c .before .before .before .before .before .before .before .before .before .before) .entity .small
-
-mul-t166 : At tie.Need-mul-t166
-mul-t166 c = omega (arith, near (c .before .before .before .before .before .before .before .before .before .before) .role .small)
-
-element-set-from-self-3 : At tie.Need-element-set-from-self-3
-element-set-from-self-3 c = near (c .before .before .before .before .before .before .before .before .before .before) .role .small
-
-loop-less-5 : At tie.Need-loop-less-5
-loop-less-5 c = let h = turn (c .before .before .before .before .before .before .before .before .before .before .before .before .before .before .before .before .before .before .before .before .before .before .before .before .before .before .before .before .before .before) in search needs
-
-loop-again-5 : At tie.Need-loop-again-5
-loop-again-5 c = turned (c .before .before .before .before .before .before .before .before .before .before .before .before .before .before .before .before .before .before .before .before .before .before .before .before .before .before .before .before .before .before) (outcome _ _) (does _ _ _ (sure (c .before .before .before .before .before .before .before .before .before .before)) (judged (c .before .before .before .before .before .before .before .before .before .before)) (c .before .before .before .before .before .before .before .before .before .if5 .taken) _ (rights-done _ _ (sym (c .before .before .before .before .before .before .before .before .before .if5 .taken) ∙ judged (c .before .before .before .before .before .before .before .before .before .before)) _ _ _ _ (near (c .before .before .before .before .before .before .before .before .before .before)) (ten-on _ (c .before .before .before .before .before .before .before .before .if6 .left) (c .before .before .before .before .before .before .before .if7 .left) (c .before .before .before .before .before .before .if8 .left) (c .before .before .before .before .before .if9 .left)) (c .before .before .if11 .taken) _ (c .rights-after .ensures))) (sized-role _ (c .before .before .before .before .before .before .before .before .before .before .before .before .before .before .before .before .before .before .before .before .before .before .before .before .before .before .before .before .before .before .before .loop .inv .2) _ _ _)
-
-users-after-requires : At tie.Need-users-after-requires
-users-after-requires c κs = near (c .before .before .before .before .before .before .before .before) .user .small
-
-mul-t172 : At tie.Need-mul-t172
-mul-t172 c = omega (arith, near (c .before .before .before .before .before .before .before .before .before) .role .small)
-
-element-set-from-self-4 : At tie.Need-element-set-from-self-4
-element-set-from-self-4 c = near (c .before .before .before .before .before .before .before .before .before) .role .small
-
-loop-less-6 : At tie.Need-loop-less-6
-loop-less-6 c = let h = turn (c .before .before .before .before .before .before .before .before .before .before .before .before .before .before .before .before .before .before .before .before .before .before .before .before .before .before .before .before .before) in search needs
-
-loop-again-6 : At tie.Need-loop-again-6
-loop-again-6 c = turned (c .before .before .before .before .before .before .before .before .before .before .before .before .before .before .before .before .before .before .before .before .before .before .before .before .before .before .before .before .before) (outcome _ _) (does _ _ _ (sure (c .before .before .before .before .before .before .before .before .before)) (judged (c .before .before .before .before .before .before .before .before .before)) (c .before .before .before .before .before .before .before .before .if5 .taken) _ (marks-done _ _ (sym (c .before .before .before .before .before .before .before .before .if5 .taken) ∙ judged (c .before .before .before .before .before .before .before .before .before)) _ _ _ _ (near (c .before .before .before .before .before .before .before .before .before)) (sure (c .before .before .before .before .before .before .before .before .before)) (omega (arith, c .before .if11 .left)) (c .before .before .before .if10 .taken) _ (c .users-after .ensures))) (sized-role _ (c .before .before .before .before .before .before .before .before .before .before .before .before .before .before .before .before .before .before .before .before .before .before .before .before .before .before .before .before .before .before .loop .inv .2) _ _ _)
-
-empty-requires-2 : At tie.Need-empty-requires-2
-empty-requires-2 c κs = let h = bounds (c .before .before .before .before .before .before) in search needs
-
-mul-p2-3 : At tie.Need-mul-p2-3
-mul-p2-3 c = omega (arith, near (c .before .before .before .before .before .before .before) .role .small)
-
-element-set-from-p2 : At tie.Need-element-set-from-p2
-element-set-from-p2 c = near (c .before .before .before .before .before .before .before) .role .small
+element-set-from-p3-2 : At tie.Need-element-set-from-p3-2
+element-set-from-p3-2 c = near (c .before .before .before .before .before) .role .small
 
 loop7-holds : At tie.Need-loop7-holds
 loop7-holds c = (omega arith, refl)
 
-loop-less-7 : At tie.Need-loop-less-7
-loop-less-7 c = let h = turn (c .before .before .before .before .before .before .before .before .before .before .before .before .before .before .before .before .before .before .before .before .before .before .before .before .before .before .before .before .before) in search needs
+loop-less-5 : At tie.Need-loop-less-5
+loop-less-5 c = let h = turn (c .before .before .before .before .before .before .before .before .before .before .before .before .before .before .before .before .before .before .before .before .before .before .before .before .before .before .before .before) in search needs
 
-loop-again-7 : At tie.Need-loop-again-7
-loop-again-7 c = turned (c .before .before .before .before .before .before .before .before .before .before .before .before .before .before .before .before .before .before .before .before .before .before .before .before .before .before .before .before .before) (outcome _ _) (does _ _ _ (sure (c .before .before .before .before .before .before .before .before .before)) (judged (c .before .before .before .before .before .before .before .before .before)) (c .before .before .before .before .before .before .before .before .if5 .taken) _ (swept-unmake (c))) (sized-sessions _ (sized-role _ (c .before .before .before .before .before .before .before .before .before .before .before .before .before .before .before .before .before .before .before .before .before .before .before .before .before .before .before .before .before .before .loop .inv .2) _ _ _) (dropRole (c .before .before .before .before .before .before .before .before .before .before .before .before .before .before .before .before .before .before .before .before .before .before .before .before .before .before .below162 .result)) (c .before .loop7 .i2) _ (c .before .loop7 .inv .1))
+loop-again-5 : At tie.Need-loop-again-5
+loop-again-5 c = turned (c .before .before .before .before .before .before .before .before .before .before .before .before .before .before .before .before .before .before .before .before .before .before .before .before .before .before .before .before) (outcome _ _) (does _ _ _ (sure (c .before .before .before .before .before .before .before .before)) (judged (c .before .before .before .before .before .before .before .before)) (c .before .before .before .before .before .before .before .if5 .taken) _ (swept-unmake (c))) (sized-sessions _ (sized-role _ (c .before .before .before .before .before .before .before .before .before .before .before .before .before .before .before .before .before .before .before .before .before .before .before .before .before .before .before .before .before .loop .inv .2) _ _ _) (dropRole (c .before .before .before .before .before .before .before .before .before .before .before .before .before .before .before .before .before .before .before .before .before .before .before .before .before .below162 .result)) (c .before .loop7 .i3) _ (c .before .loop7 .inv .1))
 
-mul-h-7 : At tie.Need-mul-h-7
-mul-h-7 c = omega (arith, c .loop7-test .taken)
+mul-h-6 : At tie.Need-mul-h-6
+mul-h-6 c = omega (arith, c .loop7-test .taken)
 
 element-copy-out-h-6 : At tie.Need-element-copy-out-h-6
 element-copy-out-h-6 c = c .loop7-test .taken
 
-cast-without16 : At tie.Need-cast-without16
-cast-without16 c = let h = bounds (c .before .before .before .before .before .before .before .before .before .before) in search needs
+dropped-requires : At tie.Need-dropped-requires
+dropped-requires c κs = near (c .before .before .before .before .before .before .before .before .before) .role .small
 
-without16-requires : At tie.Need-without16-requires
-without16-requires c κs = search needs
+mul-h2-2 : At tie.Need-mul-h2-2
+mul-h2-2 c = omega (arith, c .before .before .loop7-test .taken)
 
-mul-h-8 : At tie.Need-mul-h-8
-mul-h-8 c = omega (arith, c .before .before .loop7-test .taken)
+element-set-from-h2-2 : At tie.Need-element-set-from-h2-2
+element-set-from-h2-2 c = c .before .before .loop7-test .taken
 
-element-set-from-h-2 : At tie.Need-element-set-from-h-2
-element-set-from-h-2 c = c .before .before .loop7-test .taken
-
-add-i2-2 : At tie.Need-add-i2-2
-add-i2-2 c = let h = bounds (c .before .before .before .before .before .before .before .before .before .before .before) in search needs
+add-i3-2 : At tie.Need-add-i3-2
+add-i3-2 c = omega (arith, c .before .before .loop7-test .taken)
 
 loop7-less : At tie.Need-loop7-less
-loop7-less c = omega arith
+loop7-less c = omega (arith, c .before .before .loop7-test .taken)
 
 loop7-again : At tie.Need-loop7-again
-unfolding dropRole
-loop7-again c = (omega arith, rw (c .without16 .ensures) (sessions-more (dropRole _) _ _ _ (c .before .before .before .loop7 .inv .1)))
+loop7-again c = (omega (arith, c .before .before .loop7-test .taken), rw (c .dropped .ensures) (sessions-more (dropRole _) _ _ _ (c .before .before .before .loop7 .inv .1)))
 
-loop-less-8 : At tie.Need-loop-less-8
-loop-less-8 c = let h = turn (c .before .before .before .before .before .before .before .before .before .before .before .before .before .before .before .before .before .before .before .before .before) in search needs
+loop-less-6 : At tie.Need-loop-less-6
+loop-less-6 c = let h = turn (c .before .before .before .before .before .before .before .before .before .before .before .before .before .before .before .before .before .before .before .before .before .before .before .before .before .before) in search needs
 
-loop-again-8 : At tie.Need-loop-again-8
-loop-again-8 c = turned (c .before .before .before .before .before .before .before .before .before .before .before .before .before .before .before .before .before .before .before .before .before) (outcome _ _) (refuses _ _ _ (sure (c .before)) (judged (c .before)) (c .if5 .left)) (c .before .before .before .before .before .before .before .before .before .before .before .before .before .before .before .before .before .before .before .before .before .before .loop .inv .2)
+loop-again-6 : At tie.Need-loop-again-6
+loop-again-6 c = turned (c .before .before .before .before .before .before .before .before .before .before .before .before .before .before .before .before .before .before .before .before .before .before .before .before .before .before) (outcome _ _) (does _ _ _ (sure (c .before .before .before .before .before .before)) (judged (c .before .before .before .before .before .before)) (c .before .before .before .before .before .if5 .taken) _ (role-done _ _ (sym (c .before .before .before .before .before .if5 .taken) ∙ judged (c .before .before .before .before .before .before)) _ _ _ _ (near (c .before .before .before .before .before .before)) (sure (c .before .before .before .before .before .before)) (c .before .before .before .if7 .left) (c .if11 .left) _ (c .before .after4 .ensures))) (sized-role _ (c .before .before .before .before .before .before .before .before .before .before .before .before .before .before .before .before .before .before .before .before .before .before .before .before .before .before .before .loop .inv .2) _ _ _)
+
+loop-less-7 : At tie.Need-loop-less-7
+loop-less-7 c = let h = turn (c .before .before .before .before .before .before .before .before .before .before .before .before .before .before .before .before .before .before .before .before .before) in search needs
+
+loop-again-7 : At tie.Need-loop-again-7
+loop-again-7 c = turned (c .before .before .before .before .before .before .before .before .before .before .before .before .before .before .before .before .before .before .before .before .before) (outcome _ _) (refuses _ _ _ (sure (c .before)) (judged (c .before)) (c .if5 .left)) (c .before .before .before .before .before .before .before .before .before .before .before .before .before .before .before .before .before .before .before .before .before .before .loop .inv .2)
 
 returns-3 : At tie.Need-returns-3
 unfolding batch
@@ -654,79 +602,61 @@ run-spec =
     element-set-from-s2
     loop-less
     loop-again
-    made-requires
+    after-requires-2
     mul-f2
     element-set-from-f2
     mul-p2
     element-copy-out-p2
-    element-copy-out-join8
-    join8-requires
-    element-write-p2
-    mul-t114
-    element-set-from-self
+    after-requires-3
+    mul-p3
+    element-set-from-p3
     loop-less-2
     loop-again-2
-    empty-requires
-    mul-f2-2
-    element-set-from-f2-2
     mul-i2
     loop5-holds
+    mul-g
+    element-copy-out-g
+    add-i2
     mul-h-4
     element-copy-out-h-4
     element-write-h
-    mul-t133
-    element-set-from-self-2
-    add-i2
+    mul-t134
+    element-set-from-self
     loop5-less
     loop5-again
+    loop5-less-2
+    loop5-again-2
     loop6-holds
     loop-less-3
     loop-again-3
     mul-h-5
     element-copy-out-h-5
-    cast-without64
-    without64-requires
-    cast-without64-2
-    without64-requires-2
-    mul-h-6
-    element-set-from-h
-    add-j2
+    closed-requires
+    mul-h2
+    element-set-from-h2
+    add-i3
     loop6-less
     loop6-again
-    renamed-requires
-    mul-f2-3
-    element-set-from-f2-3
     loop-less-4
     loop-again-4
     mul-p2-2
     element-copy-out-p2-2
-    element-copy-out-rights-after
-    rights-after-requires
-    element-write-p2-2
-    mul-t166
-    element-set-from-self-3
+    after-requires-4
+    mul-p3-2
+    element-set-from-p3-2
+    loop7-holds
     loop-less-5
     loop-again-5
-    users-after-requires
-    mul-t172
-    element-set-from-self-4
-    loop-less-6
-    loop-again-6
-    empty-requires-2
-    mul-p2-3
-    element-set-from-p2
-    loop7-holds
-    loop-less-7
-    loop-again-7
-    mul-h-7
+    mul-h-6
     element-copy-out-h-6
-    cast-without16
-    without16-requires
-    mul-h-8
-    element-set-from-h-2
-    add-i2-2
+    dropped-requires
+    mul-h2-2
+    element-set-from-h2-2
+    add-i3-2
     loop7-less
     loop7-again
-    loop-less-8
-    loop-again-8
+    loop-less-6
+    loop-again-6
+    loop-less-7
+    loop-again-7
     returns-3)

@@ -30,7 +30,7 @@ unfolding create createBelow
 returns-2 c t seen may =
     let i = in-create _ (by-not-false _ _ (c .before .before .before .before .create-in-range .ensures) (c .before .before .before .if1 .left)) in
     number-first create t _ _ (i .all)
-    (c .create-refusal .ensures ∙ first-after _ _ _ refl (c .before .create-refusal-to-9 .ensures) ∙ rw (seen .session (i .seat), seen .entity (i .entity), seen .live (i .role), may .parent (i .parent), may .may (i .seat) (i .parent), Bool·not-not, may .child (i .parent), c .before .before .made .ensures))
+    (c .create-refusal .ensures ∙ first-after _ _ _ refl (c .before .create-refusal-to-9 .ensures) ∙ rw (seen .session (i .seat), seen .entity (i .entity), seen .live (i .role), may .parent (i .parent), may .may (i .seat) (i .parent), Bool·not-not, may .child (i .parent) (i .named), c .before .before .made .ensures))
 
 pub create-number-spec : {M : Type 1} → statement M
 create-number-spec =

@@ -32,7 +32,7 @@ returns-5 : tie.Need-returns-5
 unfolding rename fieldInRange
 returns-5 c t seen may =
     number-first rename t _ _ (search in-range depth 8)
-    (c .change-refusal .ensures ∙ rw (seen .session (omega arith), seen .entity (omega arith), may .may (omega arith) (omega arith), Bool·not-not, may .child (omega arith)))
+    (c .change-refusal .ensures ∙ rw (seen .session (omega arith), seen .entity (omega arith), may .may (omega arith) (omega arith), Bool·not-not, may .child (omega arith) (omega arith)))
 
 pub rename-number-spec : {M : Type 1} → statement M
 rename-number-spec =

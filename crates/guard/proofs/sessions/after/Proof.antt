@@ -1,6 +1,6 @@
 -- `after` is the acting session after a request on it, by the request's number. Assumes nothing.
 use lib.ListN.{List·getD-eq-default}
-use Rattle.guard.specs.Edits.{takeRole, dropRole, openReading, openWriting, closeBoth}
+use Rattle.guard.specs.Edits.{takeRole, openReading, openWriting, closeBoth}
 use Rattle.guard.specs.Inside.{sessionAfter}
 use Rattle.guard.proofs.Doing.{past-six}
 use borrow.Author.Needs.{needs}
@@ -21,25 +21,22 @@ returns-2 : tie.Need-returns-2
 unfolding sessionAfter
 returns-2 c = rw (c .before .if2 .taken, c .empty .ensures)
 
+dropped-requires : tie.Need-dropped-requires
+dropped-requires c κs = search needs
+
+returns-3 : tie.Need-returns-3
+unfolding sessionAfter
+returns-3 c = rw (c .before .if3 .taken, c .dropped .ensures)
+
 cast-with16 : tie.Need-cast-with16
 cast-with16 c = search needs
 
 with16-requires : tie.Need-with16-requires
 with16-requires c κs = search needs
 
-returns-3 : tie.Need-returns-3
-unfolding sessionAfter takeRole
-returns-3 c = rw (c .before .if3 .taken, c .with16 .ensures)
-
-cast-without16 : tie.Need-cast-without16
-cast-without16 c = search needs
-
-without16-requires : tie.Need-without16-requires
-without16-requires c κs = search needs
-
 returns-4 : tie.Need-returns-4
-unfolding sessionAfter dropRole
-returns-4 c = rw (c .before .if4 .taken, c .without16 .ensures)
+unfolding sessionAfter takeRole
+returns-4 c = rw (c .before .if4 .taken, c .with16 .ensures)
 
 cast-with64 : tie.Need-cast-with64
 cast-with64 c = search needs
@@ -61,21 +58,12 @@ returns-6 : tie.Need-returns-6
 unfolding sessionAfter openWriting
 returns-6 c = rw (c .before .if6 .taken, c .with642 .ensures)
 
-cast-without64 : tie.Need-cast-without64
-cast-without64 c = search needs
-
-without64-requires : tie.Need-without64-requires
-without64-requires c κs = search needs
-
-cast-without64-2 : tie.Need-cast-without64-2
-cast-without64-2 c = search needs
-
-without64-requires-2 : tie.Need-without64-requires-2
-without64-requires-2 c κs = search needs
+closed-requires : tie.Need-closed-requires
+closed-requires c κs = search needs
 
 returns-7 : tie.Need-returns-7
-unfolding sessionAfter closeBoth
-returns-7 c = rw (List·getD-eq-default _ (closeBoth _ _) (past-six _ (c .before .before .before .before .before .before .before .before .before .before .before .before .if1 .left) (c .before .before .before .before .before .before .before .before .before .before .if2 .left) (c .before .before .before .before .before .before .before .before .if3 .left) (c .before .before .before .before .before .before .if4 .left) (c .before .before .before .before .if5 .left) (c .before .before .if6 .left)), c .before .without64 .ensures, c .without642 .ensures)
+unfolding sessionAfter
+returns-7 c = rw (List·getD-eq-default _ (closeBoth _ _) (past-six _ (c .before .before .before .before .before .before .before .before .before .before .before .if1 .left) (c .before .before .before .before .before .before .before .before .before .if2 .left) (c .before .before .before .before .before .if4 .left) (c .before .before .before .before .before .before .before .if3 .left) (c .before .before .before .if5 .left) (c .before .if6 .left)), c .closed .ensures)
 
 pub after-spec : {M : Type 1} → statement M
 after-spec =
@@ -85,11 +73,10 @@ after-spec =
     returns
     empty-requires
     returns-2
+    dropped-requires
+    returns-3
     cast-with16
     with16-requires
-    returns-3
-    cast-without16
-    without16-requires
     returns-4
     cast-with64
     with64-requires
@@ -97,8 +84,5 @@ after-spec =
     cast-with64-2
     with64-requires-2
     returns-6
-    cast-without64
-    without64-requires
-    cast-without64-2
-    without64-requires-2
+    closed-requires
     returns-7)
