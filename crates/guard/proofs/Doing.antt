@@ -5,25 +5,22 @@
 use Prim.Native.Nat.{ℕ, zero, suc, _+_, _-_, _%_, _≤_, _<_}
 use mathlib.Core.Path.{_≡_, refl, sym, ap, _∙_}
 use mathlib.Core.Bool.{Bool, true, false}
-use mathlib.Core.List.{List}
 use mathlib.Core.Logic.{_⊎_, inl, inr, ⊎-elim}
 use native.Mathlib.Decide.{decLt}
 use native.Mathlib.Nat.{mod-eq-of-lt}
 use native.Mathlib.Omega.{arith}
 use lib.Dec.{eqb}
-use lib.ListN.{getD, set, length, length-replicate, getD-replicate}
-use lib.Seq.{ext-getD}
+use lib.ListN.{getD, set}
 use borrow.Author.Tests.{ltb-true, leb-true, eqb-true, eqb-false, le-ltb}
 use Rattle.bitset.specs.Tests.{every}
 use Rattle.bitset.specs.Tests.Laws.{every-at, of-not-false}
-use Rattle.bitset.specs.Sets.{join}
 use Rattle.guard.specs.Label.{labelInRange}
-use Rattle.guard.specs.Tables.{noRights, noRole, noEntity, sessionAt, roleAt, entityAt, rightsOn}
+use Rattle.guard.specs.Tables.{noRole, noEntity, sessionAt, roleAt, entityAt}
 use Rattle.guard.specs.Sound.{sound}
-use Rattle.guard.specs.Edits.{withSessions, withRoles, withEntities, atSession, atRole, atEntity, eachSession, eachRole, dropRole, closeBoth, setRights, addRights, removeRights, clearRights, listUser, unlistUser, renameTo}
+use Rattle.guard.specs.Edits.{withSessions, withRoles, withEntities, atSession, atRole, atEntity, eachSession, eachRole, dropRole, closeBoth, clearRights, listUser, unlistUser}
 use Rattle.guard.specs.Refusals.{first}
-use Rattle.guard.specs.Requests.{Rule, fieldInRange, rules, unknown, ruleOf, login, loggedIn, logout, take, drop, openr, openw, close, create, created, delete, rename, grant, revoke, list, unlist, make, madeRole, unmake}
-use Rattle.guard.specs.Inside.{number, sessionAfter, usersAfter, rightsAfter, entityAfter, roleAfter}
+use Rattle.guard.specs.Requests.{Rule, fieldInRange, rules, unknown, ruleOf, login, loggedIn, logout, take, drop, openr, openw, close, create, created, delete, rename, grant, revoke, list, unlist, make, unmake}
+use Rattle.guard.specs.Inside.{number, sessionAfter, usersAfter, entityAfter, roleAfter}
 use Rattle.guard.specs.declared.Session.{Session}
 use Rattle.guard.specs.declared.Role.{Role}
 use Rattle.guard.specs.declared.Entity.{Entity}
@@ -33,6 +30,7 @@ use Rattle.guard.proofs.Laws.Refusals.{unmet}
 use Rattle.guard.proofs.Laws.Requests.{unknown-rule}
 use Rattle.guard.proofs.Laws.Sound.{sound-e}
 use Rattle.guard.proofs.Stepping.{Concerned}
+use Rattle.guard.proofs.Granting.{granted, revoked, owned}
 use Rattle.guard.proofs.Deciding.{tests, number-in, number-two, number-ranges, in-create}
 
 past : (k n : ℕ) → k ≤ n → (n ≡ k → ⊥) → k + 1 ≤ n
@@ -61,12 +59,6 @@ from-ten P a b c d e n low high = go (n - 10) (omega arith)
     go (suc (suc (suc zero))) h = at 13 d h
     go (suc (suc (suc (suc zero)))) h = at 14 e h
     go (suc (suc (suc (suc (suc m))))) h = absurd (omega arith)
-
-no-rights : (l : List ℕ) → length l ≡ 64 → ((e : ℕ) → e < 64 → getD l e 0 ≡ 0) → l ≡ noRights
-no-rights l many none =
-    ext-getD 0 _ _ (many ∙ sym (length-replicate {A = ℕ} 64 0)) (λ e k.
-    let small : e < 64 = rw many at k in
-    none e small ∙ sym (getD-replicate {A = ℕ} 64 e 0 0 small))
 
 -- the seven numbers up to six
 to-six : (P : ℕ → Type 0) → P 0 → P 1 → P 2 → P 3 → P 4 → P 5 → P 6 → (n : ℕ) → n ≤ 6 → P n
@@ -171,7 +163,7 @@ module _ (t : Tables) (q : Request) where
       -- ---- the entity
       pub create-done : q .call ≡ 7 → (f : Entity) (p : Role) → f ≡ entityAfter q (entityAt t e) → p ≡ roleAfter q k e (roleAt t r)
           → withRoles (withEntities t (set (t .entities) e f)) (set (t .roles) r p) ≡ ruleOf q .effect q t
-      unfolding entityAfter roleAfter rightsAfter rules create created addRights setRights atRole atEntity
+      unfolding entityAfter roleAfter rules create created atRole atEntity
       create-done c f p hf hp =
           let rule : ruleOf q ≡ create = rule-at 7 c in
           let i = in-create q (ranges create rule) in
@@ -180,7 +172,7 @@ module _ (t : Tables) (q : Request) where
           let name : q .name % 65536 ≡ q .name = mod-eq-of-lt (omega (arith, i .name)) in
           let level : q .level % 256 ≡ q .level = mod-eq-of-lt (omega (arith, i .level)) in
           let cats : q .cats % 256 ≡ q .cats = mod-eq-of-lt (omega (arith, i .cats)) in
-          rw (rule, hf, hp, c, near .role .same (i .role), near .entity .same (i .entity), kind, parent, name, level, cats)
+          rw (rule, hf, hp, c, owned e (roleAt t r), near .role .same (i .role), near .entity .same (i .entity), kind, parent, name, level, cats)
 
       pub deleted : q .call ≡ 8 → (f g : Entity) → f ≡ entityAfter q g → f ≡ noEntity
       unfolding entityAfter
@@ -207,20 +199,20 @@ module _ (t : Tables) (q : Request) where
       RoleDone = withRoles t (set (t .roles) r (roleAfter q k e (roleAt t r))) ≡ ruleOf q .effect q t
 
       grant-done : q .call ≡ 10 → RoleDone
-      unfolding roleAfter rightsAfter rules grant fieldInRange addRights setRights atRole
+      unfolding roleAfter rules grant fieldInRange atRole
       grant-done c =
           let rule : ruleOf q ≡ grant = rule-at 10 c in
           let met = every-at _ (ranges grant rule) in
           let rights : q .rights % 256 ≡ q .rights = mod-eq-of-lt (omega (arith, leb-true (q .rights) 15 (every-at _ (met 3) 1))) in
-          rw (rule, c, near .role .same (ltb-true _ _ (met 1)), near .entity .same (ltb-true _ _ (met 2)), rights)
+          rw (rule, c, granted e (roleAt t r) (q .rights % 256), near .role .same (ltb-true _ _ (met 1)), near .entity .same (ltb-true _ _ (met 2)), rights)
 
       revoke-done : q .call ≡ 11 → RoleDone
-      unfolding roleAfter rightsAfter rules revoke grant fieldInRange removeRights setRights atRole
+      unfolding roleAfter rules revoke grant fieldInRange atRole
       revoke-done c =
           let rule : ruleOf q ≡ revoke = rule-at 11 c in
           let met = every-at _ (ranges revoke rule) in
           let rights : q .rights % 256 ≡ q .rights = mod-eq-of-lt (omega (arith, leb-true (q .rights) 15 (every-at _ (met 3) 1))) in
-          rw (rule, c, near .role .same (ltb-true _ _ (met 1)), near .entity .same (ltb-true _ _ (met 2)), rights)
+          rw (rule, c, revoked e (roleAt t r) (q .rights % 256), near .role .same (ltb-true _ _ (met 1)), near .entity .same (ltb-true _ _ (met 2)), rights)
 
       list-done : q .call ≡ 12 → RoleDone
       unfolding roleAfter usersAfter rules list fieldInRange listUser atRole
@@ -240,15 +232,14 @@ module _ (t : Tables) (q : Request) where
 
       -- a dead role of sound tables is empty
       make-done : sound t ≡ true → q .call ≡ 14 → RoleDone
-      unfolding roleAfter usersAfter rules make madeRole fieldInRange atRole
+      unfolding roleAfter usersAfter rules make fieldInRange atRole
       make-done ok c =
           let rule : ruleOf q ≡ make = rule-at 14 c in
           let met = every-at _ (ranges make rule) in
           let role : q .role < 16 = ltb-true _ _ (met 1) in
           let dead : roleAt t (q .role) .live ≡ false = unmet _ refl (allowed make rule) 8 in
           let facts = sound-e t ok .role (q .role) role in
-          let bare : roleAt t (q .role) .rights ≡ noRights = no-rights _ (facts .many) (λ f l. facts .rights f l .none dead) in
-          rw (rule, c, near .role .same role, facts .users .none dead, bare)
+          rw (rule, c, near .role .same role, facts .users .none dead, facts .reads .none dead, facts .writes .none dead, facts .executes .none dead, facts .owns .none dead)
 
       pub role-done : sound t ≡ true → 9 < q .call → (q .call ≡ 15 → ⊥) → (p : Role) → p ≡ roleAfter q k e (roleAt t r)
           → withRoles t (set (t .roles) r p) ≡ ruleOf q .effect q t

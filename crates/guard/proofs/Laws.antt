@@ -1,7 +1,9 @@
--- One file a subject, named after the file of specs/ whose definitions it speaks of (Pigeons: what Chain needs of numbers).
+-- One file a subject, named after the file of specs/ whose definitions it speaks of (Pigeons: what Chain needs of numbers;
+-- Rights: the four sets of a role, of Tables and Edits).
 pub mod Label
 pub mod Pigeons
 pub mod Chain
+pub mod Rights
 pub mod Sound
 pub mod Fresh
 pub mod Refusals

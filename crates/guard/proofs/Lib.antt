@@ -10,5 +10,6 @@ pub mod Filling
 pub mod Scans
 pub mod Scoping
 pub mod Stepping
+pub mod Granting
 pub mod Doing
 pub mod Batches

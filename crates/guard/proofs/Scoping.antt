@@ -3,13 +3,14 @@
 --     scoped-open, scoped-change, scoped-grant, scoped-none
 -- Assumes nothing.
 use Prim.Native.Nat.{ℕ, _-_, _^_, _≤_, _<_}
-use mathlib.Core.Path.{_≡_, refl, ap, _∙_}
-use mathlib.Core.Bool.{Bool, true, false, not, cond, _&&_, and-eq-true-iff}
+use mathlib.Core.Path.{_≡_, refl, sym, ap, _∙_}
+use mathlib.Core.Bool.{Bool, true, false, not, cond, _&&_, and-eq-true-iff, true≢false}
+use mathlib.Core.Logic.{inl, inr}
 use native.Mathlib.Omega.{arith}
 use lib.Dec.{eqb, leb}
-use borrow.Author.Tests.{leb-true, le-leb}
+use borrow.Author.Tests.{leb-true, le-leb, eqb-true, eqb-false}
 use Rattle.bitset.specs.Tests.Laws.{clash}
-use Rattle.guard.specs.Inside.{toOpen, toChange, toGrant, Scoped}
+use Rattle.guard.specs.Inside.{toOpen, toChange, toGrant, Single, Scoped}
 use Rattle.guard.specs.declared.look.Scope.{Scope}
 
 pub between : (low high n : ℕ) → (leb low n && leb n high) ≡ true → (low ≤ n) × (n ≤ high)
@@ -22,6 +23,13 @@ beside : (low high n : ℕ) → (leb low n && leb n high) ≡ false → low ≤ 
 beside low high n h l k = clash _ (rw (le-leb low n l, le-leb n high k)) h
 
 module _ (call e o held writing : ℕ) (w : Scope) (small : held < 2 ^ 16) where
+  open-right : (right : ℕ) → (4 ≤ call) × (call ≤ 5) → right ≡ call - 3 → Single right
+  open-right right (low, high) r = go (eqb call 4) refl
+    where
+      go : (b : Bool) → eqb call 4 ≡ b → Single right
+      go true c = let four = eqb-true call 4 c in inl (omega arith)
+      go false c = let other = eqb-false call 4 c in inr (inl (omega (arith, other)))
+
   pub scoped-open : (right : ℕ) → (4 ≤ call) × (call ≤ 5) → right ≡ call - 3 → e < 64 → w ≡ toOpen right e held → Scoped call e o held writing w
   scoped-open right (low, high) r i h =
       record {
@@ -30,6 +38,7 @@ module _ (call e o held writing : ℕ) (w : Scope) (small : held < 2 ^ 16) where
         kinIn = rw h (omega arith);
         heldIn = rw h small;
         left = rw h;
+        single = λ _. rw h (open-right right (low, high) r);
         openr = λ c. let one : right ≡ 1 = omega arith in h ∙ ap (λ (n : ℕ). toOpen n e held) one;
         openw = λ c. let two : right ≡ 2 = omega arith in h ∙ ap (λ (n : ℕ). toOpen n e held) two;
         create = λ c. absurd (omega arith);
@@ -52,6 +61,7 @@ module _ (call e o held writing : ℕ) (w : Scope) (small : held < 2 ^ 16) where
         kinIn = rw h (kin-small (eqb call 8) i j);
         heldIn = rw h small;
         left = rw h;
+        single = λ _. rw h (inr (inr (inl refl)));
         openr = λ c. absurd (omega arith);
         openw = λ c. absurd (omega arith);
         create = λ c. rw c at h;
@@ -69,6 +79,7 @@ module _ (call e o held writing : ℕ) (w : Scope) (small : held < 2 ^ 16) where
         kinIn = rw h (omega arith);
         heldIn = rw h small;
         left = rw h;
+        single = λ _. rw h (inr (inr (inr refl)));
         openr = λ c. absurd (omega arith);
         openw = λ c. absurd (omega arith);
         create = λ c. absurd (omega arith);
@@ -92,6 +103,7 @@ scoped-none call e o held writing a c d =
       kinIn = omega arith;
       heldIn = omega arith;
       left = refl;
+      single = λ on. absurd (true≢false (sym on));
       openr = λ k. absurd (beside 4 5 call a (omega arith) (omega arith));
       openw = λ k. absurd (beside 4 5 call a (omega arith) (omega arith));
       create = λ k. absurd (beside 7 9 call c (omega arith) (omega arith));

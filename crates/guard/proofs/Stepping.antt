@@ -1,18 +1,18 @@
 -- From what `step` and `run` look at to the step of the definitions.
 --     viewOf                        the records that a request concerns, as the code gathers them
 --     Concerned, seen-of            they are what deciding asks for
---     Found, scanned-of             what the scans find is what 13, 14 and 15 ask
+--     Way, Found, scanned-of        what the scans find is what 13, 14 and 15 ask
 --     refuses, does                 a number, and where it is 0 what the rule does, are the step
 -- Assumes nothing.
 use Prim.Native.Nat.{ℕ, _/_, _≤_, _<_}
 use mathlib.Core.Path.{_≡_, refl, sym, ap, subst, _∙_}
 use mathlib.Core.Bool.{Bool, true, false, not, _&&_, and-true, true≢false}
-use mathlib.Core.List.{List, [], _∷_}
+use mathlib.Core.List.{[], _∷_}
+use mathlib.Core.Logic.{inl, inr}
 use lib.Dec.{eqb}
-use lib.ListN.{getD}
 use borrow.Author.Tests.{eqb-false, eq-eqb, ne-eqb}
 use Rattle.bitset.specs.Tests.{every, either, some}
-use Rattle.bitset.specs.Sets.{has, contains}
+use Rattle.bitset.specs.Sets.{has}
 use Rattle.guard.specs.Level.{entityCount, isRoot}
 use Rattle.guard.specs.Tables.{userAt, sessionAt, roleAt, entityAt, hasRight, read, write, execute, own, isWriting, isChild}
 use Rattle.guard.specs.Chain.{parentOf, reaches, climbs}
@@ -22,7 +22,7 @@ use Rattle.guard.specs.Conditions.{cannotOpen, cannotChange, notOwned, n
 use Rattle.guard.specs.Requests.{ruleOf}
 use Rattle.guard.specs.Step.{inRanges, answer, next, step}
 use Rattle.guard.specs.Scan.{gives}
-use Rattle.guard.specs.Inside.{number, Seen, MayOpen, MayGrant, Scanned, Below, Parent, toOpen, toChange, toGrant, Scoped, kinTest}
+use Rattle.guard.specs.Inside.{number, Seen, MayOpen, MayGrant, Scanned, Below, Parent, toOpen, toChange, toGrant, Single, Scoped, kinTest}
 use Rattle.guard.specs.declared.Tables.{Tables}
 use Rattle.guard.specs.declared.Request.{Request}
 use Rattle.guard.specs.declared.Outcome.{Outcome}
@@ -30,8 +30,7 @@ use Rattle.guard.specs.declared.look.Scope.{Scope}
 use Rattle.guard.specs.declared.view.View.{View}
 use Rattle.guard.proofs.Laws.Chain.{climbs-root}
 use Rattle.guard.proofs.Laws.Requests.{unsound-answer}
-use Rattle.guard.proofs.Scans.Given.{Single}
-use Rattle.guard.proofs.Scans.Climb.{exec, way-given}
+use Rattle.guard.proofs.Scans.Climb.{way-given}
 
 abbrev pub viewOf : Tables → ℕ → ℕ → ℕ → ℕ → ℕ → Bool → Bool → View
 viewOf t x r e k o may child =
@@ -53,31 +52,42 @@ pub record Concerned (q : Request) (x r e k : ℕ) : Type 0 where
   pub entity : Below 64 (q .entity) e
   pub user : Below 16 (q .user) k
 
--- ---- what the scans find: the rights that the roles held give on the level of `at`, and by them what is asked
-pub record Found (t : Tables) (w : Scope) (name : ℕ) (given : List ℕ) (may child : Bool) : Type 0 where
-  pub gathered : (right a : ℕ) → Single right → a < 64 → a / 16 ≡ w .at / 16 → contains (getD given a 0) right ≡ gives t (w .held) right a
-  pub way : may ≡ (w .opened && contains (getD given (w .at) 0) (w .right) && climbs (parentOf t) (exec given) 16 (w .from))
+-- ---- what the scans find: where the roles held are asked, the entities of the level of `at` on which they give the right
+-- and those on which they give execute, and by them what is asked
+pub record Way (t : Tables) (w : Scope) (asked through : ℕ) (may : Bool) : Type 0 where
+  pub here : (a : ℕ) → a < 64 → a / 16 ≡ w .at / 16 → has asked a ≡ gives t (w .held) (w .right) a
+  pub above : (a : ℕ) → a < 64 → a / 16 ≡ w .at / 16 → has through a ≡ gives t (w .held) execute a
+  pub way : may ≡ (has asked (w .at) && climbs (parentOf t) (has through) 16 (w .from))
+
+pub record Found (t : Tables) (w : Scope) (name : ℕ) (may child : Bool) : Type 0 where
+  pub opened : w .opened ≡ true → (asked : ℕ) × (through : ℕ) × Way t w asked through may
+  pub shut : w .opened ≡ false → may ≡ false
   pub kids : w .kids ≡ true → (w .named ≡ true → 1 ≤ name) → (w .named ≡ false → isRoot (w .kin) ≡ false)
       → child ≡ some entityCount (kinTest t (w .kin) (w .named) name)
 
-module _ (t : Tables) (name : ℕ) (given : List ℕ) (may child : Bool) (held : ℕ) where
-  found-open : (right e : ℕ) → sound t ≡ true → Single right → e < 64 → Found t (toOpen right e held) name given may child
+module _ (t : Tables) (name : ℕ) (may child : Bool) (held : ℕ) where
+  found-open : (right e : ℕ) → sound t ≡ true → Single right → e < 64 → Found t (toOpen right e held) name may child
       → may ≡ (gives t held right e && climbs (parentOf t) (gives t held execute) 16 e)
-  found-open right e ok one l f = f .way ∙ way-given t held given ok right e one l (f .gathered)
+  found-open right e ok single l f =
+      let (asked, through, way) = f .opened refl in
+      way .way ∙ way-given t held through ok right asked e single l (way .here) (way .above)
 
   -- where nothing above is asked: a root has none above it
-  from-root : (right e : ℕ) (b : Bool) → Single right → e < 64
-      → ((asked a : ℕ) → Single asked → a < 64 → a / 16 ≡ e / 16 → contains (getD given a 0) asked ≡ gives t held asked a)
-      → may ≡ (b && contains (getD given e 0) right && climbs (parentOf t) (exec given) 16 0) → may ≡ (b && gives t held right e)
-  from-root right e b one l gathered h =
-      h ∙ rw (climbs-root (parentOf t) (exec given) 16 0 refl, and-true (b && contains (getD given e 0) right), gathered right e one l refl)
+  from-root : (w : Scope) (asked through : ℕ) → Way t w asked through may → w .from ≡ 0 → w .at < 64 → may ≡ gives t (w .held) (w .right) (w .at)
+  from-root w asked through way root l =
+      way .way
+      ∙ rw (root, climbs-root (parentOf t) (has through) 16 0 refl, and-true (has asked (w .at))) (way .here (w .at) l refl)
 
-  found-change : (o kin writing : ℕ) (named : Bool) → o < 64 → Found t (toChange o kin named held writing) name given may child
+  found-change : (o kin writing : ℕ) (named : Bool) → o < 64 → Found t (toChange o kin named held writing) name may child
       → may ≡ (has writing o && gives t held execute o)
-  found-change o kin writing named l f = from-root execute o (has writing o) (2, refl) l (f .gathered) (f .way)
+  found-change o kin writing named l f = go (has writing o) refl
+    where
+      go : (b : Bool) → has writing o ≡ b → may ≡ (has writing o && gives t held execute o)
+      go true h = let (asked, through, way) = f .opened h in from-root _ asked through way refl l ∙ rw h
+      go false h = f .shut h ∙ rw h
 
-  found-grant : (e : ℕ) → e < 64 → Found t (toGrant e held) name given may child → may ≡ gives t held own e
-  found-grant e l f = from-root own e true (3, refl) l (f .gathered) (f .way)
+  found-grant : (e : ℕ) → e < 64 → Found t (toGrant e held) name may child → may ≡ gives t held own e
+  found-grant e l f = let (asked, through, way) = f .opened refl in from-root _ asked through way refl l
 
 -- not both, by the flags
 both-flags : (a b : Bool) → not (either (not a) (not b)) ≡ (a && b)
@@ -102,10 +112,10 @@ module _ (t : Tables) (q : Request) (x r e k o : ℕ) (may child : Bool) (near :
       }
 
   module _ (ok : sound t ≡ true) (p : Parent q (entityAt t e) o) (w : Scope) (s : Scoped (q .call) e o (sessionAt t x .roles) (sessionAt t x .writing) w)
-      (given : List ℕ) (found : Found t w (q .name) given may child)
+      (found : Found t w (q .name) may child)
     where
-      scoped : (v : Scope) → w ≡ v → Found t v (q .name) given may child
-      scoped v h = subst (λ (y : Scope). Found t y (q .name) given may child) h found
+      scoped : (v : Scope) → w ≡ v → Found t v (q .name) may child
+      scoped v h = subst (λ (y : Scope). Found t y (q .name) may child) h found
 
       open-flags : (right : ℕ) → q .seat < 16 → q .entity < 64
           → (gives t (sessionAt t x .roles) right e && climbs (parentOf t) (gives t (sessionAt t x .roles) 4) 16 e) ≡ not (cannotOpen t q right)
@@ -135,12 +145,12 @@ module _ (t : Tables) (q : Request) (x r e k o : ℕ) (may child : Bool) (near :
 
       opened : (right : ℕ) → Single right → w ≡ toOpen right e (sessionAt t x .roles) → MayOpen right t q (viewOf t x r e k o may child)
       opened right one h =
-          record { may = λ ix ie. found-open t (q .name) given may child (sessionAt t x .roles) right e ok one (near .entity .small) (scoped _ h) ∙ open-flags right ix ie }
+          record { may = λ ix ie. found-open t (q .name) may child (sessionAt t x .roles) right e ok one (near .entity .small) (scoped _ h) ∙ open-flags right ix ie }
 
       changed : (kin parent : ℕ) (named : Bool) → w ≡ toChange o kin named (sessionAt t x .roles) (sessionAt t x .writing) → o ≡ parent → q .seat < 16
           → may ≡ not (cannotChange t q parent)
       changed kin parent named h same ix =
-          found-change t (q .name) given may child (sessionAt t x .roles) o kin (sessionAt t x .writing) named (p .small) (scoped _ h)
+          found-change t (q .name) may child (sessionAt t x .roles) o kin (sessionAt t x .writing) named (p .small) (scoped _ h)
           ∙ change-flags parent same ix
 
       named-of : (parent : ℕ) → w ≡ toChange o o true (sessionAt t x .roles) (sessionAt t x .writing) → o ≡ parent → 1 ≤ q .name
@@ -156,13 +166,13 @@ module _ (t : Tables) (q : Request) (x r e k o : ℕ) (may child : Bool) (near :
 
       granted : w ≡ toGrant e (sessionAt t x .roles) → MayGrant t q (viewOf t x r e k o may child)
       granted h =
-          record { may = λ ix ie. found-grant t (q .name) given may child (sessionAt t x .roles) e (near .entity .small) (scoped _ h) ∙ own-flag ix ie }
+          record { may = λ ix ie. found-grant t (q .name) may child (sessionAt t x .roles) e (near .entity .small) (scoped _ h) ∙ own-flag ix ie }
 
       pub scanned-of : Scanned t q (viewOf t x r e k o may child)
       scanned-of =
           record {
-            openr = λ c. opened read (0, refl) (s .openr c);
-            openw = λ c. opened write (1, refl) (s .openw c);
+            openr = λ c. opened read (inl refl) (s .openr c);
+            openw = λ c. opened write (inr (inl refl)) (s .openw c);
             create = λ c. record {
               parent = λ ip. ap (entityAt t) (p .named c ip);
               may = λ ix ip. changed o (q .parent) true (s .create c) (p .named c ip) ix;

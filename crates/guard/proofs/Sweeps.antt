@@ -1,26 +1,23 @@
 -- Loops that take each record of a list by a function.
 --     mapped                        the first i records by f, the others as they are
---     mapped-more, mapped-all       one record more; all of them
---     mapped-at, mapped-same        the next one is as it was; all are, by a function that leaves them
+--     mapped-more, mapped-all       one record more; all of them;   mapped-at   the next one is as it was
 --     sessions-more, sessions-all   .. of the tables' sessions;   roles-more, roles-all   .. of their roles
---     roles-from, roles-dead        a sweep of the rights on an entity begins at its level, and passes over dead roles
+--     roles-dead                    a sweep of the rights on an entity passes over dead roles
 --     swept-entity, swept-role      the sweeps of delete and of unmake, done
 --     Sized, sized-..               how many sessions and roles there are
 -- Assumes nothing.
-use Prim.Native.Nat.{ℕ, zero, suc, _+_, _*_, _/_, _<_}
-use mathlib.Core.Path.{_≡_, refl, sym, ap, ap₂, _∙_}
+use Prim.Native.Nat.{ℕ, zero, suc, _+_, _<_}
+use mathlib.Core.Path.{_≡_, refl, sym, ap, _∙_}
 use mathlib.Core.Bool.{true, false}
 use mathlib.Core.List.{List, [], _∷_, map}
 use native.Mathlib.Numerals.{add-one}
-use native.Mathlib.Omega.{arith}
 use lib.ListN.{length, length-set, getD, set}
 use lib.Seq.{set-getD}
-use borrow.Author.Tests.{lt-leb}
-use Rattle.bitset.specs.Tests.Laws.{every-at, clash, is-false}
-use Rattle.bitset.specs.Sets.Laws.{has-none, has-below, sets-ext}
-use Rattle.guard.specs.Tables.{noSession, noRole, noEntity, sessionAt, roleAt, rightsOn}
+use Rattle.bitset.specs.Sets.{contains, without}
+use Rattle.bitset.specs.Sets.Laws.{without-none}
+use Rattle.guard.specs.Tables.{noSession, noRole, noEntity, sessionAt, roleAt}
 use Rattle.guard.specs.Sound.{sound}
-use Rattle.guard.specs.Edits.{withSessions, withRoles, withEntities, atRole, atEntity, eachSession, eachRole, closeBoth, dropRole, setRights, clearRights}
+use Rattle.guard.specs.Edits.{withSessions, withRoles, withEntities, atRole, atEntity, eachSession, eachRole, closeBoth, dropRole, put, setRights, clearRights}
 use Rattle.guard.specs.declared.Session.{Session}
 use Rattle.guard.specs.declared.Role.{Role}
 use Rattle.guard.specs.declared.Entity.{Entity}
@@ -57,13 +54,6 @@ module _ {A : Type 0} (f : A → A) where
   mapped-at (suc i) [] d = refl
   mapped-at (suc i) (x ∷ l) d = mapped-at i l d
 
-  -- those that f leaves as they are
-  pub mapped-same : (i : ℕ) (l : List A) (d : A) → ((k : ℕ) → k < i → f (getD l k d) ≡ getD l k d) → mapped i l ≡ l
-  mapped-same zero l d h = refl
-  mapped-same (suc i) [] d h = refl
-  mapped-same (suc i) (x ∷ l) d h =
-      ap₂ (λ (y : A) (k : List A). y ∷ k) (h 0 (omega arith)) (mapped-same i l d (λ k b. h (suc k) (omega arith)))
-
 pub sessions-more : (f : Session → Session) (t t₀ : Tables) (i : ℕ) → t ≡ withSessions t₀ (mapped f i (t₀ .sessions))
     → withSessions t (set (t .sessions) i (f (sessionAt t i))) ≡ withSessions t₀ (mapped f (i + 1) (t₀ .sessions))
 sessions-more f t t₀ i h = rw h (ap (withSessions t₀) (mapped-more f i (t₀ .sessions) noSession))
@@ -80,38 +70,29 @@ pub roles-all : (f : Role → Role) (t t₀ : Tables) (i : ℕ) → length (t₀
     → t ≡ withRoles t₀ (mapped f i (t₀ .roles)) → t ≡ withRoles t₀ (map f (t₀ .roles))
 roles-all f t t₀ i e h = h ∙ ap (withRoles t₀) (rw (← e) (mapped-all f (t₀ .roles)))
 
--- one that f leaves as it is need not be stored
-pub roles-skip : (f : Role → Role) (t t₀ : Tables) (i : ℕ) → t ≡ withRoles t₀ (mapped f i (t₀ .roles)) → f (roleAt t i) ≡ roleAt t i
-    → t ≡ withRoles t₀ (mapped f (i + 1) (t₀ .roles))
-roles-skip f t t₀ i h same = sym (ap (withRoles t) (ap (set (t .roles) i) same ∙ set-getD (t .roles) i _)) ∙ roles-more f t t₀ i h
+-- a role that is not live has no rights, so that clearing them changes nothing: where those before r are done, it may be
+-- passed over
+module _ (t : Tables) (ok : sound t ≡ true) (e : ℕ) where
+  none-gone : (s : ℕ) → s ≡ 0 → without s e ≡ s
+  none-gone s z = rw z (without-none e)
 
--- a role below the level of e has no rights on it, nor has one that is not live, so that clearing them changes nothing
-module _ (t : Tables) (e : ℕ) (ok : sound t ≡ true) (inside : e < 64) where
-  cleared : (r : ℕ) → rightsOn t r e ≡ 0 → clearRights e (roleAt t r) ≡ roleAt t r
-  unfolding clearRights setRights
-  cleared r none =
-      ap (λ (n : List ℕ). record { live = roleAt t r .live; users = roleAt t r .users; rights = n })
-      (ap (set (roleAt t r .rights) e) (sym none) ∙ set-getD (roleAt t r .rights) e 0)
+  cleared : (r : ℕ) → r < 16 → roleAt t r .live ≡ false → clearRights e (roleAt t r) ≡ roleAt t r
+  unfolding clearRights setRights put contains
+  cleared r l dead =
+      let facts = sound-e t ok .role r l in
+      rw (
+        none-gone (roleAt t r .reads) (facts .reads .none dead),
+        none-gone (roleAt t r .writes) (facts .writes .none dead),
+        none-gone (roleAt t r .executes) (facts .executes .none dead),
+        none-gone (roleAt t r .owns) (facts .owns .none dead),
+      )
 
-  -- where those before r are done
   pub roles-dead : (u u₀ : Tables) (r : ℕ) → u₀ .roles ≡ t .roles → r < 16 → u ≡ withRoles u₀ (mapped (clearRights e) r (u₀ .roles)) → roleAt u r .live ≡ false
       → u ≡ withRoles u₀ (mapped (clearRights e) (r + 1) (u₀ .roles))
   roles-dead u u₀ r same l h dead =
-      let here : roleAt u r ≡ roleAt t r = ap (λ (v : Tables). roleAt v r) h ∙ mapped-at (clearRights e) r (u₀ .roles) _ ∙ ap (λ (v : List Role). getD v r (record { live = false; users = 0; rights = [] })) same in
-      roles-skip (clearRights e) u u₀ r h
-      (rw here (cleared r (sound-e t ok .role r l .rights e inside .none (ap (λ (p : Role). p .live) (sym here) ∙ dead))))
-
-  none-below : (r : ℕ) → r < e / 16 * 4 → rightsOn t r e ≡ 0
-  none-below r l =
-      let rights = sound-e t ok .role r (omega arith) .rights e inside in
-      sets-ext _ 0 (λ i.
-      is-false _ (λ m. clash _ (every-at _ (rights .members i (has-below 4 _ i (rights .small) m) m) 1) (lt-leb (e / 16) (r / 4) (omega arith)))
-      ∙ sym (has-none i))
-
-  pub roles-from : (u : Tables) → u .roles ≡ t .roles → u ≡ withRoles u (mapped (clearRights e) (e / 16 * 4) (u .roles))
-  roles-from u same =
-      ap (withRoles u) (sym (mapped-same (clearRights e) (e / 16 * 4) (u .roles) (record { live = false; users = 0; rights = [] })
-      (λ r l. rw same (cleared r (none-below r l)))))
+      let here : roleAt u r ≡ roleAt t r = ap (λ (v : Tables). roleAt v r) h ∙ mapped-at (clearRights e) r (u₀ .roles) noRole ∙ ap (λ (v : List Role). getD v r noRole) same in
+      let stays : clearRights e (roleAt u r) ≡ roleAt u r = rw here (cleared r l (ap (λ (p : Role). p .live) (sym here) ∙ dead)) in
+      sym (ap (withRoles u) (ap (set (u .roles) r) stays ∙ set-getD (u .roles) r noRole)) ∙ roles-more (clearRights e) u u₀ r h
 
 -- ---- the sweeps of delete and of unmake, done
 pub swept-entity : (t : Tables) (e : ℕ) (f : Entity) (u v : Tables) → f ≡ noEntity → length (t .roles) ≡ 16 → length (t .sessions) ≡ 16

@@ -1,9 +1,10 @@
 -- The few edits of which every request's effect is made. None of them reads more than it changes.
 use Prim.Native.Nat.{ℕ}
+use mathlib.Core.Bool.{Bool, true, cond}
 use mathlib.Core.List.{List, map}
-use lib.ListN.{getD, set}
-use Rattle.bitset.specs.Sets.{with, without, join, minus}
-use Rattle.guard.specs.Tables.{sessionAt, roleAt, entityAt}
+use lib.ListN.{set}
+use Rattle.bitset.specs.Sets.{contains, with, without, join, minus}
+use Rattle.guard.specs.Tables.{sessionAt, roleAt, entityAt, read, write, execute, own, rightsOf}
 use Rattle.guard.specs.declared.Session.{Session}
 use Rattle.guard.specs.declared.Role.{Role}
 use Rattle.guard.specs.declared.Entity.{Entity}
@@ -57,12 +58,32 @@ openWriting e s = opening (s .reading) (with (s .writing) e) s
 unfoldable pub closeBoth : ℕ → Session → Session
 closeBoth e s = opening (without (s .reading) e) (without (s .writing) e) s
 
--- ---- of one role: the users listed, the rights on an entity
+-- ---- of one role: made; the users listed; the rights on an entity
+abbrev pub madeRole : Role
+madeRole = record { live = true; users = 0; reads = 0; writes = 0; executes = 0; owns = 0 }
+
 abbrev pub listing : ℕ → Role → Role
-listing users r = record { live = r .live; users = users; rights = r .rights }
+listing users r =
+    record { live = r .live; users = users; reads = r .reads; writes = r .writes; executes = r .executes; owns = r .owns }
+
+-- the set with e in it, or without
+unfoldable pub put : Bool → ℕ → ℕ → ℕ
+put inside e s = cond inside (with s e) (without s e)
+
+-- the role has the rights n on e, and no others
+abbrev pub granting : ℕ → ℕ → Role → Role
+granting e n r =
+    record {
+      live = r .live;
+      users = r .users;
+      reads = put (contains n read) e (r .reads);
+      writes = put (contains n write) e (r .writes);
+      executes = put (contains n execute) e (r .executes);
+      owns = put (contains n own) e (r .owns);
+    }
 
 unfoldable pub setRights : ℕ → (ℕ → ℕ) → Role → Role
-setRights e f r = record { live = r .live; users = r .users; rights = set (r .rights) e (f (getD (r .rights) e 0)) }
+setRights e f r = granting e (f (rightsOf r e)) r
 
 unfoldable pub addRights : ℕ → ℕ → Role → Role
 addRights e rights = setRights e (λ old. join old rights)

@@ -2,11 +2,12 @@
 use Prim.Native.Nat.{ℕ, zero, suc, _^_}
 use mathlib.Core.Bool.{Bool, true, cond}
 use mathlib.Core.List.{List, [], _∷_, _++_}
-use lib.ListN.{replicate, set}
+use lib.ListN.{replicate}
 use Rattle.bitset.specs.Sets.{with}
 use Rattle.guard.specs.Level.{userCount, sessionCount, roleCount, entityCount, roleLevel, rootOf, isRoot, isKeeper}
 use Rattle.guard.specs.Label.{noLabel}
-use Rattle.guard.specs.Tables.{noUser, noSession, noRights, noRole, noEntity, container, allRights}
+use Rattle.guard.specs.Tables.{noUser, noSession, noRole, noEntity, container, allRights}
+use Rattle.guard.specs.Edits.{listing, granting, madeRole}
 use Rattle.guard.specs.Sound.{usersInRange}
 use Rattle.guard.specs.declared.User.{User}
 use Rattle.guard.specs.declared.Role.{Role}
@@ -22,7 +23,7 @@ tabulate (suc n) f = tabulate n f ++ (f n ∷ [])
 -- only roots and keepers live, each keeper having rights 15 on the root of its level and listing user 0 alone
 unfoldable pub freshRole : ℕ → Role
 freshRole r =
-    cond (isKeeper r) (record { live = true; users = with 0 0; rights = set noRights (rootOf (roleLevel r)) allRights }) noRole
+    cond (isKeeper r) (granting (rootOf (roleLevel r)) allRights (listing (with 0 0) madeRole)) noRole
 
 unfoldable pub freshEntity : ℕ → Entity
 freshEntity e =

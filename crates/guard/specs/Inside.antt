@@ -4,13 +4,14 @@ use Prim.Native.Nat.{ℕ, _*_, _/_, _%_, _^_, _≤_, _<_}
 use mathlib.Core.Path.{_≡_}
 use mathlib.Core.Bool.{Bool, true, false, not, cond}
 use mathlib.Core.List.{[], _∷_, map}
+use mathlib.Core.Logic.{_⊎_}
 use lib.Dec.{leb, eqb}
 use lib.ListN.{getD}
 use Rattle.bitset.specs.Tests.{every, either}
-use Rattle.bitset.specs.Sets.{has, with, without, join, minus}
+use Rattle.bitset.specs.Sets.{has, contains, with, without}
 use Rattle.guard.specs.Level.{userCount, sessionCount, roleCount, entityCount, isRoot}
 use Rattle.guard.specs.Tables.{noSession, noRole, noEntity, userAt, sessionAt, roleAt, entityAt, read, write, execute, own, isChild}
-use Rattle.guard.specs.Edits.{takeRole, dropRole, openReading, openWriting, closeBoth, setRights, renameTo}
+use Rattle.guard.specs.Edits.{takeRole, dropRole, openReading, openWriting, closeBoth, put, renameTo}
 use Rattle.guard.specs.Refusals.{_when_, first}
 use Rattle.guard.specs.Conditions.{cannotOpen, cannotChange, notOwned, nameTaken, hasChildren, recordedParent}
 use Rattle.guard.specs.Requests.{Rule, fieldInRange}
@@ -84,21 +85,41 @@ sessionAfter q r e s =
 unfoldable pub usersAfter : ℕ → ℕ → ℕ → ℕ
 usersAfter call k users = cond (eqb call 12) (with users k) (cond (eqb call 13) (without users k) users)
 
--- a role's rights on an entity after create (7), grant (10) or revoke
-unfoldable pub rightsAfter : ℕ → ℕ → ℕ → ℕ
-rightsAfter call named rights =
-    cond (eqb call 7) (join rights own) (cond (eqb call 10) (join rights (named % 256)) (minus rights (named % 256)))
+-- the entities of one right after grant (10) or revoke, where it is named
+unfoldable pub setAfter : ℕ → Bool → ℕ → ℕ → ℕ
+setAfter call named e s = cond named (put (eqb call 10) e s) s
+
+-- the role p after grant or revoke of the rights named
+unfoldable pub grantedAfter : ℕ → ℕ → ℕ → Role → Role
+grantedAfter call named e p =
+    record {
+      live = p .live;
+      users = p .users;
+      reads = setAfter call (contains named read) e (p .reads);
+      writes = setAfter call (contains named write) e (p .writes);
+      executes = setAfter call (contains named execute) e (p .executes);
+      owns = setAfter call (contains named own) e (p .owns);
+    }
 
 -- the entity f after create (7), delete (8) or rename
 unfoldable pub entityAfter : Request → Entity → Entity
 entityAfter q f = cond (eqb (q .call) 7) (madeEntity q) (cond (eqb (q .call) 8) noEntity (renameTo (q .name % 65536) f))
 
--- the role p after create, grant, revoke, list, unlist, make or unmake (15), with user k and entity e
+-- the role p after create (7), grant, revoke, list, unlist, make or unmake (15), with user k and entity e
 unfoldable pub roleAfter : Request → ℕ → ℕ → Role → Role
 roleAfter q k e p =
     cond (eqb (q .call) 15) noRole
-    (cond (leb (q .call) 11) (setRights e (rightsAfter (q .call) (q .rights)) p)
-    (record { live = true; users = usersAfter (q .call) k (p .users); rights = p .rights }))
+    (cond (eqb (q .call) 7)
+    (record { live = p .live; users = p .users; reads = p .reads; writes = p .writes; executes = p .executes; owns = with (p .owns) e })
+    (cond (leb (q .call) 11) (grantedAfter (q .call) (q .rights % 256) e p)
+    (record {
+      live = true;
+      users = usersAfter (q .call) k (p .users);
+      reads = p .reads;
+      writes = p .writes;
+      executes = p .executes;
+      owns = p .owns;
+    })))
 
 -- ---- a number for an index: itself below the end, and some number below it otherwise
 pub record Below (end n i : ℕ) : Type 0 where
@@ -154,12 +175,17 @@ toGrant e held =
       named = false;
     }
 
+-- read 1, write 2, execute 4 or own 8
+abbrev pub Single : ℕ → Type 0
+Single right = (right ≡ read) ⊎ ((right ≡ write) ⊎ ((right ≡ execute) ⊎ (right ≡ own)))
+
 pub record Scoped (call e o held writing : ℕ) (w : Scope) : Type 0 where
   pub atIn : w .at < entityCount
   pub fromIn : w .from < entityCount
   pub kinIn : w .kin < entityCount
   pub heldIn : w .held < 2 ^ roleCount
   pub left : w .left ≡ w .held / 2 ^ (w .at / 16 * 4)
+  pub single : w .opened ≡ true → Single (w .right)
   pub openr : call ≡ 4 → w ≡ toOpen read e held
   pub openw : call ≡ 5 → w ≡ toOpen write e held
   pub create : call ≡ 7 → w ≡ toChange o o true held writing

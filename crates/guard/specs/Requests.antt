@@ -7,9 +7,9 @@ use lib.ListN.{getD}
 use Rattle.bitset.specs.Tests.{every, either}
 use Rattle.guard.specs.Level.{userCount, sessionCount, roleCount, entityCount, isRoot, isKeeper}
 use Rattle.guard.specs.Label.{labelInRange}
-use Rattle.guard.specs.Tables.{noSession, noRights, noRole, noEntity, container, read, write, own, allRights}
+use Rattle.guard.specs.Tables.{noSession, noRole, noEntity, container, read, write, own, allRights}
 use Rattle.guard.specs.Sound.{topName}
-use Rattle.guard.specs.Edits.{atSession, atRole, atEntity, eachSession, eachRole, takeRole, dropRole, openReading, openWriting, closeBoth, addRights, removeRights, clearRights, listUser, unlistUser, renameTo}
+use Rattle.guard.specs.Edits.{atSession, atRole, atEntity, eachSession, eachRole, takeRole, dropRole, openReading, openWriting, closeBoth, addRights, removeRights, clearRights, listUser, unlistUser, renameTo, madeRole}
 use Rattle.guard.specs.Refusals.{Refusal, _when_}
 use Rattle.guard.specs.Conditions.{labelOf, seatLive, pastUser, seatDead, parentNoContainer, entityBelowSeat, seatBelowEntity, createBelow, grantBelow, seatBelowRole, labelBelowEntity, labelOther, labelBelowParent, userUnlisted, roleNotHeld, keeperNotHeld, cannotOpen, cannotChange, notOwned, roleHeld, openForReading, openForWriting, userListed, notOpen, userNotListed, entityDead, parentDead, roleDead, entityLive, roleLive, nameTaken, hasChildren, recordedParent}
 use Rattle.guard.specs.declared.Session.{Session}
@@ -230,9 +230,6 @@ unlist =
     }
 
 -- make (x, role): 8, 10, 12. The role starts empty.
-unfoldable pub madeRole : Role
-madeRole = record { live = true; users = 0; rights = noRights }
-
 unfoldable pub make : Rule
 make =
     record {

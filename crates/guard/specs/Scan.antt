@@ -1,15 +1,14 @@
 -- The words in which the contracts of the scans are put: what 13, 14 and 15 ask of the roles held and of the entities of
 -- a level. No public entry's contract cites them, so a buyer need not read them.
-use Prim.Native.Nat.{ℕ, _+_, _*_, _<_}
-use mathlib.Core.Path.{_≡_}
+use Prim.Native.Nat.{ℕ, _+_, _*_}
 use mathlib.Core.Bool.{Bool, cond}
-use mathlib.Core.List.{List, [], _∷_}
-use lib.Dec.{leb}
-use lib.ListN.{getD, length}
+use mathlib.Core.List.{[], _∷_}
+use lib.Dec.{leb, eqb}
 use Rattle.bitset.specs.Tests.{every, some}
-use Rattle.bitset.specs.Sets.{has, contains, join}
-use Rattle.guard.specs.Level.{roleCount, entityCount, roleLevel, entityLevel}
-use Rattle.guard.specs.Tables.{rightsOn}
+use Rattle.bitset.specs.Sets.{has, contains}
+use Rattle.guard.specs.Level.{roleCount, roleLevel, entityLevel}
+use Rattle.guard.specs.Tables.{read, write, execute, rightsOn}
+use Rattle.guard.specs.declared.Role.{Role}
 use Rattle.guard.specs.declared.Tables.{Tables}
 
 -- role r is one of `held`, of at least e's level, and has the right on e
@@ -20,10 +19,9 @@ giver t held right e r = every (leb (entityLevel e) (roleLevel r) ∷ has held r
 unfoldable pub gives : Tables → ℕ → ℕ → ℕ → Bool
 gives t held right e = some roleCount (giver t held right e)
 
--- the rights given so far, and beside them those of one role more
-pub record Joined (given rights g : List ℕ) : Type 0 where
-  pub long : length g ≡ entityCount
-  pub at : (m : ℕ) → m < entityCount → getD g m 0 ≡ join (getD given m 0) (getD rights m 0)
+-- the entities on which a role has the right: read 1, write 2, execute 4, else own
+unfoldable pub having : ℕ → Role → ℕ
+having right p = cond (eqb right read) (p .reads) (cond (eqb right write) (p .writes) (cond (eqb right execute) (p .executes) (p .owns)))
 
 -- ---- one entity compared as whole numbers
 -- a mark and a number as one number

@@ -7,7 +7,7 @@ use lib.ListN.{length, getD}
 use Rattle.bitset.specs.Tests.{every, implies, all}
 use Rattle.guard.specs.Level.{userCount, sessionCount, roleCount, entityCount, topLevel, sessionLevel, roleLevel, entityLevel, isRoot, isKeeper}
 use Rattle.guard.specs.Label.{labelInRange, dominates, sameLabel, noLabel}
-use Rattle.guard.specs.Tables.{noUser, sessionAt, roleAt, entityAt, container, allRights, holds, isReading, isWriting, rightsOn, isChild}
+use Rattle.guard.specs.Tables.{noUser, sessionAt, roleAt, entityAt, container, holds, isReading, isWriting, rightsOn, isChild}
 use Rattle.guard.specs.Chain.{endsAtRoot}
 use Rattle.guard.specs.declared.User.{User}
 use Rattle.guard.specs.declared.Session.{Session}
@@ -33,8 +33,10 @@ unfoldable pub roleInRange : Role → Bool
 roleInRange r =
     every
     (ltb (r .users) (2 ^ userCount)
-    ∷ eqb (length (r .rights)) entityCount
-    ∷ all entityCount (λ e. leb (getD (r .rights) e 0) allRights)
+    ∷ ltb (r .reads) (2 ^ entityCount)
+    ∷ ltb (r .writes) (2 ^ entityCount)
+    ∷ ltb (r .executes) (2 ^ entityCount)
+    ∷ ltb (r .owns) (2 ^ entityCount)
     ∷ [])
 
 -- name (1 to 65,535): 0 for roots and for what is not live
@@ -110,7 +112,8 @@ isEmptySession s =
     ∷ [])
 
 unfoldable pub isEmptyRole : Role → Bool
-isEmptyRole r = every (eqb (r .users) 0 ∷ all entityCount (λ e. eqb (getD (r .rights) e 0) 0) ∷ [])
+isEmptyRole r =
+    every (eqb (r .users) 0 ∷ eqb (r .reads) 0 ∷ eqb (r .writes) 0 ∷ eqb (r .executes) 0 ∷ eqb (r .owns) 0 ∷ [])
 
 unfoldable pub isEmptyEntity : Entity → Bool
 isEmptyEntity e =

@@ -1,12 +1,12 @@
 -- The tables: their records, and what the paper says by "has a right".
-use Prim.Native.Nat.{ℕ}
-use mathlib.Core.Bool.{Bool, false, not}
-use mathlib.Core.List.{List, [], _∷_}
+use Prim.Native.Nat.{ℕ, _+_}
+use mathlib.Core.Bool.{Bool, false, not, cond}
+use mathlib.Core.List.{[], _∷_}
 use lib.Dec.{leb, eqb}
-use lib.ListN.{getD, replicate}
+use lib.ListN.{getD}
 use Rattle.bitset.specs.Tests.{every, some}
 use Rattle.bitset.specs.Sets.{has, contains}
-use Rattle.guard.specs.Level.{roleCount, entityCount, roleLevel, entityLevel, isRoot}
+use Rattle.guard.specs.Level.{roleCount, roleLevel, entityLevel, isRoot}
 use Rattle.guard.specs.Label.{noLabel}
 use Rattle.guard.specs.declared.Label.{Label}
 use Rattle.guard.specs.declared.User.{User}
@@ -22,11 +22,8 @@ noUser = record { ceiling = 0; clearance = noLabel }
 abbrev pub noSession : Session
 noSession = record { live = false; user = 0; label = noLabel; roles = 0; reading = 0; writing = 0 }
 
-abbrev pub noRights : List ℕ
-noRights = replicate entityCount 0
-
 abbrev pub noRole : Role
-noRole = record { live = false; users = 0; rights = noRights }
+noRole = record { live = false; users = 0; reads = 0; writes = 0; executes = 0; owns = 0 }
 
 abbrev pub noEntity : Entity
 noEntity = record { live = false; kind = 0; parent = 0; name = 0; label = noLabel }
@@ -42,7 +39,7 @@ sessionAt t s = getD (t .sessions) s noSession
 
 -- Role: live or not, users listed, and for each entity a set of rights.
 abbrev pub roleAt : Tables → ℕ → Role
-roleAt t r = getD (t .roles) r (record { live = false; users = 0; rights = [] })
+roleAt t r = getD (t .roles) r noRole
 
 -- Entity: live or not, kind, parent, name, label.
 abbrev pub entityAt : Tables → ℕ → Entity
@@ -81,8 +78,16 @@ isWriting t s e = has (sessionAt t s .writing) e
 abbrev pub lists : Tables → ℕ → ℕ → Bool
 lists t r u = has (roleAt t r .users) u
 
+-- the rights of a role on e, added up
+unfoldable pub rightsOf : Role → ℕ → ℕ
+rightsOf p e =
+    cond (has (p .reads) e) read 0
+    + cond (has (p .writes) e) write 0
+    + cond (has (p .executes) e) execute 0
+    + cond (has (p .owns) e) own 0
+
 abbrev pub rightsOn : Tables → ℕ → ℕ → ℕ
-rightsOn t r e = getD (roleAt t r .rights) e 0
+rightsOn t r e = rightsOf (roleAt t r) e
 
 -- "x has a right on e" means that a role held by x, of at least e's level, has it.
 unfoldable pub hasRight : Tables → ℕ → ℕ → ℕ → Bool

@@ -4,9 +4,9 @@ use Prim.Native.Nat.{ℕ, _+_, _*_, _/_, _%_, _^_}
 use mathlib.Core.Bool.{Bool, true, not, cond}
 use mathlib.Core.List.{List, [], _∷_}
 use lib.Dec.{leb, ltb, eqb}
-use lib.ListN.{length, getD}
+use lib.ListN.{getD}
 use Rattle.bitset.specs.Tests.{every, either, implies, all}
-use Rattle.bitset.specs.Sets.{has, contains}
+use Rattle.bitset.specs.Sets.{has, contains, join}
 use Rattle.guard.specs.Level.{roleLevel, entityLevel, isRoot, isKeeper}
 use Rattle.guard.specs.Label.{dominates}
 use Rattle.guard.specs.Tables.{container}
@@ -51,25 +51,31 @@ ends parent n e = climbs parent (λ c. true) n e
 abbrev pub parentByKey : List ℕ → ℕ → ℕ
 parentByKey keys e = getD keys e 0 / 65536 % 64
 
--- the level of e, as its parent's: 16 for what is not live
-abbrev pub levelByKey : List ℕ → ℕ → ℕ
-levelByKey keys e = getD keys e 0 / 1048576 % 256
+-- ---- a role p at r, by the entities on which it may have rights
 
--- ---- a role p at r, by the level of each entity
+-- e is live
+abbrev pub liveByKey : List ℕ → ℕ → Bool
+liveByKey keys e = ltb (getD keys e 0) 16777216
 
-abbrev pub capOf : List ℕ → ℕ → ℕ → ℕ
-capOf levels bound e = cond (ltb (getD levels e 0) bound) 15 0
+-- e is one of those that are live, and of at most the level of r
+abbrev pub grantableIn : ℕ → ℕ → ℕ → Bool
+grantableIn live r e = every (has live e ∷ leb (entityLevel e) (roleLevel r) ∷ [])
 
-abbrev pub boundOf : Bool → ℕ → ℕ
-boundOf live r = cond live (roleLevel r + 1) 0
+-- all entities on which p has a right
+abbrev pub rightsSet : Role → ℕ
+rightsSet p = join (join (join (p .reads) (p .writes)) (p .executes)) (p .owns)
 
-abbrev pub roleTest : List ℕ → ℕ → Role → Bool
-roleTest levels r p =
+-- each member of the set is as f asks
+abbrev pub members : (ℕ → Bool) → ℕ → Bool
+members f set = all 64 (λ e. implies (has set e) (f e))
+
+abbrev pub roleTest : (ℕ → Bool) → ℕ → Role → Bool
+roleTest grantable r p =
     every
     (ltb (p .users) (2 ^ 16)
-    ∷ eqb (length (p .rights)) 64
+    ∷ ltb (rightsSet p) (2 ^ 64)
     ∷ either (p .live) (every (not (isKeeper r) ∷ eqb (p .users) 0 ∷ []))
-    ∷ all 64 (λ e. leb (getD (p .rights) e 0) (capOf levels (boundOf (p .live) r) e))
+    ∷ members (λ e. every (p .live ∷ grantable e ∷ [])) (rightsSet p)
     ∷ [])
 
 -- ---- a session s at a level, by the label of each entity as one number, above all for what is not live
@@ -82,10 +88,6 @@ labelOf n = cond (n .live) (packedLabel (n .label)) 65535
 
 abbrev pub dominated : List ℕ → Label → ℕ → Bool
 dominated labels a e = every (leb (getD labels e 0) (a .grade * 256 + 255) ∷ contains (a .cats) (getD labels e 0 % 256) ∷ [])
-
--- each member of the set is as p asks
-abbrev pub members : (ℕ → Bool) → ℕ → Bool
-members p set = all 64 (λ e. implies (has set e) (p e))
 
 abbrev pub openLevels : ℕ → Session → Bool
 openLevels level s =

@@ -40,7 +40,15 @@ upperSession L s =
 
 -- the live mark and list of roles of level L and above, and their rights on entities of level L and above
 unfoldable pub upperRole : ℕ → Role → Role
-upperRole L r = record { live = r .live; users = r .users; rights = drop (firstEntity L) (r .rights) }
+upperRole L r =
+    record {
+      live = r .live;
+      users = r .users;
+      reads = from (firstEntity L) (r .reads);
+      writes = from (firstEntity L) (r .writes);
+      executes = from (firstEntity L) (r .executes);
+      owns = from (firstEntity L) (r .owns);
+    }
 
 -- The upper part holds all users; .. the whole record of entities of level L and above.
 unfoldable pub upper : ℕ → Tables → Tables

@@ -59,35 +59,39 @@ impl Tables {
             let e = look::below64(q.entity);
             let k = look::below16(q.user);
             let s = self.sessions[x];
-            let u = self.users[k];
-            let p = self.roles[r];
             let f = self.entities[e];
             let o = look::parent_of(q, f);
-            let m = self.entities[o];
             // What 13, 14 and 15 ask: the rights that the roles held give, then the way up by them, then the children.
             let w = look::scope_of(q.call, e, o, s.roles, s.writing);
-            let at = w.at;
-            let mut given = [0u8; 64];
-            let mut i = at / 16 * 4;
-            let mut left = w.left;
-            while left != 0 {
-                let one = bitset::has16(left, 0);
-                let i2 = i;
-                left = left >> 1;
-                i += 1;
-                if one {
-                    let h = self.roles[i2];
-                    given = scan::joined(given, &h.rights);
+            let mut may = false;
+            if w.opened {
+                let at = w.at;
+                let right = w.right;
+                let mut asked = 0u64;
+                let mut through = 0u64;
+                let mut i = at / 16 * 4;
+                let mut left = w.left;
+                while left != 0 {
+                    let one = bitset::has16(left, 0);
+                    let i2 = i;
+                    left = left >> 1;
+                    i += 1;
+                    if one {
+                        let h = self.roles[i2];
+                        asked = asked | scan::having(right, h);
+                        through = through | h.executes;
+                    }
                 }
-            }
-            let mut may = w.opened & bitset::contains8(given[at], w.right);
-            let mut a = w.from;
-            let mut steps = 16usize;
-            while (steps != 0) & (a % 16 != 0) {
-                let h = self.entities[a];
-                a = h.parent as usize;
-                may = may & bitset::contains8(given[a], 4);
-                steps -= 1;
+                may = bitset::has64(asked, at as u32);
+                let mut a = w.from;
+                let mut steps = 16usize;
+                while (steps != 0) & (a % 16 != 0) {
+                    let h = self.entities[a];
+                    a = h.parent as usize;
+                    may = may & bitset::has64(through, a as u32);
+                    steps -= 1;
+                }
+                may = may & (a % 16 == 0);
             }
             let mut child = false;
             if w.kids {
@@ -100,6 +104,9 @@ impl Tables {
                     j += 1;
                 }
             }
+            let u = self.users[k];
+            let p = self.roles[r];
+            let m = self.entities[o];
             let v = View {
                 session: s,
                 user: u,
@@ -107,7 +114,7 @@ impl Tables {
                 users: p.users,
                 entity: f,
                 parent: m,
-                may: may & (a % 16 == 0),
+                may,
                 child,
             };
             let n = judge::judge(q, v);
@@ -128,16 +135,15 @@ impl Tables {
                         let p3 = roles::after(q, k, e, p2);
                         self.roles[r] = p3;
                     } else if call == 8 {
-                        // No role below the entity has rights on it, nor has one that is not live.
-                        let mut i2 = e / 16 * 4;
+                        let mut i2 = 0usize;
                         while i2 < 16 {
                             let j2 = i2;
-                            let g = self.roles[j2];
+                            let h = self.roles[j2];
                             i2 += 1;
-                            if g.live {
-                                let mut h = self.roles[j2];
-                                h.rights[e] = 0;
-                                self.roles[j2] = h;
+                            // A role that is not live has no rights.
+                            if h.live {
+                                let h2 = roles::cleared(e, h);
+                                self.roles[j2] = h2;
                             }
                         }
                         let mut i3 = 0usize;

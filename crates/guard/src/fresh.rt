@@ -14,19 +14,24 @@ fn fresh_role(r: usize) -> Role
     requires { ⌜ r < 16 ⌝ }
     ensures { λ p. ⌜ p ≡ freshRole r ⌝ }
 {
-    let mut rights = [0u8; 64];
     if r % 4 == 0 {
-        rights[r / 4 * 16] = 15;
+        let root = bitset::with64(0, (r / 4 * 16) as u32);
         return Role {
             live: true,
             users: 1,
-            rights,
+            reads: root,
+            writes: root,
+            executes: root,
+            owns: root,
         };
     }
     Role {
         live: false,
         users: 0,
-        rights,
+        reads: 0,
+        writes: 0,
+        executes: 0,
+        owns: 0,
     }
 }
 
@@ -59,7 +64,10 @@ fn fresh_roles() -> [Role; 16]
     let dead = Role {
         live: false,
         users: 0,
-        rights: [0u8; 64],
+        reads: 0,
+        writes: 0,
+        executes: 0,
+        owns: 0,
     };
     let mut roles = [dead; 16];
     let mut i = 0usize;

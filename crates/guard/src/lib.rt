@@ -41,11 +41,14 @@ pub struct Session {
     pub writing: u64,
 }
 
-// Role: the users that it lists, and for each entity a set of rights: read 1, write 2, execute 4, own 8.
+// Role: the users that it lists, and for each right, read, write, execute and own, the entities on which it has it.
 pub struct Role {
     pub live: bool,
     pub users: u16,
-    pub rights: [u8; 64],
+    pub reads: u64,
+    pub writes: u64,
+    pub executes: u64,
+    pub owns: u64,
 }
 
 // Entity: an object (kind 0) or a container (kind 1), with the number of its parent, its name and its label.

@@ -13,9 +13,10 @@ ghost use Rattle.bitset.specs.Tests.{either};
 ghost use Rattle.bitset.specs.Sets.{has};
 ghost use Rattle.guard.specs.Level.{sessionLevel, roleLevel, entityLevel, keeperOf, isKeeper};
 ghost use Rattle.guard.specs.Tables.{noRole};
+ghost use Rattle.guard.specs.Edits.{clearRights};
 ghost use Rattle.guard.specs.Refusals.{first, _when_};
 ghost use Rattle.guard.specs.Requests.{grant, list, unlist, make, unmake};
-ghost use Rattle.guard.specs.Inside.{number, Seen, MayGrant, usersAfter, rightsAfter, roleAfter};
+ghost use Rattle.guard.specs.Inside.{number, Seen, MayGrant, usersAfter, setAfter, grantedAfter, roleAfter};
 ghost use Rattle.guard.specs.declared.Tables.{Tables as TablesOf};
 
 fn rights_refusal(s: Session, f: Entity, live: bool, q: Request, may: bool) -> u8
@@ -194,17 +195,18 @@ fn users_after(call: u32, k: usize, users: u16) -> u16
     users
 }
 
-// The role's rights on the entity after create, 7, grant, 10, or revoke of those named.
-fn rights_after(call: u32, named: u32, rights: u8) -> u8
-    ensures { λ n. ⌜ n ≡ rightsAfter call named rights ⌝ }
+// The entities of one right, after grant, 10, or revoke of it where it is named.
+fn set_after(call: u32, named: bool, e: usize, set: u64) -> u64
+    requires { ⌜ e < 64 ⌝ }
+    ensures { λ n. ⌜ n ≡ setAfter call named e set ⌝ }
 {
-    if call == 7 {
-        return bitset::join8(rights, 8);
+    if !named {
+        return set;
     }
     if call == 10 {
-        return bitset::join8(rights, (named % 256) as u8);
+        return bitset::with64(set, e as u32);
     }
-    bitset::minus8(rights, (named % 256) as u8)
+    bitset::without64(set, e as u32)
 }
 
 fn empty() -> Role
@@ -213,8 +215,37 @@ fn empty() -> Role
     Role {
         live: false,
         users: 0,
-        rights: [0u8; 64],
+        reads: 0,
+        writes: 0,
+        executes: 0,
+        owns: 0,
     }
+}
+
+// Role `p` without rights on entity `e`.
+pub fn cleared(e: usize, p: Role) -> Role
+    requires { ⌜ e < 64 ⌝ }
+    ensures { λ n. ⌜ n ≡ clearRights e p ⌝ }
+{
+    let mut n = p;
+    n.reads = bitset::without64(p.reads, e as u32);
+    n.writes = bitset::without64(p.writes, e as u32);
+    n.executes = bitset::without64(p.executes, e as u32);
+    n.owns = bitset::without64(p.owns, e as u32);
+    n
+}
+
+// Role `p` after a grant or a revoke of the rights named.
+fn granted(call: u32, named: u8, e: usize, p: Role) -> Role
+    requires { ⌜ e < 64 ⌝ }
+    ensures { λ n. ⌜ n ≡ grantedAfter call named e p ⌝ }
+{
+    let mut n = p;
+    n.reads = set_after(call, bitset::contains8(named, 1), e, p.reads);
+    n.writes = set_after(call, bitset::contains8(named, 2), e, p.writes);
+    n.executes = set_after(call, bitset::contains8(named, 4), e, p.executes);
+    n.owns = set_after(call, bitset::contains8(named, 8), e, p.owns);
+    n
 }
 
 // Role `p` after a create by it, a grant, a revoke, or an edit of its list or its life, with user `k` and entity `e`. A dead
@@ -227,11 +258,14 @@ pub fn after(q: Request, k: usize, e: usize, p: Role) -> Role
         return empty();
     }
     let mut n = p;
-    if q.call <= 11 {
-        n.rights[e] = rights_after(q.call, q.rights, n.rights[e]);
+    if q.call == 7 {
+        n.owns = bitset::with64(p.owns, e as u32);
         return n;
     }
+    if q.call <= 11 {
+        return granted(q.call, (q.rights % 256) as u8, e, p);
+    }
     n.live = true;
-    n.users = users_after(q.call, k, n.users);
+    n.users = users_after(q.call, k, p.users);
     n
 }

@@ -1,25 +1,29 @@
-// What the scans for 13, 14 and 15 do in one turn, on records and small arrays: the loops over the tables stand where the
+// What the scans for 13, 14 and 15 do in one turn, on single records: the loops over the tables stand where the
 // tables are, since a function that took them would copy them.
 use crate::Entity;
+use crate::Role;
 ghost use Prim.Native.Nat.{_<_};
 ghost use mathlib.Core.Path.{_≡_};
 ghost use mathlib.Core.Bool.{not};
 ghost use mathlib.Core.List.{[], _∷_};
 ghost use lib.Dec.{eqb};
 ghost use Rattle.bitset.specs.Tests.{every, either};
-ghost use Rattle.guard.specs.Scan.{Joined, markedOf, maskOf};
+ghost use Rattle.guard.specs.Scan.{having, markedOf, maskOf};
 
-// The rights given on each entity, and those of one role more.
-pub fn joined(given: [u8; 64], rights: &[u8; 64]) -> [u8; 64]
-    ensures { λ g. ⌜ Joined given (now (rights .entry)) g ⌝ }
+// The entities on which role `p` has the right: read 1, write 2, execute 4, else own.
+pub fn having(right: u8, p: Role) -> u64
+    ensures { λ s. ⌜ s ≡ having right p ⌝ }
 {
-    let mut g = given;
-    let mut m = 0usize;
-    while m < 64 {
-        g[m] = g[m] | rights[m];
-        m += 1;
+    if right == 4 {
+        return p.executes;
     }
-    g
+    if right == 1 {
+        return p.reads;
+    }
+    if right == 2 {
+        return p.writes;
+    }
+    p.owns
 }
 
 // A mark and a number as one number.

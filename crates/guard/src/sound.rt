@@ -1,7 +1,8 @@
 // Whether tables are sound: `is_sound` is `sound` of specs/Sound, for all tables that the types admit.
 //
-// Columns of the entities (keys, levels, labels) are made once, and each part is tested over these or over single records,
-// so that no helper takes the tables inside a loop. The parts stand in an order in which each may assume the ones before it.
+// What the parts ask of all entities (their keys, their labels, which are live) is made once, and each part is tested over
+// that or over single records, so that no helper takes the tables inside a loop. The parts stand in an order in which each
+// may assume the ones before it.
 mod opens;
 mod record;
 mod rights;
@@ -16,10 +17,11 @@ ghost use Rattle.bitset.specs.Sets.{has};
 ghost use Rattle.guard.specs.Level.{sessionLevel};
 ghost use Rattle.guard.specs.Tables.{noUser, sessionAt, roleAt, entityAt};
 ghost use Rattle.guard.specs.Sound.{userInRange, sound};
-ghost use Rattle.guard.specs.Tested.{entityTest, keyOf, roleTest, labelOf, sessionTest};
+ghost use Rattle.guard.specs.Tested.{entityTest, keyOf, grantableIn, roleTest, labelOf, sessionTest};
 use crate::Tables;
 use opens::label_of;
 use opens::session_ok;
+use opens::to_level;
 use record::entity_ok;
 use record::user_in_range;
 use rights::listed;
@@ -27,7 +29,7 @@ use rights::role_ok;
 use tree::end_at_root;
 use tree::have_own_keys;
 use tree::key;
-use tree::levels;
+use tree::live_set;
 
 // What is found of the roles: whether each is as soundness asks, and if so the set of those that are live.
 struct Roles {
@@ -90,23 +92,25 @@ impl Tables {
         a
     }
 
-    fn roles_ok(self, levels: &[u8; 64]) -> Roles
-        ensures { λ r. ⌜ r .ok ≡ all 16 (λ k. roleTest (now (levels .entry)) k (roleAt self k)) ⌝ }
+    // The roles, where `live` are the live entities.
+    fn roles_ok(self, live: u64) -> Roles
+        ensures { λ r. ⌜ r .ok ≡ all 16 (λ k. roleTest (grantableIn live k) k (roleAt self k)) ⌝ }
         ensures { λ r. ⌜ (r .ok ≡ true → (k : ℕ) → k < 16 → has (r .live) k ≡ roleAt self k .live) ⌝ }
     {
-        let mut live: u16 = 0;
+        let mut found: u16 = 0;
         let mut r: u8 = 0;
         while r < 16 {
             let p = self.roles[r as usize];
-            if !role_ok(levels, r, p) {
+            let set = live & to_level((r / 4) as u32);
+            if !role_ok(set, r, p) {
                 return Roles { ok: false, live: 0 };
             }
-            live = listed(live, r, p.live);
+            found = listed(found, r, p.live);
             r += 1;
         }
         Roles {
             ok: true,
-            live: live,
+            live: found,
         }
     }
 
@@ -141,8 +145,8 @@ impl Tables {
         if !have_own_keys(&keys) {
             return false;
         }
-        let levels = levels(&keys);
-        let roles = self.roles_ok(&levels);
+        let live = live_set(&keys);
+        let roles = self.roles_ok(live);
         if !roles.ok {
             return false;
         }

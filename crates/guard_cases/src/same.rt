@@ -22,13 +22,9 @@ fn same_session(a: Session, b: Session) -> bool {
 }
 
 fn same_rights(a: Role, b: Role) -> bool {
-    let mut so = true;
-    let mut e = 0usize;
-    while e < 64 {
-        so = so & (a.rights[e] == b.rights[e]);
-        e += 1;
-    }
-    so
+    let opens = (a.reads == b.reads) & (a.writes == b.writes);
+    let others = (a.executes == b.executes) & (a.owns == b.owns);
+    opens & others
 }
 
 fn same_role(a: Role, b: Role) -> bool {

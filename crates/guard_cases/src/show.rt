@@ -7,7 +7,7 @@ use guard::Role;
 use guard::Session;
 use guard::Tables;
 use guard::User;
-ghost use Prim.Native.Nat.{_≤_};
+ghost use Prim.Native.Nat.{_≤_, _<_};
 ghost use lib.ListN.{length};
 
 pub fn word(text: &[u8]) {
@@ -125,13 +125,24 @@ pub fn session(s: usize, x: Session) {
     word(b"\n");
 }
 
+// The rights on `e`, added up.
+fn rights_on(p: Role, e: u32) -> u64
+    requires { ⌜ e < 64 ⌝ }
+{
+    let read = (p.reads >> e) & 1;
+    let write = (p.writes >> e) & 1;
+    let execute = (p.executes >> e) & 1;
+    let own = (p.owns >> e) & 1;
+    (read | (write << 1)) | ((execute << 2) | (own << 3))
+}
+
 fn rights(p: Role) {
-    let mut e = 0usize;
+    let mut e = 0u32;
     while e < 64 {
-        let n = p.rights[e];
+        let n = rights_on(p, e);
         if n != 0 {
             pair(b" ", e as u64);
-            pair(b"=", n as u64);
+            pair(b"=", n);
         }
         e += 1;
     }

@@ -22,12 +22,18 @@ fn case(names: &[u8], n: usize, whole: Tables, t: Tables) {
     show::word(b"\n");
 }
 
-fn with_right(mut t: Tables, r: usize, e: usize, n: u8) -> Tables
+// One right more on an entity: read 1, write 2, execute 4, else own.
+fn with_right(mut t: Tables, r: usize, e: u32, right: u8) -> Tables
     requires { ⌜ r < 16 ⌝ }
     requires { ⌜ e < 64 ⌝ }
 {
     let mut p = t.roles[r];
-    p.rights[e] = n;
+    match right {
+        1 => p.reads = p.reads | (1 << e),
+        2 => p.writes = p.writes | (1 << e),
+        4 => p.executes = p.executes | (1 << e),
+        _ => p.owns = p.owns | (1 << e),
+    }
     t.roles[r] = p;
     t
 }
@@ -94,7 +100,6 @@ fn ranges(t: Tables) {
         user 15, clearance grade 4\n\
         seat 4, user 16\n\
         seat 4, label grade 4\n\
-        role 12, rights 16 on 51\n\
         entity 51, kind 2\n\
         entity 1, parent 64\n\
         entity 55, label grade 4";
@@ -108,12 +113,11 @@ fn ranges(t: Tables) {
     b.sessions[4].user = 16;
     case(names, 2, t, b);
     case(names, 3, t, with_session_label(t, 4, 4, 0));
-    case(names, 4, t, with_right(t, 12, 51, 16));
     let mut b = t;
     b.entities[51].kind = 2;
-    case(names, 5, t, b);
-    case(names, 6, t, with_parent(t, 1, 64));
-    case(names, 7, t, with_label(t, 55, 4, 3));
+    case(names, 4, t, b);
+    case(names, 5, t, with_parent(t, 1, 64));
+    case(names, 6, t, with_label(t, 55, 4, 3));
 }
 
 // ".. and roots and keepers are as said": level 1 has no right on its root and nothing below it.
@@ -150,7 +154,10 @@ fn roots(t: Tables) {
     let nobody = Role {
         live: false,
         users: 0,
-        rights: [0u8; 64],
+        reads: 0,
+        writes: 0,
+        executes: 0,
+        owns: 0,
     };
     let mut b = t;
     b.roles[8] = nobody;
@@ -196,7 +203,10 @@ fn dead_seat_and_role(t: Tables) {
         dead seat 15 reads 48\n\
         dead seat 15 writes 48\n\
         dead role 15 lists 0\n\
-        dead role 15, rights 1 on 48";
+        dead role 15, rights 1 on 48\n\
+        dead role 15, rights 2 on 48\n\
+        dead role 15, rights 4 on 48\n\
+        dead role 15, rights 8 on 48";
     let mut b = t;
     b.sessions[15].user = 1;
     case(names, 0, t, b);
@@ -209,6 +219,9 @@ fn dead_seat_and_role(t: Tables) {
     b.roles[15].users = 1;
     case(names, 6, t, b);
     case(names, 7, t, with_right(t, 15, 48, 1));
+    case(names, 8, t, with_right(t, 15, 48, 2));
+    case(names, 9, t, with_right(t, 15, 48, 4));
+    case(names, 10, t, with_right(t, 15, 48, 8));
 }
 
 fn dead_entity(t: Tables) {
@@ -232,19 +245,31 @@ fn dead_entity(t: Tables) {
 // its own level or below."
 fn unused(t: Tables) {
     let names: &[u8] = b"role 12, rights 1 on the dead 63\n\
+        role 12, rights 2 on the dead 63\n\
+        role 12, rights 4 on the dead 63\n\
+        role 12, rights 8 on the dead 63\n\
         seat 12 reads the dead 63\n\
         seat 12 writes the dead 63\n\
         seat 12 holds the dead 15\n\
         role 8, rights 1 on 48\n\
+        role 8, rights 2 on 48\n\
+        role 8, rights 4 on 48\n\
+        role 8, rights 8 on 48\n\
         role 4, rights 1 on 32\n\
         role 0, rights 1 on 16";
     case(names, 0, t, with_right(t, 12, 63, 1));
-    case(names, 1, t, with_reading(t, 12, 63));
-    case(names, 2, t, with_writing(t, 12, 63));
-    case(names, 3, t, with_role(t, 12, 15));
-    case(names, 4, t, with_right(t, 8, 48, 1));
-    case(names, 5, t, with_right(t, 4, 32, 1));
-    case(names, 6, t, with_right(t, 0, 16, 1));
+    case(names, 1, t, with_right(t, 12, 63, 2));
+    case(names, 2, t, with_right(t, 12, 63, 4));
+    case(names, 3, t, with_right(t, 12, 63, 8));
+    case(names, 4, t, with_reading(t, 12, 63));
+    case(names, 5, t, with_writing(t, 12, 63));
+    case(names, 6, t, with_role(t, 12, 15));
+    case(names, 7, t, with_right(t, 8, 48, 1));
+    case(names, 8, t, with_right(t, 8, 48, 2));
+    case(names, 9, t, with_right(t, 8, 48, 4));
+    case(names, 10, t, with_right(t, 8, 48, 8));
+    case(names, 11, t, with_right(t, 4, 32, 1));
+    case(names, 12, t, with_right(t, 0, 16, 1));
 }
 
 // "An entity open for reading has at least the seat's level, and the seat's label dominates its label."

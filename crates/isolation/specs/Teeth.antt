@@ -11,7 +11,7 @@ use mathlib.Core.List.{List, [], _∷_, map}
 use lib.Dec.{eqb, lit≤}
 use lib.ListN.{getD}
 use Rattle.bitset.specs.Tests.{every}
-use Rattle.bitset.specs.Sets.{from}
+use Rattle.bitset.specs.Sets.{has, from}
 use Rattle.guard.specs.Label.{noLabel}
 use Rattle.guard.specs.Tables.{noSession, noRole, noEntity, execute, hasRight}
 use Rattle.guard.specs.Sound.{sound}
@@ -161,7 +161,7 @@ openw-fails h = true≢false (sym (told openw-without-10 h openw-16 (login-4 ∷
 -- seat 0 gives the upper role 8 a right on root 16
 pub grant-fails : Isolates grant-without-10 → ⊥
 unfolding computing morningUsers start upper upperSession upperRole from isUpper upperRequests runLog nextBy answerBy misread instead
-grant-fails h = true≢false (sym (told grant-without-10 h grant-16 [] (λ v. eqb (getD (getD (v .roles) 4 noRole .rights) 0 0) 0) refl))
+grant-fails h = true≢false (told grant-without-10 h grant-16 [] (λ v. has (getD (v .roles) 4 noRole .reads) 0) refl)
 
 -- seat 0 deletes object 17
 pub delete-fails : Isolates delete-unopened → ⊥

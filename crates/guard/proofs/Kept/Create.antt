@@ -16,7 +16,7 @@ use native.Mathlib.Omega.{arith}
 use borrow.Author.Tests.{ltb-true, eqb-true, eq-eqb}
 use Rattle.bitset.specs.Tests.Laws.{decide, clash, is-false, of-not-false, every-i, every-at, either-no-l, either-no-r}
 use Rattle.guard.specs.Level.{roleLevel, entityLevel, isRoot}
-use Rattle.guard.specs.Tables.{noEntity, entityAt, own}
+use Rattle.guard.specs.Tables.{noEntity, entityAt}
 use Rattle.guard.specs.Chain.{climbs, parentOf}
 use Rattle.guard.specs.Sound.{entityInRange, isRootRecord, sound}
 use Rattle.guard.specs.Edits.{withEntities, atEntity, setRights, addRights}
@@ -27,9 +27,8 @@ use Rattle.guard.specs.declared.Tables.{Tables}
 use Rattle.guard.proofs.Laws.Refusals.{unmet}
 use Rattle.guard.proofs.Laws.Chain.{ancestor, ancestor-same, Ends, ends-somewhere, ends-within}
 use Rattle.guard.proofs.Laws.Sound.{entityIn, parentIn, grantable, fitsIn, OwnName, Sound, sound-e}
-use Rattle.guard.proofs.Kept.Parts.{join-ok}
 use Rattle.guard.proofs.Kept.Sessions.{Keeps, not-below}
-use Rattle.guard.proofs.Kept.Roles.{rights-ok, role-kept}
+use Rattle.guard.proofs.Kept.Roles.{granted-ok, role-kept}
 use Rattle.guard.proofs.Kept.Entities.{Kin, parent-kin, kin, others-stay, dead-unused, entity-kept}
 use Rattle.guard.proofs.Kept.Rename.{free-name}
 
@@ -107,5 +106,4 @@ keeps-create t q d =
     every-i _ (refl, (not-below (roleLevel (q .role)) (entityLevel (q .entity)) (either-no-r _ _ (no 10)), tt)) in
     let at = at-new t (sound-e t (d .isSound)) (q .entity) (created q) l (no 8) in
     role-kept (atEntity (q .entity) (λ old. created q) t) (q .role) _ made (λ s k m live. live) (λ k old.
-    rights-ok _ _ _ old (q .entity) _ (λ x ok.
-    join-ok _ _ _ x own ok (of-not-false _ (either-no-r _ _ (no 7))) (omega arith) (λ i b m. ap (λ (a : Entity). grantable (q .role) (q .entity) a) at ∙ can)))
+    granted-ok _ _ _ old (q .entity) _ (of-not-false _ (either-no-r _ _ (no 7))) l (ap (λ (a : Entity). grantable (q .role) (q .entity) a) at ∙ can))

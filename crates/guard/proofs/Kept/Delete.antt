@@ -8,17 +8,15 @@ use Prim.Native.Nat.{ℕ, _<_}
 use mathlib.Core.Path.{_≡_, refl, ap, sym, _∙_}
 use mathlib.Core.Bool.{true, false}
 use mathlib.Core.Logic.{_⊎_, inl, inr}
-use lib.ListN.{getD, set}
-use lib.Seq.{getD-set-same}
-use native.Mathlib.Omega.{arith}
+use lib.ListN.{set}
 use borrow.Author.Tests.{ltb-true, eq-eqb}
 use Rattle.bitset.specs.Tests.{every}
 use Rattle.bitset.specs.Tests.Laws.{decide, clash, not-of-false, every-i, every-at, some-no-e}
 use Rattle.bitset.specs.Sets.{has}
-use Rattle.bitset.specs.Sets.Laws.{has-none, has-without-same}
+use Rattle.bitset.specs.Sets.Laws.{has-without-same, contains-zero}
 use Rattle.guard.specs.Level.{isRoot}
 use Rattle.guard.specs.Label.{labelInRange, sameLabel}
-use Rattle.guard.specs.Tables.{noSession, noEntity, roleAt, entityAt, isChild}
+use Rattle.guard.specs.Tables.{noSession, noRole, noEntity, entityAt, rightsOf, isChild}
 use Rattle.guard.specs.Chain.{parentOf}
 use Rattle.guard.specs.Sound.{entityInRange, isEmptyEntity, sound}
 use Rattle.guard.specs.Edits.{withEntities, atEntity, eachSession, eachRole, closeBoth, setRights, clearRights}
@@ -27,10 +25,11 @@ use Rattle.guard.specs.Requests.{fieldInRange, delete}
 use Rattle.guard.specs.declared.Tables.{Tables}
 use Rattle.guard.specs.declared.Request.{Request}
 use Rattle.guard.proofs.Laws.Refusals.{unmet}
+use Rattle.guard.proofs.Laws.Rights.{rights-cleared}
 use Rattle.guard.proofs.Laws.Sound.{Sound, sound-e}
-use Rattle.guard.proofs.Kept.Parts.{map-each, none-ok}
+use Rattle.guard.proofs.Kept.Parts.{map-each}
 use Rattle.guard.proofs.Kept.Sessions.{Keeps, closed-ok, each-session-kept}
-use Rattle.guard.proofs.Kept.Roles.{rights-ok, each-role-kept}
+use Rattle.guard.proofs.Kept.Roles.{fewer-ok, each-role-kept}
 use Rattle.guard.proofs.Kept.Entities.{others-stay, root-parent, Unused, entity-kept}
 
 none-in-range : entityInRange noEntity ≡ true
@@ -69,16 +68,15 @@ module _ (t : Tables) (e : ℕ) (h : sound t ≡ true) (l : e < 64) where
   cleared-sound =
       each-role-kept (eachSession (closeBoth e) t) (clearRights e)
       (each-session-kept t (closeBoth e) h (λ s r ok. closed-ok _ _ _ _ ok e))
-      (λ p. refl) (λ r p ok. rights-ok _ _ _ ok e _ (λ x old. none-ok _ _ _))
+      (λ p. refl) (λ r p ok. fewer-ok _ _ _ ok e 0 (contains-zero _))
 
   cleared-unused : Unused cleared e
-  unfolding eachRole eachSession closeBoth clearRights setRights
+  unfolding eachRole eachSession closeBoth
   cleared-unused =
       record {
         reading = map-each (λ s r. has (r .reading) e ≡ false) (closeBoth e) 16 (t .sessions) noSession (ok .manySessions) (λ s k. has-without-same _ e);
         writing = map-each (λ s r. has (r .writing) e ≡ false) (closeBoth e) 16 (t .sessions) noSession (ok .manySessions) (λ s k. has-without-same _ e);
-        rights = map-each (λ r p. (i : ℕ) → i < 4 → has (getD (p .rights) e 0) i ≡ false) (clearRights e) 16 (t .roles) _ (ok .manyRoles)
-            (λ r k i b. rw (getD-set-same (roleAt t r .rights) e 0 0 (omega (arith, ok .role r k .many))) (has-none i));
+        rights = map-each (λ r p. rightsOf p e ≡ 0) (clearRights e) 16 (t .roles) noRole (ok .manyRoles) (λ r k. rights-cleared e _);
       }
     where
       ok : Sound t

@@ -26,8 +26,9 @@ use Rattle.guard.specs.Edits.{withEntities}
 use Rattle.guard.specs.declared.Entity.{Entity}
 use Rattle.guard.specs.declared.Tables.{Tables}
 use Rattle.guard.proofs.Laws.Chain.{ancestor, climbs-same}
+use Rattle.guard.proofs.Laws.Rights.{rights-none, rights-zero}
 use Rattle.guard.proofs.Laws.Sound.{entityIn, readable, writable, grantable, childOf, fitsIn, SetOk, SessionOk, RoleOk, OwnName, Inside, EntityOk, Sound, sound-e, sound-i}
-use Rattle.guard.proofs.Kept.Parts.{set-each, as-ok, seen-ok}
+use Rattle.guard.proofs.Kept.Parts.{set-each, seen-ok}
 
 -- all of an entity but its name
 abbrev pub shape : Entity → Entity
@@ -149,14 +150,18 @@ module _ (t : Tables) (ok : Sound t) (e : ℕ) (n : Entity)
 pub record Unused (t : Tables) (e : ℕ) : Type 0 where
   pub reading : (s : ℕ) → s < 16 → has (sessionAt t s .reading) e ≡ false
   pub writing : (s : ℕ) → s < 16 → has (sessionAt t s .writing) e ≡ false
-  pub rights : (r : ℕ) → r < 16 → (i : ℕ) → i < 4 → has (rightsOn t r e) i ≡ false
+  pub rights : (r : ℕ) → r < 16 → rightsOn t r e ≡ 0
 
 pub dead-unused : (t : Tables) → Sound t → (e : ℕ) → e < 64 → entityAt t e .live ≡ false → Unused t e
 dead-unused t ok e l dead =
     record {
       reading = λ s k. is-false _ (λ m. clash _ (every-at _ (ok .session s k .reading .members e l m) 0) dead);
       writing = λ s k. is-false _ (λ m. clash _ (every-at _ (ok .session s k .writing .members e l m) 0) dead);
-      rights = λ r k i b. is-false _ (λ m. clash _ (every-at _ (ok .role r k .rights e l .members i b m) 0) dead);
+      rights = λ r k.
+          let out : (set : ℕ) → SetOk 64 (roleAt t r .live) (λ f. grantable r f (entityAt t f)) set → has set e ≡ false = λ set role.
+          is-false _ (λ m. clash _ (every-at _ (role .members e l m) 0) dead) in
+          let role = ok .role r k in
+          rights-none _ e (out _ (role .reads)) (out _ (role .writes)) (out _ (role .executes)) (out _ (role .owns));
     }
 
 pub entity-kept : (t : Tables) (e : ℕ) (n : Entity) → sound t ≡ true
@@ -202,11 +207,16 @@ entity-kept t e n h way stay new =
     role : (r : ℕ) → r < 16 → RoleOk (set (t .entities) e n) r (roleAt t r)
     role r l =
         let old = ok .role r l in
+        let none : Unused t e → rightsOn t r e ≡ 0 = λ unused. unused .rights r l in
         record {
           keeper = old .keeper;
           users = old .users;
-          many = old .many;
-          rights = set-each (λ j a. SetOk 4 (roleAt t r .live) (λ i. grantable r j a) (rightsOn t r j)) 64 (t .entities) noEntity (ok .manyEntities) e n
-              (λ j k ne. old .rights j k)
-              (λ k. as-ok 4 _ _ _ _ (old .rights e k) (λ i b. kept (grantable r e) _ (λ none. none .rights r l i b) way));
+          reads = seen-ok 64 _ (grantable r) _ (t .entities) noEntity e n (ok .manyEntities) (old .reads)
+              (kept (grantable r e) _ (λ unused. rights-zero _ e (none unused) .0) way);
+          writes = seen-ok 64 _ (grantable r) _ (t .entities) noEntity e n (ok .manyEntities) (old .writes)
+              (kept (grantable r e) _ (λ unused. rights-zero _ e (none unused) .1) way);
+          executes = seen-ok 64 _ (grantable r) _ (t .entities) noEntity e n (ok .manyEntities) (old .executes)
+              (kept (grantable r e) _ (λ unused. rights-zero _ e (none unused) .2) way);
+          owns = seen-ok 64 _ (grantable r) _ (t .entities) noEntity e n (ok .manyEntities) (old .owns)
+              (kept (grantable r e) _ (λ unused. rights-zero _ e (none unused) .3) way);
         }

@@ -1,7 +1,7 @@
 -- What one stored element, one member or some members change of what is said of each.
 --     set-each, map-each                          of each element of a list, after a store, and after a map
 --     as-ok, seen-ok                              of each member of a set, after a change in what it names
---     none-ok, join-ok, with-ok, minus-ok, without-ok           .. and after a change of the set
+--     none-ok, join-ok, with-ok, minus-ok, without-ok, put-ok   .. and after a change of the set
 -- Assumes nothing.
 use Prim.Native.Nat.{ℕ, zero, suc, _^_, _<_}
 use mathlib.Core.Path.{_≡_, refl, sym, _∙_}
@@ -17,6 +17,7 @@ use borrow.Author.Tests.{eqb-true}
 use Rattle.bitset.specs.Tests.Laws.{decide, clash}
 use Rattle.bitset.specs.Sets.{has, join, minus, with, without}
 use Rattle.bitset.specs.Sets.Laws.{has-join, has-minus, has-none, has-one, join-lt, minus-le}
+use Rattle.guard.specs.Edits.{put}
 use Rattle.guard.proofs.Laws.Sound.{SetOk}
 
 -- ---- lists
@@ -85,3 +86,8 @@ module _ (w : ℕ) (live : Bool) (Q : ℕ → Bool) where
   pub without-ok : (s i : ℕ) → SetOk w live Q s → SetOk w live Q (without s i)
   unfolding without
   without-ok s i = minus-ok s (2 ^ i)
+
+  pub put-ok : (b : Bool) (i s : ℕ) → SetOk w live Q s → (b ≡ true → SetOk w live Q (with s i)) → SetOk w live Q (put b i s)
+  unfolding put
+  put-ok true i s ok new = new refl
+  put-ok false i s ok new = without-ok s i ok

@@ -1,59 +1,84 @@
 -- Soundness is kept where one role is replaced: grant, revoke, list, unlist, make; and where every session drops a role
 -- that is then emptied: unmake.
---     listed-ok, rights-ok, empty-ok          a role with other users listed, other rights on one entity, or nothing
+--     listed-ok, empty-ok                     a role with other users listed, or with nothing
+--     granted-ok, fewer-ok                    .. with other rights on one entity: any that it may have, or none that it has not
 --     role-kept, each-role-kept               the edits, of one role and of each
 --     keeps-grant .. keeps-unmake             the rules
 -- Assumes nothing.
 use Prim.Native.Nat.{ℕ, _<_}
-use mathlib.Core.Path.{_≡_, refl, _∙_}
-use mathlib.Core.Bool.{Bool, true, false}
+use mathlib.Core.Path.{_≡_, refl, sym, _∙_}
+use mathlib.Core.Bool.{Bool, true, false, not, and-eq-true-iff}
 use mathlib.Core.List.{List, map}
-use lib.ListN.{length, getD, length-set, length-map, getD-replicate}
-use native.Mathlib.Omega.{arith}
-use borrow.Author.Tests.{ltb-true, leb-true}
+use lib.ListN.{length, getD, length-set, length-map}
+use borrow.Author.Tests.{ltb-true}
 use Rattle.bitset.specs.Tests.Laws.{clash, of-not-false, every-i, every-at, either-no-l, either-no-r}
-use Rattle.bitset.specs.Sets.{has}
-use Rattle.bitset.specs.Sets.Laws.{has-without-same}
+use Rattle.bitset.specs.Sets.{has, minus, contains, with}
+use Rattle.bitset.specs.Sets.Laws.{has-minus, has-without-same, has-contains, contains-trans}
 use Rattle.guard.specs.Level.{roleLevel, entityLevel, isKeeper}
-use Rattle.guard.specs.Tables.{noSession, noRights, noRole, sessionAt, roleAt, entityAt}
+use Rattle.guard.specs.Tables.{noSession, noRole, sessionAt, roleAt, entityAt, rightsOf}
 use Rattle.guard.specs.Sound.{sound}
-use Rattle.guard.specs.Edits.{withRoles, atRole, eachRole, eachSession, dropRole, listing, setRights, addRights, removeRights, listUser, unlistUser}
+use Rattle.guard.specs.Edits.{withRoles, atRole, eachRole, eachSession, dropRole, listing, put, granting, setRights, addRights, removeRights, listUser, unlistUser}
 use Rattle.guard.specs.Conditions.{grantBelow}
-use Rattle.guard.specs.Requests.{fieldInRange, grant, revoke, list, unlist, madeRole, make, unmake}
+use Rattle.guard.specs.Requests.{fieldInRange, grant, revoke, list, unlist, make, unmake}
 use Rattle.guard.specs.declared.Role.{Role}
 use Rattle.guard.specs.declared.Entity.{Entity}
 use Rattle.guard.specs.declared.Tables.{Tables}
 use Rattle.guard.proofs.Laws.Refusals.{unmet}
+use Rattle.guard.proofs.Laws.Rights.{contains-read, contains-write, contains-execute, contains-own, put-same}
 use Rattle.guard.proofs.Laws.Sound.{roleIn, entityIn, grantable, SetOk, RoleOk, Sound, sound-e, sound-i}
-use Rattle.guard.proofs.Kept.Parts.{set-each, map-each, as-ok, seen-ok, none-ok, join-ok, with-ok, minus-ok, without-ok}
+use Rattle.guard.proofs.Kept.Parts.{set-each, map-each, as-ok, seen-ok, none-ok, with-ok, without-ok, put-ok}
 use Rattle.guard.proofs.Kept.Sessions.{Keeps, not-below, dropped-ok, each-session-kept}
+
+-- ---- a set with a member that it has, and one less some members
+with-same : (s e : ℕ) → has s e ≡ true → with s e ≡ s
+unfolding put
+with-same s e h = rw h at (put-same e s)
+
+contains-minus : (a b : ℕ) → contains a (minus a b) ≡ true
+contains-minus a b =
+    has-contains a (minus a b) (λ i h. and-eq-true-iff (has a i) (not (has b i)) .0 (sym (has-minus a b i) ∙ h) .0)
 
 -- ---- one role, over the entities of the tables
 module _ (es : List Entity) (r : ℕ) (p : Role) (ok : RoleOk es r p) where
   listed-ok : (users : ℕ) → SetOk 16 (p .live) (λ u. true) users → RoleOk es r (listing users p)
-  listed-ok users new = record { keeper = ok .keeper; users = new; many = ok .many; rights = ok .rights }
+  listed-ok users new =
+      record { keeper = ok .keeper; users = new; reads = ok .reads; writes = ok .writes; executes = ok .executes; owns = ok .owns }
 
-  pub rights-ok : (e : ℕ) (f : ℕ → ℕ)
-      → ((x : ℕ) → SetOk 4 (p .live) (λ i. grantable r e (entityIn es e)) x → SetOk 4 (p .live) (λ i. grantable r e (entityIn es e)) (f x))
-      → RoleOk es r (setRights e f p)
-  unfolding setRights
-  rights-ok e f new =
+  -- the four sets at once: s is the one by which the role has the right m
+  granting-ok : (e n : ℕ)
+      → ((m s : ℕ) → contains (rightsOf p e) m ≡ has s e → SetOk 64 (p .live) (λ f. grantable r f (entityIn es f)) s
+      → SetOk 64 (p .live) (λ f. grantable r f (entityIn es f)) (put (contains n m) e s))
+      → RoleOk es r (granting e n p)
+  granting-ok e n new =
       record {
         keeper = ok .keeper;
         users = ok .users;
-        many = length-set (p .rights) e _ ∙ ok .many;
-        rights = set-each (λ j x. SetOk 4 (p .live) (λ i. grantable r j (entityIn es j)) x) 64 (p .rights) 0 (ok .many) e _
-            (λ j l ne. ok .rights j l) (λ l. new _ (ok .rights e l));
+        reads = new 1 _ (contains-read p e) (ok .reads);
+        writes = new 2 _ (contains-write p e) (ok .writes);
+        executes = new 4 _ (contains-execute p e) (ok .executes);
+        owns = new 8 _ (contains-own p e) (ok .owns);
       }
 
+  -- any rights, where the role is live and may have them
+  pub granted-ok : (e n : ℕ) → p .live ≡ true → e < 64 → grantable r e (entityIn es e) ≡ true → RoleOk es r (granting e n p)
+  granted-ok e n live l can = granting-ok e n (λ m s same old. put-ok _ _ _ _ e s old (λ _. with-ok _ _ _ s e old live l can))
+
+  -- no rights that it has not
+  pub fewer-ok : (e n : ℕ) → contains (rightsOf p e) n ≡ true → RoleOk es r (granting e n p)
+  fewer-ok e n fewer =
+      granting-ok e n (λ m s same old. put-ok _ _ _ _ e s old (λ has-m.
+      rw (with-same s e (sym same ∙ contains-trans _ n m fewer has-m)) old))
+
 empty-ok : (es : List Entity) (r : ℕ) (live : Bool) → (isKeeper r ≡ true → live ≡ true)
-    → RoleOk es r (record { live = live; users = 0; rights = noRights })
+    → RoleOk es r (record { live = live; users = 0; reads = 0; writes = 0; executes = 0; owns = 0 })
 empty-ok es r live keeper =
     record {
       keeper = keeper;
       users = none-ok _ _ _;
-      many = refl;
-      rights = λ e l. rw (getD-replicate {A = ℕ} 64 e 0 0 l) (none-ok _ _ _);
+      reads = none-ok _ _ _;
+      writes = none-ok _ _ _;
+      executes = none-ok _ _ _;
+      owns = none-ok _ _ _;
     }
 
 -- ---- the roles replaced
@@ -108,14 +133,13 @@ keeps-grant t q d =
     let can : grantable (q .role) (q .entity) (entityAt t (q .entity)) ≡ true =
     every-i _ (of-not-false _ (either-no-l _ _ (no 7)), (level, tt)) in
     role-kept t (q .role) _ (d .isSound) (λ s l m live. live) (λ l old.
-    rights-ok _ _ _ old (q .entity) _ (λ x ok.
-    join-ok _ _ _ x (q .rights) ok (of-not-false _ (either-no-r _ _ (no 7))) (omega (arith, leb-true (q .rights) 15 (every-at _ (every-at _ (d .ranges) 3) 1))) (λ i k m. can)))
+    granted-ok _ _ _ old (q .entity) _ (of-not-false _ (either-no-r _ _ (no 7))) (ltb-true _ _ (every-at _ (d .ranges) 2)) can)
 
 pub keeps-revoke : Keeps revoke
 unfolding revoke removeRights setRights
 keeps-revoke t q d =
     role-kept t (q .role) _ (d .isSound) (λ s l m live. live)
-    (λ l old. rights-ok _ _ _ old (q .entity) _ (λ x ok. minus-ok _ _ _ x (q .rights) ok))
+    (λ l old. fewer-ok _ _ _ old (q .entity) _ (contains-minus _ (q .rights)))
 
 pub keeps-list : Keeps list
 unfolding list listUser fieldInRange
@@ -131,7 +155,7 @@ keeps-unlist t q d =
     (λ l old. listed-ok _ _ _ old _ (without-ok _ _ _ _ (q .user) (old .users)))
 
 pub keeps-make : Keeps make
-unfolding make madeRole
+unfolding make
 keeps-make t q d =
     role-kept t (q .role) _ (d .isSound) (λ s l m live. refl) (λ l old. empty-ok _ _ true (λ k. refl))
 

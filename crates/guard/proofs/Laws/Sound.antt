@@ -3,25 +3,23 @@
 --     writing-level, parent-level     two of the facts, of the tables
 -- Assumes nothing.
 use Prim.Native.Nat.{ℕ, _^_, _≤_, _<_}
-use mathlib.Core.Path.{_≡_, refl, sym, _∙_}
+use mathlib.Core.Path.{_≡_, refl}
 use mathlib.Core.Bool.{Bool, true, false, not}
 use mathlib.Core.List.{List, [], _∷_}
 use lib.Dec.{eqb}
-use lib.ListN.{getD}
-use native.Mathlib.Omega.{arith}
-use borrow.Author.Tests.{eqb-true, eqb-false, leb-true, ltb-true, eq-eqb, ne-eqb, le-leb, lt-ltb}
+use borrow.Author.Tests.{eqb-true, eqb-false, leb-true, ltb-true, eq-eqb, ne-eqb, lt-ltb}
 use Rattle.bitset.specs.Tests.{every, implies, all}
 use Rattle.bitset.specs.Tests.Laws.{is-false, clash, not-of-true, not-of-false, of-not-true, of-not-false, every-i, every-e, every-at, implies-i, implies-e, all-i, all-e}
 use Rattle.bitset.specs.Sets.{has}
-use Rattle.bitset.specs.Sets.Laws.{has-none, has-below, sets-ext}
 use Rattle.guard.specs.Level.{sessionLevel, entityLevel, isRoot}
-use Rattle.guard.specs.Tables.{sessionAt, roleAt, entityAt, isWriting, rightsOn, isChild}
+use Rattle.guard.specs.Tables.{sessionAt, roleAt, entityAt, isWriting, rightsOf, rightsOn, isChild}
 use Rattle.guard.specs.Chain.{endsAtRoot}
 use Rattle.guard.specs.Sound.{sessionInRange, roleInRange, fieldsInRange, rootsAsSaid, keepersAsSaid, hasOwnName, isPlaced, entitiesPlaced, isEmptySession, isEmptyRole, deadAreEmpty, deadAreUnused, rightsWithin, readingWithin, writingWithin, sound}
 use Rattle.guard.specs.declared.Session.{Session}
 use Rattle.guard.specs.declared.Role.{Role}
 use Rattle.guard.specs.declared.Entity.{Entity}
 use Rattle.guard.specs.declared.Tables.{Tables}
+use Rattle.guard.proofs.Laws.Rights.{rights-none, rights-zero}
 pub mod Facts
 pub use Facts.*
 
@@ -69,24 +67,31 @@ session-e t h s l =
           (opened _ _ _ _ (all-e 16 _ (every-at _ unused 2) s l) (all-e 16 _ (every-at _ h 8) s l));
     }
 
+-- a role has rights only on what it may have rights on
+rights-e : (t : Tables) → sound t ≡ true → (r e : ℕ) → r < 16 → e < 64 → (rightsOn t r e ≡ 0 → ⊥) → grantable r e (entityAt t e) ≡ true
+unfolding sound deadAreUnused rightsWithin
+rights-e t h r e l k ne =
+    let some = ne-eqb (rightsOn t r e) 0 ne in
+    let live = used _ _ (all-e 64 _ (all-e 16 _ (every-at _ (every-at _ h 5) 0) r l) e k) some in
+    every-i _ (live, (implies-e _ _ (all-e 64 _ (all-e 16 _ (every-at _ h 6) r l) e k) (not-of-false _ some), tt))
+
 role-e : (t : Tables) → sound t ≡ true → (r : ℕ) → r < 16 → RoleOk (t .entities) r (roleAt t r)
-unfolding sound fieldsInRange roleInRange keepersAsSaid isEmptyRole deadAreEmpty deadAreUnused rightsWithin
+unfolding sound fieldsInRange roleInRange keepersAsSaid isEmptyRole deadAreEmpty
 role-e t h r l =
     let p = roleAt t r in
     let range = all-e 16 _ (every-at _ (every-at _ h 0) 4) r l in
     let empty : p .live ≡ false → isEmptyRole p ≡ true = λ d. dead _ _ (all-e 16 _ (every-at _ (every-at _ h 4) 1) r l) d in
-    let unused = all-e 16 _ (every-at _ (every-at _ h 5) 0) r l in
-    let within = all-e 16 _ (every-at _ h 6) r l in
     record {
       keeper = λ k. implies-e _ _ (all-e 16 _ (every-at _ h 2) r l) k;
       users = set-e 16 _ _ _ (ltb-true _ _ (every-at _ range 0)) (λ d. every-at _ (empty d) 0) (λ u k m. refl);
-      many = eqb-true _ _ (every-at _ range 1);
-      rights = λ e k.
-          set-e 4 _ _ _ (omega (arith, leb-true (getD (p .rights) e 0) 15 (all-e 64 _ (every-at _ range 2) e k)))
-          (λ d. all-e 64 _ (every-at _ (empty d) 1) e k)
-          (λ i b m.
-          let some = ne-eqb (getD (p .rights) e 0) 0 (λ z. clash (has 0 i) (rw z at m) (has-none i)) in
-          every-i _ (used _ _ (all-e 64 _ unused e k) some, (implies-e _ _ (all-e 64 _ within e k) (not-of-false _ some), tt)));
+      reads = set-e 64 _ _ _ (ltb-true _ _ (every-at _ range 1)) (λ d. every-at _ (empty d) 1)
+          (λ e k m. rights-e t h r e l k (λ z. clash _ m (rights-zero p e z .0)));
+      writes = set-e 64 _ _ _ (ltb-true _ _ (every-at _ range 2)) (λ d. every-at _ (empty d) 2)
+          (λ e k m. rights-e t h r e l k (λ z. clash _ m (rights-zero p e z .1)));
+      executes = set-e 64 _ _ _ (ltb-true _ _ (every-at _ range 3)) (λ d. every-at _ (empty d) 3)
+          (λ e k m. rights-e t h r e l k (λ z. clash _ m (rights-zero p e z .2)));
+      owns = set-e 64 _ _ _ (ltb-true _ _ (every-at _ range 4)) (λ d. every-at _ (empty d) 4)
+          (λ e k m. rights-e t h r e l k (λ z. clash _ m (rights-zero p e z .3)));
     }
 
 entity-e : (t : Tables) → sound t ≡ true → (e : ℕ) → e < 64 → EntityOk (t .entities) e (entityAt t e)
@@ -136,12 +141,6 @@ every-of : (l : List Bool) → AllMet l → every l ≡ true
 every-of l no-more = every-i _ tt
 every-of l (p also ps) = every-i _ (p, every-e _ (every-of _ ps))
 
--- a set that is not empty has a member
-some-member : (w : ℕ) (live b : Bool) (s : ℕ) → SetOk w live (λ i. b) s → eqb s 0 ≡ false → b ≡ true
-some-member w live b s ok some =
-    of-not-false b (is-false (not b) (λ no. eqb-false s 0 some (sets-ext s 0 (λ i.
-    is-false (has s i) (λ m. clash b (ok .members i (has-below w s i (ok .small) m) m) (of-not-true b no)) ∙ sym (has-none i)))))
-
 -- what is open for reading, or for writing
 open-i : (live m a b : ℕ → Bool) → ((e : ℕ) → e < 64 → m e ≡ true → every (live e ∷ a e ∷ b e ∷ []) ≡ true)
     → (all 64 (λ e. implies (not (live e)) (not (m e))) ≡ true) × (all 64 (λ e. implies (m e) (every (a e ∷ b e ∷ []))) ≡ true)
@@ -179,13 +178,30 @@ module _ (es : List Entity) (r : ℕ) (p : Role) (ok : RoleOk es r p) where
   role-range =
       every-of _
       (lt-ltb _ _ (ok .users .small)
-      also eq-eqb _ _ (ok .many)
-      also all-i 64 _ (λ e l. le-leb (getD (p .rights) e 0) 15 (omega (arith, ok .rights e l .small)))
+      also lt-ltb _ _ (ok .reads .small)
+      also lt-ltb _ _ (ok .writes .small)
+      also lt-ltb _ _ (ok .executes .small)
+      also lt-ltb _ _ (ok .owns .small)
       also no-more)
 
   role-empty : p .live ≡ false → isEmptyRole p ≡ true
   unfolding isEmptyRole
-  role-empty d = every-of _ (eq-eqb _ _ (ok .users .none d) also all-i 64 _ (λ e l. eq-eqb _ _ (ok .rights e l .none d)) also no-more)
+  role-empty d =
+      every-of _
+      (eq-eqb _ _ (ok .users .none d)
+      also eq-eqb _ _ (ok .reads .none d)
+      also eq-eqb _ _ (ok .writes .none d)
+      also eq-eqb _ _ (ok .executes .none d)
+      also eq-eqb _ _ (ok .owns .none d)
+      also no-more)
+
+  -- an entity with rights on it is one that r may have rights on
+  role-grantable : (e : ℕ) → e < 64 → eqb (rightsOf p e) 0 ≡ false → grantable r e (entityIn es e) ≡ true
+  role-grantable e l some =
+      of-not-false _ (is-false _ (λ no.
+      let out : (s : ℕ) → SetOk 64 (p .live) (λ f. grantable r f (entityIn es f)) s → has s e ≡ false = λ s set.
+      is-false (has s e) (λ m. clash _ (set .members e l m) (of-not-true _ no)) in
+      eqb-false _ 0 some (rights-none p e (out _ (ok .reads)) (out _ (ok .writes)) (out _ (ok .executes)) (out _ (ok .owns)))))
 
 placed-i : (t : Tables) (e : ℕ) → Placed (t .entities) e (entityAt t e) → isPlaced t e ≡ true
 unfolding isPlaced hasOwnName isChild endsAtRoot
@@ -232,7 +248,7 @@ sound-i t ok =
         also no-more)
 
     granted : (r e : ℕ) → r < 16 → e < 64 → eqb (rightsOn t r e) 0 ≡ false → grantable r e (entityAt t e) ≡ true
-    granted r e l k = some-member _ _ _ _ (ok .role r l .rights e k)
+    granted r e l k = role-grantable _ r _ (ok .role r l) e k
 
     unused : deadAreUnused t ≡ true
     unused =

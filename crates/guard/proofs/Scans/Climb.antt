@@ -1,34 +1,28 @@
--- The climb: the containers above an entity, one after the other, asked of the rights given.
---     exec                                                          the rights given let through
+-- The climb: the containers above an entity, one after the other, asked of the set of those that let through.
 --     steps-left                                                    the climb goes on
 --     Climbing, climbing-start, climbing-more, climbing-all         n steps are left, and it stands at a
---     way-given                                                     what is asked of the list is what the roles give
+--     way-given                                                     what is asked of the set is what the roles give
 -- Assumes nothing.
 use Prim.Native.Nat.{ℕ, zero, suc, _-_, _/_, _≤_, _<_}
 use mathlib.Core.Path.{_≡_, refl, ap, sym, _∙_}
 use mathlib.Core.Bool.{Bool, true, false, not, _&&_, and-true, and-assoc, and-eq-true-iff}
-use mathlib.Core.List.{List}
 use mathlib.Core.Logic.{_⊎_, inl, inr}
 use native.Mathlib.Omega.{arith}
 use lib.Dec.{eqb}
-use lib.ListN.{getD}
 use borrow.Author.Tests.{ltb-true, eqb-true, eqb-false}
 use Rattle.bitset.specs.Tests.{every, either}
 use Rattle.bitset.specs.Tests.Laws.{decide, of-not-true, of-not-false, every-at}
-use Rattle.bitset.specs.Sets.{contains}
+use Rattle.bitset.specs.Sets.{has}
 use Rattle.guard.specs.Level.{isRoot}
 use Rattle.guard.specs.Tables.{entityAt, execute}
 use Rattle.guard.specs.Chain.{climbs, parentOf}
 use Rattle.guard.specs.Sound.{entityInRange, sound}
 use Rattle.guard.specs.Scan.{gives}
+use Rattle.guard.specs.Inside.{Single}
 use Rattle.guard.specs.declared.Tables.{Tables}
 use Rattle.guard.proofs.Laws.Sound.{sound-e, parent-level}
 use Rattle.guard.proofs.Laws.Chain.{climbs-root}
-use Rattle.guard.proofs.Scans.Given.{Single, given-live}
-
--- execute is among the rights given on c
-abbrev pub exec : List ℕ → ℕ → Bool
-exec given c = contains (getD given c 0) execute
+use Rattle.guard.proofs.Scans.Given.{given-live}
 
 pub parent-small : (t : Tables) → sound t ≡ true → (e : ℕ) → e < 64 → parentOf t e < 64
 unfolding entityInRange
@@ -60,49 +54,50 @@ climbs-end parent p n a off = go (decide (isRoot a))
     go (inr r) = let z : n ≡ 0 = eqb-true n 0 (of-not-false _ (sym (and-true (not (eqb n 0))) ∙ rw r at off)) in rw z
 
 -- ---- n steps are left, and the climb stands at a
-pub record Climbing (t : Tables) (given : List ℕ) (from : ℕ) (before : Bool) (n a : ℕ) (may : Bool) : Type 0 where
+pub record Climbing (t : Tables) (through : ℕ) (from : ℕ) (before : Bool) (n a : ℕ) (may : Bool) : Type 0 where
   pub inside : a < 64
-  pub so-far : (may && climbs (parentOf t) (exec given) n a) ≡ (before && climbs (parentOf t) (exec given) 16 from)
+  pub so-far : (may && climbs (parentOf t) (has through) n a) ≡ (before && climbs (parentOf t) (has through) 16 from)
 
-module _ (t : Tables) (given : List ℕ) (from : ℕ) (before : Bool) where
-  pub climbing-start : from < 64 → Climbing t given from before 16 from before
+module _ (t : Tables) (through : ℕ) (from : ℕ) (before : Bool) where
+  pub climbing-start : from < 64 → Climbing t through from before 16 from before
   climbing-start l = record { inside = l; so-far = refl }
 
-  module _ (n a : ℕ) (may : Bool) (seen : Climbing t given from before n a may) where
-    pub climbing-more : sound t ≡ true → (b : Bool) → (not (eqb n 0) && not (isRoot a)) ≡ true → b ≡ exec given (parentOf t a)
-        → Climbing t given from before (n - 1) (parentOf t a) (may && b)
+  module _ (n a : ℕ) (may : Bool) (seen : Climbing t through from before n a may) where
+    pub climbing-more : sound t ≡ true → (b : Bool) → (not (eqb n 0) && not (isRoot a)) ≡ true → b ≡ has through (parentOf t a)
+        → Climbing t through from before (n - 1) (parentOf t a) (may && b)
     climbing-more ok b on h =
         let other = of-not-true _ (and-eq-true-iff (not (eqb n 0)) (not (isRoot a)) .0 on .1) in
         record {
           inside = parent-small t ok a (seen .inside);
-          so-far = and-assoc may b _ ∙ rw h (ap (λ (c : Bool). may && c) (sym (climbs-more (parentOf t) (exec given) n a (steps-left n a on) other))) ∙ seen .so-far;
+          so-far = and-assoc may b _ ∙ rw h (ap (λ (c : Bool). may && c) (sym (climbs-more (parentOf t) (has through) n a (steps-left n a on) other))) ∙ seen .so-far;
         }
 
-    pub climbing-all : (not (eqb n 0) && not (isRoot a)) ≡ false → (may && isRoot a) ≡ (before && climbs (parentOf t) (exec given) 16 from)
-    climbing-all off = ap (λ (b : Bool). may && b) (climbs-end (parentOf t) (exec given) n a off) ∙ seen .so-far
+    pub climbing-all : (not (eqb n 0) && not (isRoot a)) ≡ false → (may && isRoot a) ≡ (before && climbs (parentOf t) (has through) 16 from)
+    climbing-all off = ap (λ (b : Bool). may && b) (climbs-end (parentOf t) (has through) n a off) ∙ seen .so-far
 
--- ---- from a live entity the climb stays in its level, where the list has what the roles give
-module _ (t : Tables) (held : ℕ) (given : List ℕ) (ok : sound t ≡ true) where
-  climbs-given : (level : ℕ) → ((c : ℕ) → c < 64 → c / 16 ≡ level → exec given c ≡ gives t held execute c) → (n e : ℕ) → e < 64 → e / 16 ≡ level
-      → entityAt t e .live ≡ true → climbs (parentOf t) (exec given) n e ≡ climbs (parentOf t) (gives t held execute) n e
+-- ---- from a live entity the climb stays in its level, where the set has what the roles give
+module _ (t : Tables) (held : ℕ) (through : ℕ) (ok : sound t ≡ true) where
+  climbs-given : (level : ℕ) → ((c : ℕ) → c < 64 → c / 16 ≡ level → has through c ≡ gives t held execute c) → (n e : ℕ) → e < 64 → e / 16 ≡ level
+      → entityAt t e .live ≡ true → climbs (parentOf t) (has through) n e ≡ climbs (parentOf t) (gives t held execute) n e
   unfolding climbs either
   climbs-given level same zero e l at live = refl
   climbs-given level same (suc n) e l at live = go (isRoot e) refl (λ c h g k. climbs-given level same n c h g k)
     where
-      go : (b : Bool) → isRoot e ≡ b → ((c : ℕ) → c < 64 → c / 16 ≡ level → entityAt t c .live ≡ true → climbs (parentOf t) (exec given) n c ≡ climbs (parentOf t) (gives t held execute) n c)
-          → climbs (parentOf t) (exec given) (suc n) e ≡ climbs (parentOf t) (gives t held execute) (suc n) e
+      go : (b : Bool) → isRoot e ≡ b → ((c : ℕ) → c < 64 → c / 16 ≡ level → entityAt t c .live ≡ true → climbs (parentOf t) (has through) n c ≡ climbs (parentOf t) (gives t held execute) n c)
+          → climbs (parentOf t) (has through) (suc n) e ≡ climbs (parentOf t) (gives t held execute) (suc n) e
       go true r more = rw r
       go false r more =
           let (up, above) = parent-level t ok e l live r in
           let inside = parent-small t ok e l in
           rw (same (parentOf t e) inside (up ∙ at), more (parentOf t e) inside (up ∙ at) above)
 
-  pub way-given : (right e : ℕ) → Single right → e < 64
-      → ((asked c : ℕ) → Single asked → c < 64 → c / 16 ≡ e / 16 → contains (getD given c 0) asked ≡ gives t held asked c)
-      → (contains (getD given e 0) right && climbs (parentOf t) (exec given) 16 e) ≡ (gives t held right e && climbs (parentOf t) (gives t held execute) 16 e)
-  way-given right e (k, single) l same = rw (same right e (k, single) l refl) (go (decide (gives t held right e)))
+  pub way-given : (right asked e : ℕ) → Single right → e < 64
+      → ((c : ℕ) → c < 64 → c / 16 ≡ e / 16 → has asked c ≡ gives t held right c)
+      → ((c : ℕ) → c < 64 → c / 16 ≡ e / 16 → has through c ≡ gives t held execute c)
+      → (has asked e && climbs (parentOf t) (has through) 16 e) ≡ (gives t held right e && climbs (parentOf t) (gives t held execute) 16 e)
+  way-given right asked e single l here above = rw (here e l refl) (go (decide (gives t held right e)))
     where
       go : (gives t held right e ≡ true) ⊎ (gives t held right e ≡ false)
-          → (gives t held right e && climbs (parentOf t) (exec given) 16 e) ≡ (gives t held right e && climbs (parentOf t) (gives t held execute) 16 e)
-      go (inl h) = rw (h, climbs-given (e / 16) (λ c i g. same execute c (2, refl) i g) 16 e l refl (given-live t held e k ok l (rw single at h)))
+          → (gives t held right e && climbs (parentOf t) (has through) 16 e) ≡ (gives t held right e && climbs (parentOf t) (gives t held execute) 16 e)
+      go (inl h) = rw (h, climbs-given (e / 16) above 16 e l refl (given-live t held right e single ok l h))
       go (inr h) = rw h

@@ -1,26 +1,27 @@
 -- What the code tests of one record, in the cases that it tells apart.
 --     entity-dead, entity-root, entity-other                         an entity n at e, where p is its parent's record
---     role-out, role-last                                            a role p at r, by the levels of the entities
+--     rights-small, role-out, role-last                              a role p at r, by the entities on which it may have rights
 --     session-dead, session-out, session-away, session-last          a session s at a level, by the labels of the entities
 -- Assumes nothing.
-use Prim.Native.Nat.{ℕ, _<_}
-use mathlib.Core.Bool.{Bool, true, false, not, _&&_, and-true, _||_, and-false}
+use Prim.Native.Nat.{ℕ, _^_, _<_}
+use mathlib.Core.Bool.{Bool, true, false, not, _&&_, and-true, _||_, and-false, cond}
 use mathlib.Core.Path.{_≡_, refl, sym, _∙_}
 use mathlib.Core.List.{List, [], _∷_}
 use lib.Dec.{leb, eqb}
-use lib.ListN.{length, getD}
-use borrow.Author.Tests.{lt-ltb, eq-eqb}
-use Rattle.bitset.specs.Tests.{every, either, all}
+use borrow.Author.Tests.{lt-ltb}
+use Rattle.bitset.specs.Tests.{every, either}
 use Rattle.bitset.specs.Tests.Laws.{both, clash, is-false, not-of-true, not-of-false, every-i, every-at, of-not-true, of-not-false}
-use Rattle.bitset.specs.Sets.{contains}
+use Rattle.bitset.specs.Sets.{has, contains}
+use Rattle.bitset.specs.Sets.Laws.{has-none, join-lt}
 use Rattle.guard.specs.Level.{isRoot, isKeeper}
 use Rattle.guard.specs.Sound.{entityInRange, isRootRecord, isEmptyEntity, sessionInRange, isEmptySession}
-use Rattle.guard.specs.Tested.{entityTest, capOf, boundOf, roleTest, openLevels, openLabels, sessionTest}
+use Rattle.guard.specs.Tested.{entityTest, rightsSet, roleTest, openLevels, openLabels, sessionTest}
 use Rattle.guard.specs.declared.Entity.{Entity}
 use Rattle.guard.specs.declared.Role.{Role}
 use Rattle.guard.specs.declared.Session.{Session}
 use Rattle.guard.proofs.Laws.Sound.Facts.{fitsIn}
 use Rattle.guard.proofs.Soundness.Tests.{cond-yes, cond-no}
+use Rattle.guard.proofs.Soundness.Members.{within-mask}
 
 -- ---- an entity
 
@@ -45,15 +46,27 @@ idle false true u = refl
 idle false false true = refl
 idle false false false = refl
 
-module _ (levels : List ℕ) (r : ℕ) (p : Role) where
-  pub role-out : (not (p .live) && (isKeeper r || not (eqb (p .users) 0))) ≡ true → false ≡ roleTest levels r p
+pub rights-small : (p : Role) → p .reads < 2 ^ 64 → p .writes < 2 ^ 64 → p .executes < 2 ^ 64 → p .owns < 2 ^ 64 → rightsSet p < 2 ^ 64
+rights-small p r w x o = join-lt 64 _ _ (join-lt 64 _ _ (join-lt 64 _ _ r w) x) o
+
+module _ (set r : ℕ) (p : Role) where
+  pub role-out : (not (p .live) && (isKeeper r || not (eqb (p .users) 0))) ≡ true → false ≡ roleTest (has set) r p
   role-out h = sym (is-false _ (λ k. clash _ (every-at _ k 2) (idle (p .live) (isKeeper r) (eqb (p .users) 0) ∙ not-of-true _ h)))
 
-  pub role-last : (x : Bool) → p .users < 65536 → length (p .rights) ≡ 64 → (not (p .live) && (isKeeper r || not (eqb (p .users) 0))) ≡ false
-      → x ≡ all 64 (λ e. leb (getD (p .rights) e 0) (capOf levels (boundOf (p .live) r) e)) → x ≡ roleTest levels r p
+  bounded : (e : ℕ) → has (cond (p .live) set 0) e ≡ every (p .live ∷ has set e ∷ [])
+  unfolding every
+  bounded e = go (p .live) refl
+    where
+      go : (b : Bool) → p .live ≡ b → has (cond (p .live) set 0) e ≡ (p .live && (has set e && true))
+      go true live = rw live (sym (and-true (has set e)))
+      go false dead = rw dead (has-none e)
+
+  pub role-last : (x : Bool) → p .users < 65536 → rightsSet p < 2 ^ 64 → (not (p .live) && (isKeeper r || not (eqb (p .users) 0))) ≡ false
+      → x ≡ contains (cond (p .live) set 0) (rightsSet p) → x ≡ roleTest (has set) r p
   role-last x u l h e =
-      both x _ (λ t. every-i _ (lt-ltb _ _ u, (eq-eqb _ _ l, (idle (p .live) (isKeeper r) (eqb (p .users) 0) ∙ not-of-false _ h, (sym e ∙ t, tt)))))
-      (λ t. e ∙ every-at _ t 3)
+      let all = e ∙ within-mask 64 (rightsSet p) _ _ l (λ k b. bounded k) in
+      both x _ (λ t. every-i _ (lt-ltb _ _ u, (lt-ltb _ _ l, (idle (p .live) (isKeeper r) (eqb (p .users) 0) ∙ not-of-false _ h, (sym all ∙ t, tt)))))
+      (λ t. all ∙ every-at _ t 3)
 
 -- ---- a session
 

@@ -1,65 +1,84 @@
--- A role that passes its test is as soundness asks, where the levels of the entities are known.
---     Levels               the level of each live entity, 16 for what is not live
+-- A role that passes its test is as soundness asks, where the live entities are known.
+--     Live                 the set of the live entities
+--     role-masked          the test by a mask of the role's level
 --     role-e, role-i       the test says RoleOk, and no more
 -- Assumes nothing.
-use Prim.Native.Nat.{ℕ, _/_, _≤_, _<_}
-use mathlib.Core.Bool.{Bool, true, false, not, cond}
-use mathlib.Core.List.{List, [], _∷_}
+use Prim.Native.Nat.{ℕ, _^_, _<_}
+use mathlib.Core.Bool.{Bool, true, false, not, _||_, and-true}
+use mathlib.Core.List.{[], _∷_}
 use mathlib.Core.Logic.{⊎-elim}
-use mathlib.Core.Path.{_≡_, refl}
-use native.Mathlib.Decide.{ℕ-discrete}
+use mathlib.Core.Path.{_≡_, refl, sym, ap, _∙_}
 use native.Mathlib.Omega.{arith}
+use lib.Bits.{bitAnd}
 use lib.Dec.{leb, ltb, eqb}
-use lib.ListN.{getD}
-use borrow.Author.Tests.{eqb-true, leb-true, ltb-true, ltb-false, eq-eqb, le-leb, lt-ltb}
-use Rattle.bitset.specs.Tests.{every, either}
-use Rattle.bitset.specs.Tests.Laws.{clash, is-false, not-of-false, of-not-true, every-i, every-at, either-l, either-r, either-e, all-i, all-e}
-use Rattle.bitset.specs.Sets.{has}
-use Rattle.bitset.specs.Sets.Laws.{has-none}
-use Rattle.guard.specs.Level.{roleLevel, isKeeper}
+use borrow.Author.Tests.{eqb-true, ltb-true, eq-eqb, lt-ltb}
+use Rattle.bitset.specs.Tests.{every, either, implies}
+use Rattle.bitset.specs.Tests.Laws.{clash, is-false, not-of-false, of-not-true, every-i, every-at, either-l, either-r, either-e, implies-i, implies-e, all-i, all-e, all-cong}
+use Rattle.bitset.specs.Sets.{has, join, contains}
+use Rattle.bitset.specs.Sets.Laws.{sets-ext, has-none, has-meet, has-join, has-below, join-lt, join-none, has-contains, contains-has, contains-trans, contains-le}
+use Rattle.guard.specs.Level.{roleLevel, entityLevel, isKeeper}
 use Rattle.guard.specs.Tables.{entityAt}
-use Rattle.guard.specs.Tested.{boundOf, roleTest}
+use Rattle.guard.specs.Tested.{grantableIn, rightsSet, members, roleTest}
 use Rattle.guard.specs.declared.Role.{Role}
 use Rattle.guard.specs.declared.Tables.{Tables}
 use Rattle.guard.proofs.Laws.Sound.Facts.{RoleOk, SetOk, grantable}
-use Rattle.guard.proofs.Soundness.Members.{lowest}
 
-abbrev pub Levels : Tables → List ℕ → Type 0
-Levels t levels = (e : ℕ) → e < 64 → getD levels e 0 ≡ cond (entityAt t e .live) (e / 16) 16
+abbrev pub Live : Tables → ℕ → Type 0
+Live t live = (e : ℕ) → e < 64 → has live e ≡ entityAt t e .live
 
--- ---- the cap on rights
-cap-e : (level bound rights : ℕ) → leb rights (cond (ltb level bound) 15 0) ≡ true → (rights ≤ 15) × ((rights ≡ 0 → ⊥) → level < bound)
-cap-e level bound rights h = go (ltb level bound) refl
+role-cong : (f g : ℕ → Bool) (r : ℕ) (p : Role) → ((e : ℕ) → e < 64 → f e ≡ g e) → roleTest f r p ≡ roleTest g r p
+role-cong f g r p h =
+    ap (λ (b : Bool). every (ltb (p .users) (2 ^ 16) ∷ ltb (rightsSet p) (2 ^ 64) ∷ either (p .live) (every (not (isKeeper r) ∷ eqb (p .users) 0 ∷ [])) ∷ b ∷ []))
+    (all-cong 64 _ _ (λ e l. ap (λ (b : Bool). implies (has (rightsSet p) e) (every (p .live ∷ b ∷ []))) (h e l)))
+
+-- of the entities in m, which are those of at most the role's level, those that are live
+pub role-masked : (live m r : ℕ) (p : Role) → ((e : ℕ) → e < 64 → has m e ≡ leb (entityLevel e) (roleLevel r))
+    → roleTest (has (bitAnd live m)) r p ≡ roleTest (grantableIn live r) r p
+unfolding every
+role-masked live m r p f = role-cong (has (bitAnd live m)) (grantableIn live r) r p at
   where
-    go : (b : Bool) → ltb level bound ≡ b → (rights ≤ 15) × ((rights ≡ 0 → ⊥) → level < bound)
-    go true q = (leb-true rights 15 (rw q at h), λ some. ltb-true level bound q)
-    go false q = let none = leb-true rights 0 (rw q at h) in (omega arith, λ some. absurd (some (omega arith)))
+    at : (e : ℕ) → e < 64 → has (bitAnd live m) e ≡ grantableIn live r e
+    at e l = rw (has-meet, f e l) (simp and-true)
 
-cap-i : (level bound rights : ℕ) → rights ≤ 15 → ((rights ≡ 0 → ⊥) → level < bound) → leb rights (cond (ltb level bound) 15 0) ≡ true
-cap-i level bound rights small f = go (ltb level bound) refl
-  where
-    go : (b : Bool) → ltb level bound ≡ b → leb rights (cond (ltb level bound) 15 0) ≡ true
-    go true q = rw q (le-leb rights 15 small)
-    go false q = rw q (none (ℕ-discrete rights 0))
-      where
-        none : Dec (rights ≡ 0) → leb rights 0 ≡ true
-        none (yes z) = le-leb rights 0 (omega arith)
-        none (no z) = absurd (omega (arith, f z, ltb-false level bound q))
+-- ---- two sets joined
+or-l : (a b : Bool) → a ≡ true → (a || b) ≡ true
+or-l a b h = rw h
 
--- ---- the level that it is compared with
-granted : (there live : Bool) (e r : ℕ) → r < 16 → cond there (e / 16) 16 < boundOf live r → (there ≡ true) × (live ≡ true) × (e / 16 ≤ roleLevel r)
-granted true true e r l h = (refl, refl, omega arith)
-granted true false e r l h = absurd (omega arith)
-granted false true e r l h = absurd (omega arith)
-granted false false e r l h = absurd (omega arith)
+or-r : (a b : Bool) → b ≡ true → (a || b) ≡ true
+or-r true b h = refl
+or-r false b h = h
 
-granting : (there live : Bool) (e r : ℕ) → there ≡ true → live ≡ true → e / 16 ≤ roleLevel r → cond there (e / 16) 16 < boundOf live r
-granting there live e r p q h = rw (p, q) (omega arith)
+join-l : (a b : ℕ) → contains (join a b) a ≡ true
+join-l a b = has-contains _ _ (λ i h. has-join a b i ∙ or-l _ _ h)
 
-module _ (t : Tables) (levels : List ℕ) (L : Levels t levels) (r : ℕ) (p : Role) where
-  pub role-e : r < 16 → roleTest levels r p ≡ true → RoleOk (t .entities) r p
-  role-e l h =
+join-r : (a b : ℕ) → contains (join a b) b ≡ true
+join-r a b = has-contains _ _ (λ i h. has-join a b i ∙ or-r (has a i) _ h)
+
+-- ---- a role
+module _ (t : Tables) (live : ℕ) (L : Live t live) (r : ℕ) (p : Role) where
+  abbrev Granted : ℕ → Type 0
+  Granted s = SetOk 64 (p .live) (λ e. grantable r e (entityAt t e)) s
+
+  -- each of the four sets is a part of the whole
+  part : rightsSet p < 2 ^ 64 → members (λ e. every (p .live ∷ grantableIn live r e ∷ [])) (rightsSet p) ≡ true
+      → (s : ℕ) → contains (rightsSet p) s ≡ true → Granted s
+  part small h s c = record {
+    small = omega (arith, contains-le _ _ c);
+    none = λ d. sets-ext s 0 (λ i. is-false _ (λ m. clash _ (every-at _ (at i m) 0) d) ∙ sym (has-none i));
+    members = λ e l m.
+        let met = every-at _ (every-at _ (at e m) 1) in
+        every-i _ (sym (L e l) ∙ met 0, (met 1, tt));
+  }
+    where
+      at : (i : ℕ) → has s i ≡ true → every (p .live ∷ grantableIn live r i ∷ []) ≡ true
+      at i m = let k = contains-has _ _ c i m in implies-e _ _ (all-e 64 _ h i (has-below 64 _ i small k)) k
+
+  pub role-e : roleTest (grantableIn live r) r p ≡ true → RoleOk (t .entities) r p
+  role-e h =
       let test = every-at _ h in
+      let set = part (ltb-true _ _ (test 1)) (test 3) in
+      let three = join-l (join (join (p .reads) (p .writes)) (p .executes)) (p .owns) in
+      let two = contains-trans _ _ _ three (join-l (join (p .reads) (p .writes)) (p .executes)) in
       record {
         keeper = λ k. ⊎-elim (λ live. live) (λ x. absurd (clash _ k (of-not-true _ (every-at _ x 0)))) (either-e _ _ (test 2));
         users = record {
@@ -67,47 +86,43 @@ module _ (t : Tables) (levels : List ℕ) (L : Levels t levels) (r : ℕ) (p : R
           none = λ d. ⊎-elim (λ live. absurd (clash _ live d)) (λ x. eqb-true _ _ (every-at _ x 1)) (either-e _ _ (test 2));
           members = λ u k m. refl;
         };
-        many = eqb-true _ _ (test 1);
-        rights = λ e k. rights e k (cap-e _ _ _ (all-e 64 _ (test 3) e k));
+        reads = set _ (contains-trans _ _ _ two (join-l (p .reads) (p .writes)));
+        writes = set _ (contains-trans _ _ _ two (join-r (p .reads) (p .writes)));
+        executes = set _ (contains-trans _ _ _ three (join-r (join (p .reads) (p .writes)) (p .executes)));
+        owns = set _ (join-r (join (join (p .reads) (p .writes)) (p .executes)) (p .owns));
       }
+
+  -- the sets joined are as each of them
+  joined : (a b : ℕ) → Granted a → Granted b → Granted (join a b)
+  joined a b p q = record {
+    small = join-lt 64 a b (p .small) (q .small);
+    none = λ d. rw (p .none d, q .none d) (join-none 0);
+    members = λ e l m. go e l (has a e) refl (sym (has-join a b e) ∙ m);
+  }
     where
-      rights : (e : ℕ) → e < 64 → (getD (p .rights) e 0 ≤ 15) × ((getD (p .rights) e 0 ≡ 0 → ⊥) → getD levels e 0 < boundOf (p .live) r)
-          → SetOk 4 (p .live) (λ i. grantable r e (entityAt t e)) (getD (p .rights) e 0)
-      rights e k (small, f) = record {
-        small = omega arith;
-        none = λ d. go (ℕ-discrete (getD (p .rights) e 0) 0) d;
-        members = λ i b m.
-            let (there, live, low) = some (λ z. clash (has 0 i) (rw z at m) (has-none i)) in
-            every-i _ (there, (le-leb (e / 16) (roleLevel r) low, tt));
-      }
-        where
-          some : (getD (p .rights) e 0 ≡ 0 → ⊥) → (entityAt t e .live ≡ true) × (p .live ≡ true) × (e / 16 ≤ roleLevel r)
-          some z = granted (entityAt t e .live) (p .live) e r l (rw (L e k) at (f z))
+      go : (e : ℕ) → e < 64 → (h : Bool) → has a e ≡ h → (has a e || has b e) ≡ true → grantable r e (entityAt t e) ≡ true
+      go e l true h m = p .members e l h
+      go e l false h m = q .members e l (rw h at m)
 
-          go : Dec (getD (p .rights) e 0 ≡ 0) → p .live ≡ false → getD (p .rights) e 0 ≡ 0
-          go (yes z) d = z
-          go (no z) d = absurd (clash _ (some z .1) d)
-
-  pub role-i : RoleOk (t .entities) r p → roleTest levels r p ≡ true
+  pub role-i : RoleOk (t .entities) r p → roleTest (grantableIn live r) r p ≡ true
   role-i ok =
       every-i _ (
         lt-ltb _ _ (ok .users .small),
         (
-          eq-eqb _ _ (ok .many),
-          (
-            idle (p .live) refl,
-            (all-i 64 _ (λ e k. cap-i _ _ _ (omega (arith, ok .rights e k .small)) (λ z. within e k z (p .live) refl)), tt),
-          ),
+          lt-ltb _ _ (set .small),
+          (idle (p .live) refl, (all-i 64 _ (λ e l. implies-i _ _ (λ m. within e l m (p .live) refl)), tt)),
         ),
       )
     where
+      set : Granted (rightsSet p)
+      set = joined _ _ (joined _ _ (joined _ _ (ok .reads) (ok .writes)) (ok .executes)) (ok .owns)
+
       idle : (b : Bool) → p .live ≡ b → either (p .live) (every (not (isKeeper r) ∷ eqb (p .users) 0 ∷ [])) ≡ true
       idle true live = either-l _ _ live
       idle false dead = either-r _ _ (every-i _ (not-of-false _ (is-false _ (λ k. clash _ (ok .keeper k) dead)), (eq-eqb _ _ (ok .users .none dead), tt)))
 
-      within : (e : ℕ) → e < 64 → (getD (p .rights) e 0 ≡ 0 → ⊥) → (b : Bool) → p .live ≡ b → getD levels e 0 < boundOf (p .live) r
-      within e k z true live =
-          let (b, m) = lowest 4 (getD (p .rights) e 0) (omega arith) (ok .rights e k .small) in
-          let grant = every-at _ (ok .rights e k .members _ b m) in
-          rw (L e k) (granting (entityAt t e .live) (p .live) e r (grant 0) live (leb-true _ _ (grant 1)))
-      within e k z false dead = absurd (z (ok .rights e k .none dead))
+      within : (e : ℕ) → e < 64 → has (rightsSet p) e ≡ true → (b : Bool) → p .live ≡ b → every (p .live ∷ grantableIn live r e ∷ []) ≡ true
+      within e l m true alive =
+          let grant = every-at _ (set .members e l m) in
+          every-i _ (alive, (every-i _ (L e l ∙ grant 0, (grant 1, tt)), tt))
+      within e l m false dead = absurd (clash (has 0 e) (rw (set .none dead) at m) (has-none e))

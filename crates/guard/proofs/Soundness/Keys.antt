@@ -3,9 +3,9 @@
 --     parent-of-key             the parent that a key holds
 --     chains-as                 chains by the keys are chains of parents
 --     own-e, own-i              a key of its own in its level is a name that no sibling has
---     level-of-key              the level that a key holds
+--     live-of-key, key-small    bit 24 of a key tells what is live, and no bit above it is set
 -- Assumes nothing.
-use Prim.Native.Nat.{ℕ, _+_, _*_, _/_, _%_, _<_}
+use Prim.Native.Nat.{ℕ, _+_, _*_, _/_, _%_, _≤_, _<_}
 use mathlib.Core.Bool.{Bool, true, false, cond}
 use mathlib.Core.List.{List}
 use mathlib.Core.Logic.{⊎-elim}
@@ -13,12 +13,12 @@ use mathlib.Core.Path.{_≡_, refl, sym, ap, _∙_}
 use native.Mathlib.Omega.{arith}
 use lib.Dec.{eqb}
 use lib.ListN.{getD}
-use borrow.Author.Tests.{eqb-true, eqb-false, eq-eqb, ne-eqb}
+use borrow.Author.Tests.{eqb-true, eqb-false, eq-eqb, ne-eqb, lt-ltb}
 use Rattle.bitset.specs.Tests.{all}
 use Rattle.bitset.specs.Tests.Laws.{clash, is-false, not-of-false, of-not-true, of-not-false, every-i, every-at, either-l, either-r, either-e, implies-i, implies-e, all-i, all-e, all-cong}
 use Rattle.guard.specs.Level.{isRoot}
 use Rattle.guard.specs.Tables.{entityAt}
-use Rattle.guard.specs.Tested.{ends, keyOf, ownKey, parentByKey, levelByKey}
+use Rattle.guard.specs.Tested.{ends, keyOf, ownKey, parentByKey, liveByKey}
 use Rattle.guard.specs.declared.Tables.{Tables}
 use Rattle.guard.proofs.Laws.Sound.Facts.{parentIn, OwnName}
 use Rattle.guard.proofs.Soundness.Climb.{climbs-cong}
@@ -50,12 +50,19 @@ module _ (t : Tables) (keys : List ℕ) (K : Keys t keys) (N : (e : ℕ) → e <
   pub chains-as : all 64 (ends (parentByKey keys) 16) ≡ all 64 (ends (parentIn (t .entities)) 16)
   chains-as = all-cong 64 _ _ (λ e l. climbs-cong _ _ parent-of-key 16 e l)
 
-  pub level-of-key : (e : ℕ) → e < 64 → levelByKey keys e ≡ cond (entityAt t e .live) (e / 16) 16
-  level-of-key e l = go (entityAt t e .live) refl
+  pub live-of-key : (e : ℕ) → e < 64 → liveByKey keys e ≡ entityAt t e .live
+  live-of-key e l = go (entityAt t e .live) refl
     where
-      go : (b : Bool) → entityAt t e .live ≡ b → levelByKey keys e ≡ cond (entityAt t e .live) (e / 16) 16
-      go true h = rw (key-live e l h, h) (omega (arith, N e l .parent, N e l .name, N e l .level h))
-      go false h = rw (key-dead e l h, h)
+      go : (b : Bool) → entityAt t e .live ≡ b → liveByKey keys e ≡ entityAt t e .live
+      go true h = rw (h, key-live e l h) (lt-ltb (entityAt t e .parent * 65536 + entityAt t e .name) 16777216 (omega (arith, N e l .parent, N e l .name)))
+      go false h = rw (h, key-dead e l h)
+
+  pub key-small : (e : ℕ) → e < 64 → getD keys e 0 ≤ 16777216
+  key-small e l = go (entityAt t e .live) refl
+    where
+      go : (b : Bool) → entityAt t e .live ≡ b → getD keys e 0 ≤ 16777216
+      go true h = omega (arith, key-live e l h, N e l .parent, N e l .name)
+      go false h = omega (arith, key-dead e l h)
 
   module _ (e : ℕ) (l : e < 64) where
     pub own-e : ownKey keys e ≡ true → entityAt t e .live ≡ true → isRoot e ≡ false → OwnName (t .entities) e (entityAt t e)

@@ -1,4 +1,5 @@
 -- A loop over the members of a set, lowest first, each taken out of what is left.
+--     has-half                                           half of a set has its members but 0, counted from 1
 --     lowest                                             trailing zeros tell the lowest member
 --     without-less                                       one member less is a smaller number
 --     members-next, members-miss, members-none           a test of each member, along the loop
@@ -22,7 +23,7 @@ use Rattle.bitset.specs.Sets.Laws.{sets-ext, has-none, has-minus, has-without-s
 use Rattle.bitset.specs.Sets.Shift.{has-from}
 use Rattle.guard.specs.Tested.{members}
 
-has-half : (q i : ℕ) → has (q / 2) i ≡ has q (suc i)
+pub has-half : (q i : ℕ) → has (q / 2) i ≡ has q (suc i)
 unfolding from
 has-half q i = rw one-add at (has-from 1 q i)
 

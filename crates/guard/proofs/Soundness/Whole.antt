@@ -1,10 +1,10 @@
 -- The parts of the test, in its order, against `sound`: what sound tables pass, and that tables which pass all are sound.
 --     usersTest, entitiesTest, chainsTest, namesTest, rolesTest, sessionsTest                the parts
---     Taken, LiveRoles, Sized                                                                what the later parts rest on
+--     Taken, LiveRoles, Sized, keys-small                                                    what the later parts rest on
 --     users-pass, entities-pass, chains-pass, names-pass, roles-pass, sessions-pass          what sound tables pass
 --     refuted, met, decided                    a part that fails, one that is met, and the last part, which decides
 -- Assumes nothing.
-use Prim.Native.Nat.{ℕ, _%_, _<_}
+use Prim.Native.Nat.{ℕ, _%_, _≤_, _<_}
 use mathlib.Core.Bool.{Bool, true, false, not}
 use mathlib.Core.List.{List}
 use mathlib.Core.Path.{_≡_, refl, sym, _∙_}
@@ -17,14 +17,14 @@ use Rattle.bitset.specs.Sets.{has}
 use Rattle.guard.specs.Level.{sessionLevel, isRoot}
 use Rattle.guard.specs.Tables.{noUser, sessionAt, roleAt, entityAt}
 use Rattle.guard.specs.Sound.{userInRange, usersInRange, sound}
-use Rattle.guard.specs.Tested.{parentByKey, levelByKey, ends, entityTest, ownKey, roleTest, sessionTest}
+use Rattle.guard.specs.Tested.{parentByKey, liveByKey, grantableIn, ends, entityTest, ownKey, roleTest, sessionTest}
 use Rattle.guard.specs.declared.Tables.{Tables}
 use Rattle.guard.proofs.Laws.Sound.{sound-e, sound-i}
 use Rattle.guard.proofs.Laws.Sound.Facts.{Sound, EntityOk, parentIn}
 use Rattle.guard.proofs.Soundness.Climb.{climbs-root, climbs-on}
 use Rattle.guard.proofs.Soundness.Settled.{Settled, Known, settled, test-of, known}
-use Rattle.guard.proofs.Soundness.Keys.{Keys, chains-as, own-e, own-i, level-of-key}
-use Rattle.guard.proofs.Soundness.Grants.{Levels, role-e, role-i}
+use Rattle.guard.proofs.Soundness.Keys.{Keys, chains-as, own-e, own-i, live-of-key, key-small}
+use Rattle.guard.proofs.Soundness.Grants.{role-e, role-i}
 use Rattle.guard.proofs.Soundness.Opens.{Labels, session-e, session-i}
 
 abbrev pub usersTest : Tables → Bool
@@ -39,19 +39,26 @@ chainsTest keys = all 64 (ends (parentByKey keys) 16)
 abbrev pub namesTest : List ℕ → Bool
 namesTest keys = all 64 (ownKey keys)
 
-abbrev pub rolesTest : Tables → List ℕ → Bool
-rolesTest t levels = all 16 (λ r. roleTest levels r (roleAt t r))
+abbrev pub rolesTest : Tables → ℕ → Bool
+rolesTest t live = all 16 (λ r. roleTest (grantableIn live r) r (roleAt t r))
 
 abbrev pub sessionsTest : Tables → List ℕ → ℕ → Bool
 sessionsTest t labels roles = all 16 (λ s. sessionTest labels roles (sessionLevel s) (sessionAt t s))
 
--- the levels as the code takes them from the keys
-abbrev pub Taken : List ℕ → List ℕ → Type 0
-Taken keys levels = (e : ℕ) → e < 64 → getD levels e 0 ≡ levelByKey keys e
+-- the set of the live entities, as the code takes it from the keys
+abbrev pub Taken : List ℕ → ℕ → Type 0
+Taken keys live = (e : ℕ) → e < 64 → has live e ≡ liveByKey keys e
 
 -- the set of the live roles
 abbrev pub LiveRoles : Tables → ℕ → Type 0
 LiveRoles t roles = (k : ℕ) → k < 16 → has roles k ≡ roleAt t k .live
+
+settled-by : (t : Tables) → entitiesTest t ≡ true → (k : ℕ) → k < 64 → Settled t k (entityAt t k)
+settled-by t e k l = settled t k _ l (all-e 64 _ e k l)
+
+-- ---- what the set of the live entities rests on
+pub keys-small : (t : Tables) (keys : List ℕ) → Keys t keys → entitiesTest t ≡ true → (e : ℕ) → e < 64 → getD keys e 0 ≤ 16777216
+keys-small t keys K h = key-small t keys K (λ k l. known t k _ (settled-by t h k l))
 
 -- ---- what sound tables pass
 settled-of : (t : Tables) (e : ℕ) → EntityOk (t .entities) e (entityAt t e) → Settled t e (entityAt t e)
@@ -88,11 +95,8 @@ module _ (t : Tables) (h : sound t ≡ true) where
   pub names-pass : (keys : List ℕ) → Keys t keys → namesTest keys ≡ true
   names-pass keys K = all-i 64 _ (λ e l. own-i t keys K numbers e l (λ live other. ok .entity e l .placed live other .ownName))
 
-  levels-as : (keys levels : List ℕ) → Keys t keys → Taken keys levels → Levels t levels
-  levels-as keys levels K L e l = L e l ∙ level-of-key t keys K numbers e l
-
-  pub roles-pass : (keys levels : List ℕ) → Keys t keys → Taken keys levels → rolesTest t levels ≡ true
-  roles-pass keys levels K L = all-i 16 _ (λ r l. role-i t levels (levels-as keys levels K L) r _ (ok .role r l))
+  pub roles-pass : (keys : List ℕ) (live : ℕ) → Keys t keys → Taken keys live → rolesTest t live ≡ true
+  roles-pass keys live K L = all-i 16 _ (λ r l. role-i t live (λ e k. L e k ∙ live-of-key t keys K numbers e k) r _ (ok .role r l))
 
   pub sessions-pass : (labels : List ℕ) (roles : ℕ) → Labels t labels → LiveRoles t roles → sessionsTest t labels roles ≡ true
   sessions-pass labels roles L R = all-i 16 _ (λ s l. session-i t labels L numbers roles R s _ (ok .session s l))
@@ -111,18 +115,18 @@ pub record Sized (t : Tables) : Type 0 where
   pub roles : length (t .roles) ≡ 16
   pub entities : length (t .entities) ≡ 64
 
-passed : (t : Tables) (keys levels labels : List ℕ) (roles : ℕ) → Sized t → Keys t keys → Taken keys levels → Labels t labels → LiveRoles t roles
-    → usersTest t ≡ true → entitiesTest t ≡ true → chainsTest keys ≡ true → namesTest keys ≡ true → rolesTest t levels ≡ true → sessionsTest t labels roles ≡ true
+passed : (t : Tables) (keys labels : List ℕ) (live roles : ℕ) → Sized t → Keys t keys → Taken keys live → Labels t labels → LiveRoles t roles
+    → usersTest t ≡ true → entitiesTest t ≡ true → chainsTest keys ≡ true → namesTest keys ≡ true → rolesTest t live ≡ true → sessionsTest t labels roles ≡ true
     → sound t ≡ true
 unfolding usersInRange
-passed t keys levels labels roles size K L B R u e c n r s =
+passed t keys labels live roles size K L B R u e c n r s =
     sound-i t (record {
       users = every-i _ (eq-eqb _ _ (size .users), (u, tt));
       manySessions = size .sessions;
       manyRoles = size .roles;
       manyEntities = size .entities;
       session = λ k l. session-e t labels B numbers′ roles R k _ (all-e 16 _ s k l);
-      role = λ k l. role-e t levels (λ f b. L f b ∙ level-of-key t keys K numbers′ f b) k _ l (all-e 16 _ r k l);
+      role = λ k l. role-e t live (λ f b. L f b ∙ live-of-key t keys K numbers′ f b) k _ (all-e 16 _ r k l);
       entity = λ k l.
           let set = settled′ k l in
           record {
@@ -139,13 +143,13 @@ passed t keys levels labels roles size K L B R u e c n r s =
     })
   where
     settled′ : (k : ℕ) → k < 64 → Settled t k (entityAt t k)
-    settled′ k l = settled t k _ l (all-e 64 _ e k l)
+    settled′ = settled-by t e
 
     numbers′ : (k : ℕ) → k < 64 → Known k (entityAt t k)
     numbers′ k l = known t k _ (settled′ k l)
 
-pub decided : (t : Tables) (keys levels labels : List ℕ) (roles : ℕ) → Sized t → Keys t keys → Taken keys levels → Labels t labels → LiveRoles t roles
-    → usersTest t ≡ true → entitiesTest t ≡ true → chainsTest keys ≡ true → namesTest keys ≡ true → rolesTest t levels ≡ true
+pub decided : (t : Tables) (keys labels : List ℕ) (live roles : ℕ) → Sized t → Keys t keys → Taken keys live → Labels t labels → LiveRoles t roles
+    → usersTest t ≡ true → entitiesTest t ≡ true → chainsTest keys ≡ true → namesTest keys ≡ true → rolesTest t live ≡ true
     → (r : Bool) → r ≡ sessionsTest t labels roles → r ≡ sound t
-decided t keys levels labels roles size K L B R u e c n p r s =
-    both r (sound t) (λ h. passed t keys levels labels roles size K L B R u e c n p (sym s ∙ h)) (λ h. s ∙ sessions-pass t h labels roles B R)
+decided t keys labels live roles size K L B R u e c n p r s =
+    both r (sound t) (λ h. passed t keys labels live roles size K L B R u e c n p (sym s ∙ h)) (λ h. s ∙ sessions-pass t h labels roles B R)

@@ -81,7 +81,7 @@ fn from_level(level: u32) -> u64
 }
 
 // The entities of at most a level.
-fn to_level(level: u32) -> u64
+pub fn to_level(level: u32) -> u64
     requires { ⌜ level < 4 ⌝ }
     ensures { λ r. ⌜ ((e : ℕ) → e < 64 → has r e ≡ leb (entityLevel e) level) ⌝ }
 {

@@ -1,11 +1,12 @@
 // The tree of entities, by a key for each: where a live entity lies and what it is called, in one number.
-ghost use Prim.Native.Nat.{ℕ, _<_};
+ghost use Prim.Native.Nat.{ℕ, _≤_, _<_};
 ghost use mathlib.Core.Path.{_≡_};
 ghost use mathlib.Core.Bool.{cond};
 ghost use lib.Dec.{eqb};
 ghost use lib.ListN.{getD};
 ghost use Rattle.bitset.specs.Tests.{all};
-ghost use Rattle.guard.specs.Tested.{keyOf, ownKey, ends, parentByKey, levelByKey};
+ghost use Rattle.bitset.specs.Sets.{has};
+ghost use Rattle.guard.specs.Tested.{keyOf, ownKey, ends, parentByKey, liveByKey};
 use crate::Entity;
 
 // The parent above the name. 256 stands for the parent of what is not live, which no live entity has.
@@ -18,17 +19,18 @@ pub fn key(n: Entity) -> u32
     (n.parent as u32) * 65536 + (n.name as u32)
 }
 
-// The level of each entity, as its parent's: 16 for what is not live.
-pub fn levels(keys: &[u32; 64]) -> [u8; 64]
-    ensures { λ r. ⌜ ((e : ℕ) → e < 64 → getD r e 0 ≡ levelByKey (now (keys .entry)) e) ⌝ }
+// The entities that are live: of a key, bit 24 alone tells it.
+pub fn live_set(keys: &[u32; 64]) -> u64
+    requires { ⌜ ((e : ℕ) → e < 64 → getD (now keys) e 0 ≤ 16777216) ⌝ }
+    ensures { λ r. ⌜ ((e : ℕ) → e < 64 → has r e ≡ liveByKey (now (keys .entry)) e) ⌝ }
 {
-    let mut a = [0u8; 64];
-    let mut e: usize = 0;
-    while e < 64 {
-        a[e] = (keys[e] / 1048576 % 256) as u8;
-        e += 1;
+    let mut dead: u64 = 0;
+    let mut e: usize = 64;
+    while 0 < e {
+        e -= 1;
+        dead = dead << 1 | ((keys[e] >> 24) as u64);
     }
-    a
+    !dead
 }
 
 fn counted(a: u32, b: u32) -> u32

@@ -1,27 +1,27 @@
 -- The edits of which every effect is made, and the upper part for L: an edit of a lower number, or of what is hidden,
 -- leaves it alone; an edit of an upper number takes equal upper parts to equal ones.
 --     Table, sessionTable, roleTable, entityTable        the three tables, for which each law is said once
+--     put-below, put-above                               one member of a set: lower, or upper
 --     row-low, row-hidden, row-alike                     one record changed: lower, not seen, or upper
 --     rows-hidden, rows-alike                            each record changed
 --     taking .. unlisting-image                          the small functions by which records change
 -- Assumes nothing.
 use Prim.Native.Nat.{ℕ, _-_, _≤_, _<_}
 use mathlib.Core.Path.{_≡_, refl, subst, _∙_}
-use mathlib.Core.Bool.{false}
-use mathlib.Core.List.{List, [], map}
-use native.Mathlib.Nat.{add-sub-of-le}
+use mathlib.Core.Bool.{Bool, true, false}
+use mathlib.Core.List.{List, map}
 use lib.ListN.{getD, set}
-use lib.Seq.{getD-drop, drop-set-lt}
+use Rattle.bitset.specs.Sets.{from}
 use Rattle.bitset.specs.Sets.Shift.{with-below, with-above, without-below, without-above}
-use Rattle.guard.specs.Tables.{noSession, noEntity}
-use Rattle.guard.specs.Edits.{withSessions, withRoles, withEntities, takeRole, dropRole, openReading, openWriting, closeBoth, setRights, listUser, unlistUser}
+use Rattle.guard.specs.Tables.{noSession, noRole, noEntity}
+use Rattle.guard.specs.Edits.{withSessions, withRoles, withEntities, takeRole, dropRole, openReading, openWriting, closeBoth, put, setRights, listUser, unlistUser}
 use Rattle.guard.specs.Upper.{firstSession, firstRole, firstEntity, upperSession, upperRole}
 use Rattle.guard.specs.declared.Session.{Session}
 use Rattle.guard.specs.declared.Role.{Role}
 use Rattle.guard.specs.declared.Entity.{Entity}
 use Rattle.guard.specs.declared.Tables.{Tables}
-use Rattle.isolation.specs.Proof.Lists.{seen, Hidden, Image, Seen, set-above, seen-at, set-hidden, set-same, set-alike, each-hidden, each-alike, image-alike}
-use Rattle.isolation.specs.Proof.Views.{Same}
+use Rattle.isolation.specs.Proof.Lists.{seen, Hidden, Image, Seen, seen-at, set-hidden, set-same, set-alike, each-hidden, each-alike, image-alike}
+use Rattle.isolation.specs.Proof.Views.{Same, upper-rights}
 
 -- ---- one of the three tables of records: what is seen of a record, from which number on, and how a list is replaced
 pub record Table (L : ℕ) (A : Type 0) : Type 1 where
@@ -29,10 +29,10 @@ pub record Table (L : ℕ) (A : Type 0) : Type 1 where
   pub first : ℕ
   pub absent : A
   pub rows : Tables → List A
-  pub put : Tables → List A → Tables
-  pub at : (t : Tables) → put t (rows t) ≡ t
+  pub store : Tables → List A → Tables
+  pub at : (t : Tables) → store t (rows t) ≡ t
   pub old : (t u : Tables) → Same L t u → seen looks first (rows t) ≡ seen looks first (rows u)
-  pub new : (t u : Tables) (l m : List A) → Same L t u → seen looks first l ≡ seen looks first m → Same L (put t l) (put u m)
+  pub new : (t u : Tables) (l m : List A) → Same L t u → seen looks first l ≡ seen looks first m → Same L (store t l) (store u m)
 
 abbrev pub sessionTable : (L : ℕ) → Table L Session
 sessionTable L =
@@ -41,7 +41,7 @@ sessionTable L =
       first = firstSession L;
       absent = noSession;
       rows = λ t. t .sessions;
-      put = withSessions;
+      store = withSessions;
       at = λ t. refl;
       old = λ t u s. s .sessions;
       new = λ t u l m s e. record { users = s .users; sessions = e; roles = s .roles; entities = s .entities };
@@ -52,9 +52,9 @@ roleTable L =
     record {
       looks = upperRole L;
       first = firstRole L;
-      absent = record { live = false; users = 0; rights = [] };
+      absent = noRole;
       rows = λ t. t .roles;
-      put = withRoles;
+      store = withRoles;
       at = λ t. refl;
       old = λ t u s. s .roles;
       new = λ t u l m s e. record { users = s .users; sessions = s .sessions; roles = e; entities = s .entities };
@@ -67,11 +67,22 @@ entityTable L =
       first = firstEntity L;
       absent = noEntity;
       rows = λ t. t .entities;
-      put = withEntities;
+      store = withEntities;
       at = λ t. refl;
       old = λ t u s. s .entities;
       new = λ t u l m s e. record { users = s .users; sessions = s .sessions; roles = s .roles; entities = e };
     }
+
+-- ---- a member put into a set, or out of it: below k it is not seen, from k on it moves down by k
+put-below : (inside : Bool) (k s e : ℕ) → e < k → from k (put inside e s) ≡ from k s
+unfolding put
+put-below true = with-below
+put-below false = without-below
+
+put-above : (inside : Bool) (k s e : ℕ) → k ≤ e → from k (put inside e s) ≡ put inside (e - k) (from k s)
+unfolding put
+put-above true = with-above
+put-above false = without-above
 
 module _ (L : ℕ) where
   pub same-refl : (t : Tables) → Same L t t
@@ -89,13 +100,13 @@ module _ (L : ℕ) where
   module _ {A : Type 0} (T : Table L A) (f : A → A) where
     -- the tables with f at one record, or at each
     abbrev pub atRow : ℕ → Tables → Tables
-    atRow i t = T .put t (set (T .rows t) i (f (getD (T .rows t) i (T .absent))))
+    atRow i t = T .store t (set (T .rows t) i (f (getD (T .rows t) i (T .absent))))
 
     abbrev pub atEach : Tables → Tables
-    atEach t = T .put t (map f (T .rows t))
+    atEach t = T .store t (map f (T .rows t))
 
-    kept : (t : Tables) (l : List A) → seen (T .looks) (T .first) l ≡ seen (T .looks) (T .first) (T .rows t) → Same L (T .put t l) t
-    kept t l e = subst (Same L (T .put t l)) (T .at t) (T .new t t l (T .rows t) (same-refl t) e)
+    kept : (t : Tables) (l : List A) → seen (T .looks) (T .first) l ≡ seen (T .looks) (T .first) (T .rows t) → Same L (T .store t l) t
+    kept t l e = subst (Same L (T .store t l)) (T .at t) (T .new t t l (T .rows t) (same-refl t) e)
 
     pub row-low : (i : ℕ) (t : Tables) → i < T .first → Same L (atRow i t) t
     row-low i t h = kept t _ (set-hidden (T .looks) (T .first) (T .rows t) i _ h)
@@ -146,13 +157,7 @@ module _ (L : ℕ) where
   -- ---- the small functions on a role
   pub setting : (e : ℕ) (f : ℕ → ℕ) → Seen (firstEntity L) e (upperRole L) (setRights e f)
   unfolding setRights upperRole
-  setting e f = (
-    λ h r. rw (drop-set-lt (firstEntity L) (r .rights) e (f (getD (r .rights) e 0)) h),
-    λ h. (
-      setRights (e - firstEntity L) f,
-      λ r. rw (set-above (firstEntity L) (r .rights) e (f (getD (r .rights) e 0)) h, getD-drop (firstEntity L) (r .rights) (e - firstEntity L) 0, add-sub-of-le h),
-    ),
-  )
+  setting e f = (λ h r. simp put-below, λ h. (setRights (e - firstEntity L) f, λ r. rw (upper-rights L r e h) (simp put-above)))
 
   pub listing-image : (u : ℕ) → Image (upperRole L) (listUser u)
   unfolding listUser upperRole

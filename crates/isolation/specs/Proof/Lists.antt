@@ -1,5 +1,5 @@
 -- Lists of which only the part from k on is seen, and of that part only g of each record.
---     dropped-at, seen-at        records at a seen place are alike as far as g shows
+--     seen-at                    records at a seen place are alike as far as g shows
 --     set-hidden, set-same       one record replaced: at a hidden place, or by one that looks the same
 --     set-alike                  .. by records that look alike, on two sides that do
 --     Hidden, Image, Seen        a change f of which g shows nothing, what an image f′ does, or the one or other by number
@@ -37,13 +37,7 @@ map-whole [] = refl
 map-whole (x ∷ l) = rw (map-whole l)
 
 module _ {A : Type 0} where
-  pub dropped-at : (k : ℕ) (l m : List A) (d : A) → drop k l ≡ drop k m → (i : ℕ) → k ≤ i → getD l i d ≡ getD m i d
-  dropped-at k l m d e i h = from-drop l ∙ ap (λ (r : List A). getD r (i - k) d) e ∙ sym (from-drop m)
-    where
-      from-drop : (r : List A) → getD r i d ≡ getD (drop k r) (i - k) d
-      from-drop r = rw (getD-drop k r (i - k) d, add-sub-of-le h)
-
-  pub set-above : (k : ℕ) (l : List A) (i : ℕ) (a : A) → k ≤ i → drop k (set l i a) ≡ set (drop k l) (i - k) a
+  set-above : (k : ℕ) (l : List A) (i : ℕ) (a : A) → k ≤ i → drop k (set l i a) ≡ set (drop k l) (i - k) a
   set-above k l i a h = rw add-sub-of-le at (drop-set-add k l (i - k) a)
 
   drop-map : (k : ℕ) (l : List A) (f : A → A) → drop k (map f l) ≡ map f (drop k l)

@@ -1,14 +1,16 @@
 -- What equal upper parts tell of two tables.
 --     upper-seat .. lower-entity    from a number's level to its place before or after the first upper one
 --     Same, same-of, of-same        equal upper parts, as four equations of lists
+--     upper-rights                  a role's rights on an upper entity, by its upper part
 --     session-same .. listed-same   what the records at upper numbers agree on
 --     hasRight-same, reaches-same   rights on an upper entity, and the way to it
 --     none-below, child-same        the children of an upper entity
 -- Assumes nothing.
-use Prim.Native.Nat.{ℕ, zero, suc, _≤_, _<_}
+use Prim.Native.Nat.{ℕ, zero, suc, _-_, _≤_, _<_}
 use mathlib.Core.Path.{_≡_, refl, sym, ap, _∙_}
 use mathlib.Core.Bool.{Bool, true, false, not}
 use mathlib.Core.List.{[], _∷_, map}
+use native.Mathlib.Nat.{add-sub-of-le}
 use native.Mathlib.Decide.{decLt}
 use native.Mathlib.Omega.{arith}
 use lib.Dec.{leb, eqb}
@@ -17,9 +19,9 @@ use borrow.Author.Tests.{leb-true, leb-false, eqb-true}
 use Rattle.bitset.specs.Tests.{every, either}
 use Rattle.bitset.specs.Tests.Laws.{every-e, some-cong, is-false, of-not-true}
 use Rattle.bitset.specs.Sets.{contains}
-use Rattle.bitset.specs.Sets.Shift.{from-has}
+use Rattle.bitset.specs.Sets.Shift.{has-from, from-has}
 use Rattle.guard.specs.Level.{roleCount, entityCount, sessionLevel, roleLevel, entityLevel, entitiesPerLevel, isRoot}
-use Rattle.guard.specs.Tables.{noSession, noEntity, sessionAt, roleAt, entityAt, holds, isReading, isWriting, rightsOn, hasRight, isChild, execute}
+use Rattle.guard.specs.Tables.{noSession, noRole, noEntity, sessionAt, roleAt, entityAt, holds, isReading, isWriting, rightsOf, rightsOn, hasRight, isChild, execute}
 use Rattle.guard.specs.Chain.{climbs, parentOf, reaches}
 use Rattle.guard.specs.Sound.{sound}
 use Rattle.guard.specs.Upper.{firstSession, firstRole, firstEntity, upperSession, upperRole, upper}
@@ -28,7 +30,7 @@ use Rattle.guard.specs.declared.Role.{Role}
 use Rattle.guard.specs.declared.Entity.{Entity}
 use Rattle.guard.specs.declared.Tables.{Tables}
 use Rattle.guard.proofs.Laws.Sound.{parent-level}
-use Rattle.isolation.specs.Proof.Lists.{map-whole, seen, dropped-at, seen-at}
+use Rattle.isolation.specs.Proof.Lists.{map-whole, seen, seen-at}
 
 -- ---- upper and lower numbers
 module _ (L n : ℕ) where
@@ -73,6 +75,11 @@ of-same L t u e =
     let whole : drop (firstEntity L) (t .entities) ≡ drop (firstEntity L) (u .entities) = simp map-whole at (e .entities) in
     λ i. record { users = e .users i; sessions = e .sessions i; roles = e .roles i; entities = whole i }
 
+-- a role's rights on an upper entity, read off the role's upper part
+pub upper-rights : (L : ℕ) (p : Role) (e : ℕ) → firstEntity L ≤ e → rightsOf (upperRole L p) (e - firstEntity L) ≡ rightsOf p e
+unfolding rightsOf upperRole
+upper-rights L p e h = simp (has-from, add-sub-of-le h)
+
 -- chains that agree at every number that they pass
 climbs-cong : (up up′ : ℕ → ℕ) (p p′ : ℕ → Bool) (Within : ℕ → Type 0)
     → ((e : ℕ) → Within e → isRoot e ≡ false → (up e ≡ up′ e) × Within (up e)) → ((e : ℕ) → Within e → p e ≡ p′ e)
@@ -94,7 +101,7 @@ module _ (L : ℕ) (t u : Tables) (same : Same L t u) where
   session-same = seen-at (upperSession L) (firstSession L) (t .sessions) (u .sessions) noSession (same .sessions)
 
   pub role-same : (r : ℕ) → firstRole L ≤ r → upperRole L (roleAt t r) ≡ upperRole L (roleAt u r)
-  role-same = seen-at (upperRole L) (firstRole L) (t .roles) (u .roles) (record { live = false; users = 0; rights = [] }) (same .roles)
+  role-same = seen-at (upperRole L) (firstRole L) (t .roles) (u .roles) noRole (same .roles)
 
   pub entity-same : (e : ℕ) → firstEntity L ≤ e → entityAt t e ≡ entityAt u e
   entity-same = seen-at (λ e. e) (firstEntity L) (t .entities) (u .entities) noEntity (same .entities)
@@ -134,8 +141,8 @@ module _ (L : ℕ) (t u : Tables) (same : Same L t u) where
   listed-same r hr = ap (λ (p : Role). p .users) (role-same r hr)
 
   rightsOn-same : (r e : ℕ) → firstRole L ≤ r → firstEntity L ≤ e → rightsOn t r e ≡ rightsOn u r e
-  unfolding upperRole
-  rightsOn-same r e hr = dropped-at (firstEntity L) _ _ 0 (ap (λ (p : Role). p .rights) (role-same r hr)) e
+  rightsOn-same r e hr he =
+      sym (upper-rights L _ e he) ∙ ap (λ (p : Role). rightsOf p (e - firstEntity L)) (role-same r hr) ∙ upper-rights L _ e he
 
   -- Roles below e's level are cut off by the level test, the others are upper.
   pub hasRight-same : (x right e : ℕ) → firstSession L ≤ x → firstEntity L ≤ e → hasRight t x right e ≡ hasRight u x right e

@@ -1,6 +1,6 @@
 -- Sound tables, as facts: what each session, role and entity has to be, over the lists that it speaks of, so that an edit
 -- of one list leaves what is said over the others as it stands.
---     SetOk                                             a set that a session or a role has, its rights on one entity too
+--     SetOk                                             a set that a session or a role has
 --     SessionOk, RoleOk, Inside, Placed, EntityOk       one record of each list
 --     Sound                                             the tables
 -- Assumes nothing.
@@ -14,7 +14,7 @@ use Rattle.bitset.specs.Tests.{every}
 use Rattle.bitset.specs.Sets.{has}
 use Rattle.guard.specs.Level.{sessionLevel, roleLevel, entityLevel, isRoot, isKeeper}
 use Rattle.guard.specs.Label.{labelInRange, dominates, sameLabel, noLabel}
-use Rattle.guard.specs.Tables.{noEntity, sessionAt, roleAt, entityAt, container}
+use Rattle.guard.specs.Tables.{noRole, noEntity, sessionAt, roleAt, entityAt, container}
 use Rattle.guard.specs.Chain.{climbs}
 use Rattle.guard.specs.Sound.{entityInRange, usersInRange, isRootRecord, isEmptyEntity}
 use Rattle.guard.specs.declared.Label.{Label}
@@ -25,7 +25,7 @@ use Rattle.guard.specs.declared.Tables.{Tables}
 
 -- ---- the records of a list
 abbrev pub roleIn : List Role → ℕ → Role
-roleIn roles r = getD roles r (record { live = false; users = 0; rights = [] })
+roleIn roles r = getD roles r noRole
 
 abbrev pub entityIn : List Entity → ℕ → Entity
 entityIn entities e = getD entities e noEntity
@@ -74,8 +74,10 @@ pub record SessionOk (roles : List Role) (entities : List Entity) (s : ℕ) (r :
 pub record RoleOk (entities : List Entity) (r : ℕ) (p : Role) : Type 0 where
   pub keeper : isKeeper r ≡ true → p .live ≡ true
   pub users : SetOk 16 (p .live) (λ u. true) (p .users)
-  pub many : length (p .rights) ≡ 64
-  pub rights : (e : ℕ) → e < 64 → SetOk 4 (p .live) (λ i. grantable r e (entityIn entities e)) (getD (p .rights) e 0)
+  pub reads : SetOk 64 (p .live) (λ e. grantable r e (entityIn entities e)) (p .reads)
+  pub writes : SetOk 64 (p .live) (λ e. grantable r e (entityIn entities e)) (p .writes)
+  pub executes : SetOk 64 (p .live) (λ e. grantable r e (entityIn entities e)) (p .executes)
+  pub owns : SetOk 64 (p .live) (λ e. grantable r e (entityIn entities e)) (p .owns)
 
 abbrev pub OwnName : List Entity → ℕ → Entity → Type 0
 OwnName entities e n = (f : ℕ) → f < 64 → (f ≡ e → ⊥) → childOf (n .parent) f (entityIn entities f) ≡ true → eqb (entityIn entities f .name) (n .name) ≡ false

@@ -4,7 +4,7 @@ use borrow.Author.Needs.{needs}
 use mathlib.Core.Path.{sym, _∙_}
 use Rattle.bitset.specs.Tests.Laws.{of-not-false}
 use Rattle.guard.proofs.Soundness.Loops.{long}
-use Rattle.guard.proofs.Soundness.Whole.{Sized, refuted, met, decided, users-pass, entities-pass, chains-pass, names-pass, roles-pass}
+use Rattle.guard.proofs.Soundness.Whole.{Sized, refuted, met, decided, keys-small, users-pass, entities-pass, chains-pass, names-pass, roles-pass}
 use Rattle.guard.proofs.Tables.is_sound.Statement.{statement}
 use Rattle.guard.proofs.Tables.is_sound.Tie as tie
 
@@ -47,8 +47,12 @@ returns-4 c =
     let k = c .before .before .before .before .before .before in
     refuted _ _ _ (c .before .have-own-keys .ensures) (λ h. names-pass _ h (k .keys .result) (k .keys .ensures)) (c .if4 .taken)
 
-levels-requires : tie.Need-levels-requires
-levels-requires c κs = search needs
+live-set-requires : tie.Need-live-set-requires
+live-set-requires c κs =
+    let keys = c .before .before .before .before .before .before .before in
+    let two = keys .before in
+    let start = two .before .before .before .before in
+    keys-small (start .args .self) (keys .keys .result) (keys .keys .ensures) (met _ _ (two .before .entities-ok .ensures) (two .if2 .left))
 
 roles-ok-requires : tie.Need-roles-ok-requires
 roles-ok-requires c κs = search needs
@@ -56,10 +60,10 @@ roles-ok-requires c κs = search needs
 returns-5 : tie.Need-returns-5
 returns-5 c =
     let roles = c .before .before in
-    let levels = roles .before .before in
-    let keys = levels .before .before .before .before .before .before .before .before in
+    let live = roles .before in
+    let keys = live .before .before .before .before .before .before .before .before in
     refuted _ _ _ (roles .roles-ok .ensures .0)
-    (λ h. roles-pass _ h (keys .keys .result) (levels .levels .result) (keys .keys .ensures) (levels .levels .ensures))
+    (λ h. roles-pass _ h (keys .keys .result) (live .live-set .result) (keys .keys .ensures) (live .live-set .ensures))
     (c .if5 .taken)
 
 labels-requires : tie.Need-labels-requires
@@ -73,8 +77,8 @@ returns-6 c =
     let labels = c .before .before in
     let five = labels .before in
     let roles = five .before .before in
-    let levels = roles .before .before in
-    let four = levels .before .before in
+    let live = roles .before in
+    let four = live .before .before in
     let names = four .before in
     let three = names .before .before in
     let chains = three .before in
@@ -84,14 +88,14 @@ returns-6 c =
     let one = entities .before in
     let users = one .before in
     let start = users .before in
-    let live = of-not-false (roles .roles-ok .result .ok) (five .if5 .left) in
-    decided (start .args .self) (keys .keys .result) (levels .levels .result) (labels .labels .result) (roles .roles-ok .result .live)
-    (sized start) (keys .keys .ensures) (levels .levels .ensures) (labels .labels .ensures) (roles .roles-ok .ensures .1 live)
+    let passed = of-not-false (roles .roles-ok .result .ok) (five .if5 .left) in
+    decided (start .args .self) (keys .keys .result) (labels .labels .result) (live .live-set .result) (roles .roles-ok .result .live)
+    (sized start) (keys .keys .ensures) (live .live-set .ensures) (labels .labels .ensures) (roles .roles-ok .ensures .1 passed)
     (met _ _ (users .users-in-range .ensures) (one .if1 .left))
     (met _ _ (entities .entities-ok .ensures) (two .if2 .left))
     (met _ _ (chains .end-at-root .ensures) (three .if3 .left))
     (met _ _ (names .have-own-keys .ensures) (four .if4 .left))
-    (sym (roles .roles-ok .ensures .0) ∙ live)
+    (sym (roles .roles-ok .ensures .0) ∙ passed)
     _ (c .sessions-ok .ensures)
 
 pub is-sound-spec : {M : Type 1} → statement M
@@ -107,7 +111,7 @@ is-sound-spec =
     returns-3
     have-own-keys-requires
     returns-4
-    levels-requires
+    live-set-requires
     roles-ok-requires
     returns-5
     labels-requires

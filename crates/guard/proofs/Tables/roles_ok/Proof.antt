@@ -2,20 +2,22 @@
 use Prim.Native.Nat.{_-_, _≤_}
 use native.Mathlib.Omega.{arith}
 use mathlib.Core.Bool.{true, false}
-use mathlib.Core.Path.{_≡_, refl}
+use mathlib.Core.Path.{_≡_, refl, _∙_}
 use Rattle.bitset.specs.Tests.{all}
 use Rattle.bitset.specs.Tests.Laws.{clash, all-none}
 use Rattle.guard.specs.Tables.{roleAt}
-use Rattle.guard.specs.Tested.{roleTest}
+use Rattle.guard.specs.Tested.{grantableIn, roleTest}
 use Rattle.guard.proofs.Soundness.Loops.{all-miss, all-next, all-done, Listed, listed-none, listed-more}
+use Rattle.guard.proofs.Soundness.Grants.{role-masked}
 use Rattle.guard.proofs.Tables.roles_ok.Statement.{statement}
 use Rattle.guard.proofs.Tables.roles_ok.Tie as tie
 
 abbrev Inv-loop : tie.InvT-loop
-Inv-loop levels self live₀ r₀ live r = (r ≤ 16) × (all r (λ k. roleTest levels k (roleAt self k)) ≡ true) × Listed 16 (λ k. roleAt self k .live) r live
+Inv-loop live self found₀ r₀ found r =
+    (r ≤ 16) × (all r (λ k. roleTest (grantableIn live k) k (roleAt self k)) ≡ true) × Listed 16 (λ k. roleAt self k .live) r found
 
 abbrev μ-loop : tie.MeasureT-loop
-μ-loop levels self live₀ r₀ live r = 16 - r
+μ-loop live self found₀ r₀ found r = 16 - r
 
 loop-holds : tie.Need-loop-holds Inv-loop μ-loop
 loop-holds c = (omega arith, all-none _, listed-none 16 _ (omega arith))
@@ -29,11 +31,26 @@ mul-p c = omega arith
 element-copy-out-p : tie.Need-element-copy-out-p Inv-loop μ-loop
 element-copy-out-p c = omega arith
 
+cast-to-level : tie.Need-cast-to-level Inv-loop μ-loop
+cast-to-level c = omega arith
+
+to-level-requires : tie.Need-to-level-requires Inv-loop μ-loop
+to-level-requires c κs = omega arith
+
 role-ok-requires : tie.Need-role-ok-requires Inv-loop μ-loop
-role-ok-requires c κs = omega arith
+role-ok-requires c κs = tt
+
+tested : (c : tie.After-role-ok Inv-loop μ-loop)
+    → let a = c .before .before .before .before .before .args in
+    let r = c .before .before .before .before .loop .r in
+    c .role-ok .result ≡ roleTest (grantableIn (a .live) r) r (roleAt (a .t1) r)
+tested c =
+    let a = c .before .before .before .before .before .args in
+    let r = c .before .before .before .before .loop .r in
+    c .role-ok .ensures ∙ role-masked (a .live) (c .before .to-level .result) r (roleAt (a .t1) r) (c .before .to-level .ensures)
 
 returns : tie.Need-returns Inv-loop μ-loop
-returns c = (all-miss _ (c .before .before .before .before .loop .r) _ _ (omega arith) (c .before .role-ok .ensures) (c .if1 .taken), λ h. absurd (clash false h refl))
+returns c = (all-miss _ (c .before .before .before .before .before .loop .r) _ _ (omega arith) (tested (c .before)) (c .if1 .taken), λ h. absurd (clash false h refl))
 
 listed-requires : tie.Need-listed-requires Inv-loop μ-loop
 listed-requires c κs = omega arith
@@ -46,8 +63,8 @@ loop-less c = omega arith
 
 loop-again : tie.Need-loop-again Inv-loop μ-loop
 loop-again c =
-    let b = c .before .before .before .before .before .loop .inv in
-    (omega arith, all-next _ _ _ (b .1) (c .before .before .role-ok .ensures) (c .before .if1 .left), listed-more 16 _ _ _ _ (omega arith) (b .2) (c .listed .ensures))
+    let b = c .before .before .before .before .before .before .loop .inv in
+    (omega arith, all-next _ _ _ (b .1) (tested (c .before .before)) (c .before .if1 .left), listed-more 16 _ _ _ _ (omega arith) (b .2) (c .listed .ensures))
 
 returns-2 : tie.Need-returns-2 Inv-loop μ-loop
 returns-2 c =
@@ -64,6 +81,8 @@ roles-ok-spec =
     cast-p
     mul-p
     element-copy-out-p
+    cast-to-level
+    to-level-requires
     role-ok-requires
     returns
     listed-requires

@@ -1,71 +1,74 @@
 -- `Tables::step` is the step of the definitions: unsound tables answer 1; else the records that the request concerns and
 -- what the scans find are what deciding asks for (Stepping), and what is stored is what the rule does (Doing). The loops keep
--- the rights gathered (Scans/Given), the climb over them (Scans/Climb), the children seen (Scans), and the part of a sweep
+-- the entities gathered on which the roles held give a right (Scans/Given), the climb over them (Scans/Climb), the children seen (Scans), and the part of a sweep
 -- that is done (Sweeps). Assumes nothing.
 use Prim.Native.Nat.{_-_, _≤_, _<_}
 use mathlib.Core.Path.{_≡_, refl, sym, ap, _∙_}
 use mathlib.Core.Bool.{Bool, true, false, _&&_}
-use mathlib.Core.Logic.{⊎-elim}
+use mathlib.Core.Logic.{inl, inr, ⊎-elim}
 use native.Mathlib.Omega.{arith}
 use lib.ListN.{length}
 use borrow.Author.Needs.{needs}
 use borrow.Author.Tests.{not-true, not-false}
 use Rattle.bitset.specs.Tests.{some}
 use Rattle.bitset.specs.Tests.Laws.{clash}
+use Rattle.bitset.specs.Sets.{has, join}
 use Rattle.guard.specs.Level.{isRoot}
+use Rattle.guard.specs.Tables.{execute}
 use Rattle.guard.specs.Chain.{climbs, parentOf}
 use Rattle.guard.specs.Sound.{sound}
-use Rattle.guard.specs.Edits.{withSessions, withRoles, closeBoth, dropRole, setRights, clearRights}
+use Rattle.guard.specs.Edits.{withSessions, withRoles, closeBoth, dropRole, clearRights}
 use Rattle.guard.specs.Requests.{ruleOf}
+use Rattle.guard.specs.Scan.{having}
 use Rattle.guard.specs.Inside.{number, kinTest, kinSeen}
 use Rattle.guard.specs.declared.Tables.{Tables}
 use Rattle.guard.specs.declared.Request.{Request}
 use Rattle.guard.proofs.Scans.{walk-in, Block, block-start, block-more}
 use Rattle.guard.proofs.Scans.Given.{Gathered, gathered-start, gathered-join, gathered-skip, gathered-at}
-use Rattle.guard.proofs.Scans.Climb.{exec, parent-small, steps-left, Climbing, climbing-start, climbing-more, climbing-all}
+use Rattle.guard.proofs.Scans.Climb.{parent-small, steps-left, Climbing, climbing-start, climbing-more, climbing-all}
 use Rattle.guard.proofs.Scans.Kin.{kin-all}
 use Rattle.guard.proofs.Soundness.Loops.{long}
-use Rattle.guard.proofs.Sweeps.{mapped, roles-from, roles-dead, roles-more, sessions-more, swept-entity, swept-role}
+use Rattle.guard.proofs.Sweeps.{mapped, roles-dead, roles-more, sessions-more, swept-entity, swept-role}
 use Rattle.guard.proofs.Stepping.{Concerned, Found, seen-of, scanned-of, unsound, refuses, does}
 use Rattle.guard.proofs.Doing.{nine, session-done, create-done, deleted, delete-done, rename-done, role-done, unmade, unmake-done}
 use Rattle.guard.proofs.Tables.step.Statement.{statement}
 use Rattle.guard.proofs.Tables.step.Tie as tie
 
 abbrev Inv-loop : tie.InvT-loop
-Inv-loop q self x r e k s u p f o m w at given₀ i₀ left₀ given i left = Gathered self (w .held) at i left given
+Inv-loop q self x r e k s f o w may at right asked₀ through₀ i₀ left₀ asked through i left = Gathered self (w .held) (w .right) at i left asked × Gathered self (w .held) execute at i left through
 
 abbrev μ-loop : tie.MeasureT-loop
-μ-loop q self x r e k s u p f o m w at given₀ i₀ left₀ given i left = left
+μ-loop q self x r e k s f o w may at right asked₀ through₀ i₀ left₀ asked through i left = left
 
 abbrev Inv-loop2 : tie.InvT-loop2
-Inv-loop2 q self x r e k s u p f o m w at given i left may₀ a₀ steps₀ may a steps = Climbing self given a₀ may₀ steps a may
+Inv-loop2 q self x r e k s f o w may₀ at right asked through i left a₀ steps₀ may a steps = Climbing self through a₀ may₀ steps a may
 
 abbrev μ-loop2 : tie.MeasureT-loop2
-μ-loop2 q self x r e k s u p f o m w at given i left may₀ a₀ steps₀ may a steps = steps
+μ-loop2 q self x r e k s f o w may₀ at right asked through i left a₀ steps₀ may a steps = steps
 
 abbrev Inv-loop3 : tie.InvT-loop3
-Inv-loop3 q self x r e k s u p f o m w at i left may a steps child₀ kin base j₀ child j = Block (kinSeen self kin (w .named) (q .name)) kin j child
+Inv-loop3 q self x r e k s f o w may child₀ kin base j₀ child j = Block (kinSeen self kin (w .named) (q .name)) kin j child
 
 abbrev μ-loop3 : tie.MeasureT-loop3
-μ-loop3 q self x r e k s u p f o m w at i left may a steps child₀ kin base j₀ child j = 16 - j
+μ-loop3 q self x r e k s f o w may child₀ kin base j₀ child j = 16 - j
 
 abbrev Inv-loop4 : tie.InvT-loop4
-Inv-loop4 self₀ x r e k o at i left may a steps child n call i2₀ self i2 = (i2 ≤ 16) × (self ≡ withRoles self₀ (mapped (clearRights e) i2 (self₀ .roles)))
+Inv-loop4 self₀ x r e k o may child n call i2₀ self i2 = (i2 ≤ 16) × (self ≡ withRoles self₀ (mapped (clearRights e) i2 (self₀ .roles)))
 
 abbrev μ-loop4 : tie.MeasureT-loop4
-μ-loop4 self₀ x r e k o at i left may a steps child n call i2₀ self i2 = 16 - i2
+μ-loop4 self₀ x r e k o may child n call i2₀ self i2 = 16 - i2
 
 abbrev Inv-loop5 : tie.InvT-loop5
-Inv-loop5 self₀ x r e k o at i left may a steps child n call i2 i3₀ self i3 = (i3 ≤ 16) × (self ≡ withSessions self₀ (mapped (closeBoth e) i3 (self₀ .sessions)))
+Inv-loop5 self₀ x r e k o may child n call i2 i3₀ self i3 = (i3 ≤ 16) × (self ≡ withSessions self₀ (mapped (closeBoth e) i3 (self₀ .sessions)))
 
 abbrev μ-loop5 : tie.MeasureT-loop5
-μ-loop5 self₀ x r e k o at i left may a steps child n call i2 i3₀ self i3 = 16 - i3
+μ-loop5 self₀ x r e k o may child n call i2 i3₀ self i3 = 16 - i3
 
 abbrev Inv-loop6 : tie.InvT-loop6
-Inv-loop6 self₀ x r e k o at i left may a steps child n call i3₀ self i3 = (i3 ≤ 16) × (self ≡ withSessions self₀ (mapped (dropRole r) i3 (self₀ .sessions)))
+Inv-loop6 self₀ x r e k o may child n call i3₀ self i3 = (i3 ≤ 16) × (self ≡ withSessions self₀ (mapped (dropRole r) i3 (self₀ .sessions)))
 
 abbrev μ-loop6 : tie.MeasureT-loop6
-μ-loop6 self₀ x r e k o at i left may a steps child n call i3₀ self i3 = 16 - i3
+μ-loop6 self₀ x r e k o may child n call i3₀ self i3 = 16 - i3
 
 -- a place of the function, or what is asked there, with these
 abbrev At : (tie.InvT-loop → tie.MeasureT-loop → tie.InvT-loop2 → tie.MeasureT-loop2 → tie.InvT-loop3 → tie.MeasureT-loop3 → tie.InvT-loop4 → tie.MeasureT-loop4 → tie.InvT-loop5 → tie.MeasureT-loop5 → tie.InvT-loop6 → tie.MeasureT-loop6 → Type 0) → Type 0
@@ -75,19 +78,31 @@ At P = P Inv-loop μ-loop Inv-loop2 μ-loop2 Inv-loop3 μ-loop3 Inv-loop4 μ-loo
 sounds : (c : At tie.Else1) → sound (c .before .before .args .t1) ≡ true
 sounds c = sym (c .before .is-sound .ensures) ∙ not-false _ (c .if1 .left)
 
-children : (c : At tie.Joined3) → (c .before .before .before .before .before .before .before .scope-of .result) .kids ≡ true → ((c .before .before .before .before .before .before .before .scope-of .result) .named ≡ true → 1 ≤ (c .before .before .before .before .before .before .before .before .before .before .before .before .before .before .before .before .before .before .before .before .args .q) .name) → ((c .before .before .before .before .before .before .before .scope-of .result) .named ≡ false → isRoot ((c .before .before .before .before .before .before .before .scope-of .result) .kin) ≡ false)
-    → c .if3 .child ≡ some 64 (kinTest (c .before .before .before .before .before .before .before .before .before .before .before .before .before .before .before .before .before .before .before .before .args .t1) ((c .before .before .before .before .before .before .before .scope-of .result) .kin) ((c .before .before .before .before .before .before .before .scope-of .result) .named) ((c .before .before .before .before .before .before .before .before .before .before .before .before .before .before .before .before .before .before .before .before .args .q) .name))
+children : (c : At tie.Joined4) → (c .before .before .scope-of .result) .kids ≡ true → ((c .before .before .scope-of .result) .named ≡ true → 1 ≤ (c .before .before .before .before .before .before .before .before .before .before .before .before .args .q) .name) → ((c .before .before .scope-of .result) .named ≡ false → isRoot ((c .before .before .scope-of .result) .kin) ≡ false)
+    → c .if4 .child ≡ some 64 (kinTest (c .before .before .before .before .before .before .before .before .before .before .before .before .args .t1) ((c .before .before .scope-of .result) .kin) ((c .before .before .scope-of .result) .named) ((c .before .before .before .before .before .before .before .before .before .before .before .before .args .q) .name))
 children c on asked other =
     ⊎-elim
-    (λ y. y .3 ∙ kin-all _ (sounds (c .before .before .before .before .before .before .before .before .before .before .before .before .before .before .before .before .before .before)) _ _ _ asked other (c .before .before .before .before .before .before .before .scope-of .ensures .kinIn) _ _ (y .1 .inv) (omega (arith, y .2 .left)))
+    (λ y. y .3 ∙ kin-all _ (sounds (c .before .before .before .before .before .before .before .before .before .before)) _ _ _ asked other (c .before .before .scope-of .ensures .kinIn) _ _ (y .1 .inv) (omega (arith, y .2 .left)))
     (λ y. absurd (clash _ on (y .0 .left)))
-    (c .if3 .came)
+    (c .if4 .came)
 
-found : (c : At tie.Joined3) → Found (c .before .before .before .before .before .before .before .before .before .before .before .before .before .before .before .before .before .before .before .before .args .t1) (c .before .before .before .before .before .before .before .scope-of .result) ((c .before .before .before .before .before .before .before .before .before .before .before .before .before .before .before .before .before .before .before .before .args .q) .name) (c .before .before .before .before .before .before .loop .given) (c .before .before .loop2 .may && isRoot (c .before .before .loop2 .a)) (c .if3 .child)
+found : (c : At tie.Joined4) → Found (c .before .before .before .before .before .before .before .before .before .before .before .before .args .t1) (c .before .before .scope-of .result) ((c .before .before .before .before .before .before .before .before .before .before .before .before .args .q) .name) (c .before .if2 .may) (c .if4 .child)
 found c =
     record {
-      gathered = gathered-at _ _ _ _ _ _ (c .before .before .before .before .before .before .loop .inv) (c .before .before .before .before .before .loop-test .left);
-      way = climbing-all _ _ _ _ _ _ _ (c .before .before .loop2 .inv) (c .before .loop2-test .left) ∙ ap (λ (b : Bool). c .before .before .before .before .before .before .before .scope-of .result .opened && b && climbs (parentOf (c .before .before .before .before .before .before .before .before .before .before .before .before .before .before .before .before .before .before .before .before .args .t1)) (exec (c .before .before .before .before .before .before .loop .given)) 16 (c .before .before .before .before .before .before .before .scope-of .result .from)) (c .before .before .before .before .contains8 .ensures);
+      opened = λ on.
+          ⊎-elim
+          (λ y. (
+            y .1 .asked,
+            y .1 .through,
+            record {
+              here = gathered-at _ _ _ _ _ _ _ (y .1 .inv .0) (y .2 .left);
+              above = gathered-at _ _ _ _ _ _ _ (y .1 .inv .1) (y .2 .left);
+              way = y .6 ∙ climbing-all _ _ _ _ _ _ _ (y .4 .inv) (y .5 .left) ∙ ap (λ (b : Bool). b && climbs (parentOf (c .before .before .before .before .before .before .before .before .before .before .before .before .args .t1)) (has (y .1 .through)) 16 ((c .before .before .scope-of .result) .from)) (y .3 .ensures);
+            },
+          ))
+          (λ y. absurd (clash _ on (y .0 .left)))
+          (c .before .if2 .came);
+      shut = λ off. ⊎-elim (λ y. absurd (clash _ (y .0 .taken) off)) (λ y. y .1) (c .before .if2 .came);
       kids = children c;
     }
 
@@ -95,41 +110,41 @@ concerned : (c : At tie.After-below163) → Concerned (c .before .before .before
 concerned c = record { seat = c .before .before .before .below16 .ensures; role = c .before .before .below162 .ensures; entity = c .before .below64 .ensures; user = c .below163 .ensures }
 
 abbrev tables : At tie.After-judge → Tables
-tables c = c .before .before .before .before .before .before .before .before .before .before .before .before .before .before .before .before .before .before .before .before .before .args .t1
+tables c = c .before .before .before .before .before .before .before .before .before .before .before .before .before .before .before .before .args .t1
 
 abbrev asked : At tie.After-judge → Request
-asked c = c .before .before .before .before .before .before .before .before .before .before .before .before .before .before .before .before .before .before .before .before .before .args .q
+asked c = c .before .before .before .before .before .before .before .before .before .before .before .before .before .before .before .before .args .q
 
 judged : (c : At tie.After-judge) → c .judge .result ≡ number (ruleOf (asked c)) (tables c) (asked c)
 judged c =
     c .judge .ensures _
-    (seen-of _ _ _ _ _ _ _ _ _ (concerned (c .before .before .before .before .before .before .before .before .before .before .before .before .before .before .before)))
-    (scanned-of _ _ _ _ _ _ _ _ _ (concerned (c .before .before .before .before .before .before .before .before .before .before .before .before .before .before .before)) (sounds (c .before .before .before .before .before .before .before .before .before .before .before .before .before .before .before .before .before .before .before)) (c .before .before .before .before .before .before .before .before .before .before .parent-of .ensures) _ (c .before .before .before .before .before .before .before .before .scope-of .ensures) _ (found (c .before)))
+    (seen-of _ _ _ _ _ _ _ _ _ (concerned (c .before .before .before .before .before .before .before .before .before .before)))
+    (scanned-of _ _ _ _ _ _ _ _ _ (concerned (c .before .before .before .before .before .before .before .before .before .before)) (sounds (c .before .before .before .before .before .before .before .before .before .before .before .before .before .before)) (c .before .before .before .before .before .before .before .parent-of .ensures) _ (c .before .before .before .before .before .before .scope-of .ensures) (found (c .before .before .before .before)))
 
 sure : (c : At tie.After-judge) → sound (tables c) ≡ true
-sure c = sounds (c .before .before .before .before .before .before .before .before .before .before .before .before .before .before .before .before .before .before .before)
+sure c = (sounds (c .before .before .before .before .before .before .before .before .before .before .before .before .before .before))
 
-near : (c : At tie.After-judge) → Concerned (asked c) (c .before .before .before .before .before .before .before .before .before .before .before .before .before .before .before .before .before .before .below16 .result) (c .before .before .before .before .before .before .before .before .before .before .before .before .before .before .before .before .before .below162 .result) (c .before .before .before .before .before .before .before .before .before .before .before .before .before .before .before .before .below64 .result) (c .before .before .before .before .before .before .before .before .before .before .before .before .before .before .before .below163 .result)
-near c = concerned (c .before .before .before .before .before .before .before .before .before .before .before .before .before .before .before)
+near : (c : At tie.After-judge) → Concerned (asked c) (c .before .before .before .before .before .before .before .before .before .before .before .before .before .below16 .result) (c .before .before .before .before .before .before .before .before .before .before .before .before .below162 .result) (c .before .before .before .before .before .before .before .before .before .before .before .below64 .result) (c .before .before .before .before .before .before .before .before .before .before .below163 .result)
+near c = concerned (c .before .before .before .before .before .before .before .before .before .before)
 
 swept-delete : (c : At tie.After-loop5) → c .before .loop5 .self ≡ ruleOf (asked (c .before .before .before .before .before .before .before .before .before .before)) .effect (asked (c .before .before .before .before .before .before .before .before .before .before)) (tables (c .before .before .before .before .before .before .before .before .before .before))
 swept-delete c =
-    let roles : length ((tables (c .before .before .before .before .before .before .before .before .before .before)) .roles) ≡ 16 = search (long, c .before .before .before .before .before .before .before .before .before .before .before .before .before .before .before .before .before .before .before .before .before .before .before .before .before .before .before .before .before .before .before .good .0) in
-    let sessions : length ((tables (c .before .before .before .before .before .before .before .before .before .before)) .sessions) ≡ 16 = search (long, c .before .before .before .before .before .before .before .before .before .before .before .before .before .before .before .before .before .before .before .before .before .before .before .before .before .before .before .before .before .before .before .good .0) in
+    let roles : length ((tables (c .before .before .before .before .before .before .before .before .before .before)) .roles) ≡ 16 = search (long, c .before .before .before .before .before .before .before .before .before .before .before .before .before .before .before .before .before .before .before .before .before .before .before .before .before .before .good .0) in
+    let sessions : length ((tables (c .before .before .before .before .before .before .before .before .before .before)) .sessions) ≡ 16 = search (long, c .before .before .before .before .before .before .before .before .before .before .before .before .before .before .before .before .before .before .before .before .before .before .before .before .before .before .good .0) in
     let i : c .before .before .before .loop4 .i2 ≡ 16 = omega arith in
     let j : c .before .loop5 .i3 ≡ 16 = omega arith in
-    let delete : asked (c .before .before .before .before .before .before .before .before .before .before) .call ≡ 8 = c .before .before .before .before .if8 .taken in
-    let z = (sym (c .before .before .before .before .before .before .before .before .before .if4 .taken) ∙ judged (c .before .before .before .before .before .before .before .before .before .before)) in
-    swept-entity (tables (c .before .before .before .before .before .before .before .before .before .before)) (c .before .before .before .before .before .before .before .before .before .before .before .before .before .before .before .before .before .before .before .before .before .before .before .before .before .before .below64 .result) (c .before .before .before .before .before .before .after2 .result) (c .before .before .before .loop4 .self) (c .before .loop5 .self) (deleted _ _ z _ _ _ _ (near (c .before .before .before .before .before .before .before .before .before .before)) delete _ _ (c .before .before .before .before .before .before .after2 .ensures)) roles sessions (rw i at (c .before .before .before .loop4 .inv .1)) (rw j at (c .before .loop5 .inv .1))
+    let delete : asked (c .before .before .before .before .before .before .before .before .before .before) .call ≡ 8 = c .before .before .before .before .if9 .taken in
+    let z = (sym (c .before .before .before .before .before .before .before .before .before .if5 .taken) ∙ judged (c .before .before .before .before .before .before .before .before .before .before)) in
+    swept-entity (tables (c .before .before .before .before .before .before .before .before .before .before)) (c .before .before .before .before .before .before .before .before .before .before .before .before .before .before .before .before .before .before .before .before .before .below64 .result) (c .before .before .before .before .before .before .after2 .result) (c .before .before .before .loop4 .self) (c .before .loop5 .self) (deleted _ _ z _ _ _ _ (near (c .before .before .before .before .before .before .before .before .before .before)) delete _ _ (c .before .before .before .before .before .before .after2 .ensures)) roles sessions (rw i at (c .before .before .before .loop4 .inv .1)) (rw j at (c .before .loop5 .inv .1))
     ∙ delete-done _ _ z _ _ _ _ (near (c .before .before .before .before .before .before .before .before .before .before)) delete
 
 swept-unmake : (c : At tie.After-loop6) → c .before .loop6 .self ≡ ruleOf (asked (c .before .before .before .before .before .before .before .before)) .effect (asked (c .before .before .before .before .before .before .before .before)) (tables (c .before .before .before .before .before .before .before .before))
 swept-unmake c =
-    let sessions : length ((tables (c .before .before .before .before .before .before .before .before)) .sessions) ≡ 16 = search (long, c .before .before .before .before .before .before .before .before .before .before .before .before .before .before .before .before .before .before .before .before .before .before .before .before .before .before .before .before .before .good .0) in
+    let sessions : length ((tables (c .before .before .before .before .before .before .before .before)) .sessions) ≡ 16 = search (long, c .before .before .before .before .before .before .before .before .before .before .before .before .before .before .before .before .before .before .before .before .before .before .before .before .good .0) in
     let i : c .before .loop6 .i3 ≡ 16 = omega arith in
-    let unmake : asked (c .before .before .before .before .before .before .before .before) .call ≡ 15 = c .before .before .if10 .taken in
-    let z = (sym (c .before .before .before .before .before .before .before .if4 .taken) ∙ judged (c .before .before .before .before .before .before .before .before)) in
-    swept-role (tables (c .before .before .before .before .before .before .before .before)) (c .before .before .before .before .before .before .before .before .before .before .before .before .before .before .before .before .before .before .before .before .before .before .before .before .before .below162 .result) (c .before .before .before .after4 .result) (c .before .loop6 .self) (unmade _ _ z _ _ _ _ (near (c .before .before .before .before .before .before .before .before)) unmake _ (c .before .before .before .after4 .ensures)) sessions (rw i at (c .before .loop6 .inv .1))
+    let unmake : asked (c .before .before .before .before .before .before .before .before) .call ≡ 15 = c .before .before .if11 .taken in
+    let z = (sym (c .before .before .before .before .before .before .before .if5 .taken) ∙ judged (c .before .before .before .before .before .before .before .before)) in
+    swept-role (tables (c .before .before .before .before .before .before .before .before)) (c .before .before .before .before .before .before .before .before .before .before .before .before .before .before .before .before .before .before .before .before .below162 .result) (c .before .before .before .after4 .result) (c .before .loop6 .self) (unmade _ _ z _ _ _ _ (near (c .before .before .before .before .before .before .before .before)) unmake _ (c .before .before .before .after4 .ensures)) sessions (rw i at (c .before .loop6 .inv .1))
     ∙ unmake-done _ _ z _ _ _ _ (near (c .before .before .before .before .before .before .before .before)) unmake
 
 is-sound-requires : At tie.Need-is-sound-requires
@@ -156,74 +171,57 @@ mul-s c = omega (arith, c .before .before .before .below16 .ensures .small)
 element-copy-out-s : At tie.Need-element-copy-out-s
 element-copy-out-s c = c .before .before .before .below16 .ensures .small
 
-mul-u : At tie.Need-mul-u
-mul-u c = omega (arith, c .before .below163 .ensures .small)
-
-element-copy-out-u : At tie.Need-element-copy-out-u
-element-copy-out-u c = c .before .below163 .ensures .small
-
-mul-p : At tie.Need-mul-p
-mul-p c = omega (arith, c .before .before .before .before .below162 .ensures .small)
-
-element-copy-out-p : At tie.Need-element-copy-out-p
-element-copy-out-p c = c .before .before .before .before .below162 .ensures .small
-
 mul-f : At tie.Need-mul-f
-mul-f c = omega (arith, c .before .before .before .before .below64 .ensures .small)
+mul-f c = omega (arith, c .before .before .below64 .ensures .small)
 
 element-copy-out-f : At tie.Need-element-copy-out-f
-element-copy-out-f c = c .before .before .before .before .below64 .ensures .small
+element-copy-out-f c = c .before .before .below64 .ensures .small
 
 parent-of-requires : At tie.Need-parent-of-requires
-parent-of-requires c κs = parent-small _ (sounds (c .before .before .before .before .before .before .before .before)) _ (c .before .before .before .before .before .below64 .ensures .small)
-
-mul-m : At tie.Need-mul-m
-mul-m c = omega (arith, c .parent-of .ensures .small)
-
-element-copy-out-m : At tie.Need-element-copy-out-m
-element-copy-out-m c = c .parent-of .ensures .small
+parent-of-requires c κs = parent-small _ (sounds (c .before .before .before .before .before .before)) _ (c .before .before .before .below64 .ensures .small)
 
 scope-of-requires : At tie.Need-scope-of-requires
-scope-of-requires c κs = (c .before .before .before .before .before .before .before .below64 .ensures .small, c .before .parent-of .ensures .small)
+scope-of-requires c κs = (c .before .before .before .before .below64 .ensures .small, c .parent-of .ensures .small)
 
 mul-i : At tie.Need-mul-i
-mul-i c = omega (arith, c .scope-of .ensures .atIn)
+mul-i c = omega (arith, c .before .scope-of .ensures .atIn)
 
 loop-holds : At tie.Need-loop-holds
-loop-holds c = gathered-start _ _ _ _ (c .scope-of .ensures .atIn) (c .scope-of .ensures .left)
+loop-holds c = (gathered-start _ _ _ _ _ (c .before .scope-of .ensures .atIn) (c .before .scope-of .ensures .left), gathered-start _ _ _ _ _ (c .before .scope-of .ensures .atIn) (c .before .scope-of .ensures .left))
 
 has16-requires : At tie.Need-has16-requires
 has16-requires c κs = search needs
 
 add-i : At tie.Need-add-i
-add-i c = omega (arith, c .before .before .loop .inv .walk .most)
+add-i c = omega (arith, c .before .before .loop .inv .0 .walk .most)
 
 mul-h : At tie.Need-mul-h
-mul-h c = omega (arith, walk-in _ _ _ _ (c .before .before .before .loop .inv .walk) (c .before .before .before .before .scope-of .ensures .heldIn) (c .before .before .loop-test .taken))
+mul-h c = omega (arith, walk-in _ _ _ _ (c .before .before .before .loop .inv .0 .walk) (c .before .before .before .before .before .scope-of .ensures .heldIn) (c .before .before .loop-test .taken))
 
 element-copy-out-h : At tie.Need-element-copy-out-h
-element-copy-out-h c = walk-in _ _ _ _ (c .before .before .before .loop .inv .walk) (c .before .before .before .before .scope-of .ensures .heldIn) (c .before .before .loop-test .taken)
+element-copy-out-h c = walk-in _ _ _ _ (c .before .before .before .loop .inv .0 .walk) (c .before .before .before .before .before .scope-of .ensures .heldIn) (c .before .before .loop-test .taken)
 
-joined-requires : At tie.Need-joined-requires
-joined-requires c κs = search needs
+having-requires : At tie.Need-having-requires
+having-requires c κs = search needs
 
 loop-less : At tie.Need-loop-less
-loop-less c = omega (arith, c .before .before .before .before .before .before .loop-test .taken)
+loop-less c = omega (arith, c .before .before .before .before .before .loop-test .taken)
 
 loop-again : At tie.Need-loop-again
-loop-again c = gathered-join _ _ _ _ _ _ (c .before .before .before .before .before .before .before .loop .inv) (sym (c .before .before .before .before .before .has16 .ensures) ∙ c .before .before .before .before .if2 .taken) (walk-in _ _ _ _ (c .before .before .before .before .before .before .before .loop .inv .walk) (c .before .before .before .before .before .before .before .before .scope-of .ensures .heldIn) (c .before .before .before .before .before .before .loop-test .taken)) _ (c .joined .ensures)
+unfolding join having
+loop-again c = (gathered-join _ _ _ _ _ _ _ (c .before .before .before .before .before .before .loop .inv .0) (c .before .before .before .before .before .before .before .before .scope-of .ensures .single (c .before .before .before .before .before .before .before .if2 .taken)) (sym (c .before .before .before .before .has16 .ensures) ∙ c .before .before .before .if3 .taken) (walk-in _ _ _ _ (c .before .before .before .before .before .before .loop .inv .0 .walk) (c .before .before .before .before .before .before .before .before .scope-of .ensures .heldIn) (c .before .before .before .before .before .loop-test .taken)) _ (c .before .having .ensures), gathered-join _ _ _ _ _ _ _ (c .before .before .before .before .before .before .loop .inv .1) (inr (inr (inl refl))) (sym (c .before .before .before .before .has16 .ensures) ∙ c .before .before .before .if3 .taken) (walk-in _ _ _ _ (c .before .before .before .before .before .before .loop .inv .0 .walk) (c .before .before .before .before .before .before .before .before .scope-of .ensures .heldIn) (c .before .before .before .before .before .loop-test .taken)) _ refl)
 
 loop-less-2 : At tie.Need-loop-less-2
 loop-less-2 c = omega (arith, c .before .before .loop-test .taken)
 
 loop-again-2 : At tie.Need-loop-again-2
-loop-again-2 c = gathered-skip _ _ _ _ _ _ (c .before .before .before .loop .inv) (sym (c .before .has16 .ensures) ∙ c .if2 .left) (walk-in _ _ _ _ (c .before .before .before .loop .inv .walk) (c .before .before .before .before .scope-of .ensures .heldIn) (c .before .before .loop-test .taken))
+loop-again-2 c = (gathered-skip _ _ _ _ _ _ _ (c .before .before .before .loop .inv .0) (sym (c .before .has16 .ensures) ∙ c .if3 .left) (walk-in _ _ _ _ (c .before .before .before .loop .inv .0 .walk) (c .before .before .before .before .before .scope-of .ensures .heldIn) (c .before .before .loop-test .taken)), gathered-skip _ _ _ _ _ _ _ (c .before .before .before .loop .inv .1) (sym (c .before .has16 .ensures) ∙ c .if3 .left) (walk-in _ _ _ _ (c .before .before .before .loop .inv .0 .walk) (c .before .before .before .before .before .scope-of .ensures .heldIn) (c .before .before .loop-test .taken)))
 
-array-read-contains8 : At tie.Need-array-read-contains8
-array-read-contains8 c = omega (arith, c .before .before .scope-of .ensures .atIn, c .before .loop .inv .long)
+cast-has64 : At tie.Need-cast-has64
+cast-has64 c = omega (arith, c .before .before .before .scope-of .ensures .atIn)
 
-contains8-requires : At tie.Need-contains8-requires
-contains8-requires c κs = search needs
+has64-requires : At tie.Need-has64-requires
+has64-requires c κs = search needs
 
 loop2-holds : At tie.Need-loop2-holds
 loop2-holds c = climbing-start _ _ _ _ (c .before .before .before .before .scope-of .ensures .fromIn)
@@ -237,11 +235,11 @@ element-copy-out-h-2 c = c .before .loop2 .inv .inside
 cast-a : At tie.Need-cast-a
 cast-a c = search needs
 
-array-read-contains8-2 : At tie.Need-array-read-contains8-2
-array-read-contains8-2 c = omega (arith, parent-small _ (sounds (c .before .before .before .before .before .before .before .before .before .before .before .before .before .before .before .before .before .before .before)) _ (c .before .before .before .loop2 .inv .inside), c .before .before .before .before .before .before .before .loop .inv .long)
+cast-has64-2 : At tie.Need-cast-has64-2
+cast-has64-2 c = omega (arith, parent-small _ (sounds (c .before .before .before .before .before .before .before .before .before .before .before .before .before .before .before .before)) _ (c .before .before .before .loop2 .inv .inside))
 
-contains8-requires-2 : At tie.Need-contains8-requires-2
-contains8-requires-2 c κs = search needs
+has64-requires-2 : At tie.Need-has64-requires-2
+has64-requires-2 c κs = search needs
 
 sub-steps : At tie.Need-sub-steps
 sub-steps c = steps-left (c .before .before .before .before .loop2 .steps) (c .before .before .before .before .loop2 .a) (c .before .before .before .loop2-test .taken)
@@ -250,25 +248,25 @@ loop2-less : At tie.Need-loop2-less
 loop2-less c = omega (arith, steps-left (c .before .before .before .before .loop2 .steps) (c .before .before .before .before .loop2 .a) (c .before .before .before .loop2-test .taken))
 
 loop2-again : At tie.Need-loop2-again
-loop2-again c = climbing-more _ _ _ _ _ _ _ (c .before .before .before .before .loop2 .inv) (sounds (c .before .before .before .before .before .before .before .before .before .before .before .before .before .before .before .before .before .before .before .before)) _ (c .before .before .before .loop2-test .taken) (c .contains82 .ensures)
+loop2-again c = climbing-more _ _ _ _ _ _ _ (c .before .before .before .before .loop2 .inv) (sounds (c .before .before .before .before .before .before .before .before .before .before .before .before .before .before .before .before .before)) _ (c .before .before .before .loop2-test .taken) (c .has642 .ensures)
 
 mul-base : At tie.Need-mul-base
-mul-base c = omega (arith, c .before .before .before .before .before .before .before .scope-of .ensures .kinIn)
+mul-base c = omega (arith, c .before .before .scope-of .ensures .kinIn)
 
 loop3-holds : At tie.Need-loop3-holds
 loop3-holds c = block-start _ _
 
 add-h : At tie.Need-add-h
-add-h c = omega (arith, c .before .before .before .before .before .before .before .before .before .scope-of .ensures .kinIn)
+add-h c = omega (arith, c .before .before .before .before .scope-of .ensures .kinIn)
 
 mul-h-3 : At tie.Need-mul-h-3
-mul-h-3 c = omega (arith, c .before .before .before .before .before .before .before .before .before .scope-of .ensures .kinIn)
+mul-h-3 c = omega (arith, c .before .before .before .before .scope-of .ensures .kinIn)
 
 element-copy-out-h-3 : At tie.Need-element-copy-out-h-3
-element-copy-out-h-3 c = omega (arith, c .before .before .before .before .before .before .before .before .before .scope-of .ensures .kinIn)
+element-copy-out-h-3 c = omega (arith, c .before .before .before .before .scope-of .ensures .kinIn)
 
 is-kin-requires : At tie.Need-is-kin-requires
-is-kin-requires c κs = c .before .before .before .before .before .before .before .before .before .before .scope-of .ensures .kinIn
+is-kin-requires c κs = c .before .before .before .before .before .scope-of .ensures .kinIn
 
 add-j : At tie.Need-add-j
 add-j c = omega arith
@@ -279,6 +277,24 @@ loop3-less c = omega arith
 loop3-again : At tie.Need-loop3-again
 unfolding kinSeen
 loop3-again c = block-more _ _ _ _ _ (c .before .before .before .loop3 .inv) (c .is-kin .ensures) (c .before .before .loop3-test .taken)
+
+mul-u : At tie.Need-mul-u
+mul-u c = omega (arith, c .before .before .before .before .before .before .below163 .ensures .small)
+
+element-copy-out-u : At tie.Need-element-copy-out-u
+element-copy-out-u c = c .before .before .before .before .before .before .below163 .ensures .small
+
+mul-p : At tie.Need-mul-p
+mul-p c = omega (arith, c .before .before .before .before .before .before .before .before .before .below162 .ensures .small)
+
+element-copy-out-p : At tie.Need-element-copy-out-p
+element-copy-out-p c = c .before .before .before .before .before .before .before .before .before .below162 .ensures .small
+
+mul-m : At tie.Need-mul-m
+mul-m c = omega (arith, c .before .before .before .before .before .parent-of .ensures .small)
+
+element-copy-out-m : At tie.Need-element-copy-out-m
+element-copy-out-m c = c .before .before .before .before .before .parent-of .ensures .small
 
 judge-requires : At tie.Need-judge-requires
 judge-requires c κs = search needs
@@ -316,48 +332,38 @@ mul-p3 c = omega (arith, near (c .before .before .before .before .before .before
 element-set-from-p3 : At tie.Need-element-set-from-p3
 element-set-from-p3 c = near (c .before .before .before .before .before .before .before) .role .small
 
-mul-i2 : At tie.Need-mul-i2
-mul-i2 c = omega (arith, near (c .before .before .before .before .before .before) .entity .small)
-
 loop4-holds : At tie.Need-loop4-holds
-loop4-holds c = (omega (arith, near (c .before .before .before .before .before .before) .entity .small), roles-from (tables (c .before .before .before .before .before .before)) _ (sure (c .before .before .before .before .before .before)) (near (c .before .before .before .before .before .before) .entity .small) _ refl)
+loop4-holds c = (omega arith, refl)
 
-mul-g : At tie.Need-mul-g
-mul-g c = omega (arith, c .loop4-test .taken)
+mul-h-4 : At tie.Need-mul-h-4
+mul-h-4 c = omega (arith, c .loop4-test .taken)
 
-element-copy-out-g : At tie.Need-element-copy-out-g
-element-copy-out-g c = c .loop4-test .taken
+element-copy-out-h-4 : At tie.Need-element-copy-out-h-4
+element-copy-out-h-4 c = c .loop4-test .taken
 
 add-i2 : At tie.Need-add-i2
 add-i2 c = omega (arith, c .before .loop4-test .taken)
 
-mul-h-4 : At tie.Need-mul-h-4
-mul-h-4 c = omega (arith, c .before .before .loop4-test .taken)
+cleared-requires : At tie.Need-cleared-requires
+cleared-requires c κs = near (c .before .before .before .before .before .before .before .before .before .before) .entity .small
 
-element-copy-out-h-4 : At tie.Need-element-copy-out-h-4
-element-copy-out-h-4 c = c .before .before .loop4-test .taken
+mul-h2 : At tie.Need-mul-h2
+mul-h2 c = omega (arith, c .before .before .before .loop4-test .taken)
 
-element-write-h : At tie.Need-element-write-h
-element-write-h c = near (c .before .before .before .before .before .before .before .before .before .before .before) .entity .small
-
-mul-t119 : At tie.Need-mul-t119
-mul-t119 c = omega (arith, c .before .before .before .loop4-test .taken)
-
-element-set-from-self : At tie.Need-element-set-from-self
-element-set-from-self c = c .before .before .before .loop4-test .taken
+element-set-from-h2 : At tie.Need-element-set-from-h2
+element-set-from-h2 c = c .before .before .before .loop4-test .taken
 
 loop4-less : At tie.Need-loop4-less
 loop4-less c = omega (arith, c .before .before .before .loop4-test .taken)
 
 loop4-again : At tie.Need-loop4-again
-unfolding clearRights setRights
-loop4-again c = (omega (arith, c .before .before .before .loop4-test .taken), roles-more (clearRights _) _ _ _ (c .before .before .before .before .loop4 .inv .1))
+loop4-again c = (omega (arith, c .before .before .before .loop4-test .taken), rw (c .cleared .ensures) (roles-more (clearRights _) _ _ _ (c .before .before .before .before .loop4 .inv .1)))
 
 loop4-less-2 : At tie.Need-loop4-less-2
 loop4-less-2 c = omega (arith, c .before .before .loop4-test .taken)
 
 loop4-again-2 : At tie.Need-loop4-again-2
-loop4-again-2 c = (omega (arith, c .before .before .loop4-test .taken), roles-dead (tables (c .before .before .before .before .before .before .before .before .before .before)) _ (sure (c .before .before .before .before .before .before .before .before .before .before)) (near (c .before .before .before .before .before .before .before .before .before .before) .entity .small) _ _ _ refl (c .before .before .loop4-test .taken) (c .before .before .before .loop4 .inv .1) (c .if9 .left))
+loop4-again-2 c = (omega (arith, c .before .before .loop4-test .taken), roles-dead (tables (c .before .before .before .before .before .before .before .before .before .before)) (sure (c .before .before .before .before .before .before .before .before .before .before)) _ _ _ _ refl (c .before .before .loop4-test .taken) (c .before .before .before .loop4 .inv .1) (c .if10 .left))
 
 loop5-holds : At tie.Need-loop5-holds
 loop5-holds c = (omega arith, refl)
@@ -371,11 +377,11 @@ element-copy-out-h-5 c = c .loop5-test .taken
 closed-requires : At tie.Need-closed-requires
 closed-requires c κs = near (c .before .before .before .before .before .before .before .before .before .before .before) .entity .small
 
-mul-h2 : At tie.Need-mul-h2
-mul-h2 c = omega (arith, c .before .before .loop5-test .taken)
+mul-h2-2 : At tie.Need-mul-h2-2
+mul-h2-2 c = omega (arith, c .before .before .loop5-test .taken)
 
-element-set-from-h2 : At tie.Need-element-set-from-h2
-element-set-from-h2 c = c .before .before .loop5-test .taken
+element-set-from-h2-2 : At tie.Need-element-set-from-h2-2
+element-set-from-h2-2 c = c .before .before .loop5-test .taken
 
 add-i3 : At tie.Need-add-i3
 add-i3 c = omega (arith, c .before .before .loop5-test .taken)
@@ -413,11 +419,11 @@ element-copy-out-h-6 c = c .loop6-test .taken
 dropped-requires : At tie.Need-dropped-requires
 dropped-requires c κs = near (c .before .before .before .before .before .before .before .before .before) .role .small
 
-mul-h2-2 : At tie.Need-mul-h2-2
-mul-h2-2 c = omega (arith, c .before .before .loop6-test .taken)
+mul-h2-3 : At tie.Need-mul-h2-3
+mul-h2-3 c = omega (arith, c .before .before .loop6-test .taken)
 
-element-set-from-h2-2 : At tie.Need-element-set-from-h2-2
-element-set-from-h2-2 c = c .before .before .loop6-test .taken
+element-set-from-h2-3 : At tie.Need-element-set-from-h2-3
+element-set-from-h2-3 c = c .before .before .loop6-test .taken
 
 add-i3-2 : At tie.Need-add-i3-2
 add-i3-2 c = omega (arith, c .before .before .loop6-test .taken)
@@ -429,25 +435,25 @@ loop6-again : At tie.Need-loop6-again
 loop6-again c = (omega (arith, c .before .before .loop6-test .taken), rw (c .dropped .ensures) (sessions-more (dropRole _) _ _ _ (c .before .before .before .loop6 .inv .1)))
 
 returns-2 : At tie.Need-returns-2
-returns-2 c = does _ _ _ (sure (c .before .before .before)) (judged (c .before .before .before)) (c .before .before .if4 .taken) _ (session-done _ _ (sym (c .before .before .if4 .taken) ∙ judged (c .before .before .before)) _ _ _ _ (near (c .before .before .before)) (c .before .if5 .taken) _ (c .after .ensures))
+returns-2 c = does _ _ _ (sure (c .before .before .before)) (judged (c .before .before .before)) (c .before .before .if5 .taken) _ (session-done _ _ (sym (c .before .before .if5 .taken) ∙ judged (c .before .before .before)) _ _ _ _ (near (c .before .before .before)) (c .before .if6 .taken) _ (c .after .ensures))
 
 returns-3 : At tie.Need-returns-3
-returns-3 c = does _ _ _ (sure (c .before .before .before .before .before .before .before)) (judged (c .before .before .before .before .before .before .before)) (c .before .before .before .before .before .before .if4 .taken) _ (create-done _ _ (sym (c .before .before .before .before .before .before .if4 .taken) ∙ judged (c .before .before .before .before .before .before .before)) _ _ _ _ (near (c .before .before .before .before .before .before .before)) (c .before .before .if7 .taken) _ _ (c .before .before .before .after2 .ensures) (c .after3 .ensures))
+returns-3 c = does _ _ _ (sure (c .before .before .before .before .before .before .before)) (judged (c .before .before .before .before .before .before .before)) (c .before .before .before .before .before .before .if5 .taken) _ (create-done _ _ (sym (c .before .before .before .before .before .before .if5 .taken) ∙ judged (c .before .before .before .before .before .before .before)) _ _ _ _ (near (c .before .before .before .before .before .before .before)) (c .before .before .if8 .taken) _ _ (c .before .before .before .after2 .ensures) (c .after3 .ensures))
 
 returns-4 : At tie.Need-returns-4
-returns-4 c = does _ _ _ (sure (c .before .before .before .before .before .before .before .before .before .before)) (judged (c .before .before .before .before .before .before .before .before .before .before)) (c .before .before .before .before .before .before .before .before .before .if4 .taken) _ (swept-delete (c))
+returns-4 c = does _ _ _ (sure (c .before .before .before .before .before .before .before .before .before .before)) (judged (c .before .before .before .before .before .before .before .before .before .before)) (c .before .before .before .before .before .before .before .before .before .if5 .taken) _ (swept-delete (c))
 
 returns-5 : At tie.Need-returns-5
-returns-5 c = does _ _ _ (sure (c .before .before .before .before .before .before)) (judged (c .before .before .before .before .before .before)) (c .before .before .before .before .before .if4 .taken) _ (rename-done _ _ (sym (c .before .before .before .before .before .if4 .taken) ∙ judged (c .before .before .before .before .before .before)) _ _ _ _ (near (c .before .before .before .before .before .before)) (nine _ (c .before .before .before .before .if5 .left) (c .before .before .before .if6 .taken) (c .before .if7 .left) (c .if8 .left)) _ (c .before .before .after2 .ensures))
+returns-5 c = does _ _ _ (sure (c .before .before .before .before .before .before)) (judged (c .before .before .before .before .before .before)) (c .before .before .before .before .before .if5 .taken) _ (rename-done _ _ (sym (c .before .before .before .before .before .if5 .taken) ∙ judged (c .before .before .before .before .before .before)) _ _ _ _ (near (c .before .before .before .before .before .before)) (nine _ (c .before .before .before .before .if6 .left) (c .before .before .before .if7 .taken) (c .before .if8 .left) (c .if9 .left)) _ (c .before .before .after2 .ensures))
 
 returns-6 : At tie.Need-returns-6
-returns-6 c = does _ _ _ (sure (c .before .before .before .before .before .before .before .before)) (judged (c .before .before .before .before .before .before .before .before)) (c .before .before .before .before .before .before .before .if4 .taken) _ (swept-unmake (c))
+returns-6 c = does _ _ _ (sure (c .before .before .before .before .before .before .before .before)) (judged (c .before .before .before .before .before .before .before .before)) (c .before .before .before .before .before .before .before .if5 .taken) _ (swept-unmake (c))
 
 returns-7 : At tie.Need-returns-7
-returns-7 c = does _ _ _ (sure (c .before .before .before .before .before .before)) (judged (c .before .before .before .before .before .before)) (c .before .before .before .before .before .if4 .taken) _ (role-done _ _ (sym (c .before .before .before .before .before .if4 .taken) ∙ judged (c .before .before .before .before .before .before)) _ _ _ _ (near (c .before .before .before .before .before .before)) (sure (c .before .before .before .before .before .before)) (c .before .before .before .if6 .left) (c .if10 .left) _ (c .before .after4 .ensures))
+returns-7 c = does _ _ _ (sure (c .before .before .before .before .before .before)) (judged (c .before .before .before .before .before .before)) (c .before .before .before .before .before .if5 .taken) _ (role-done _ _ (sym (c .before .before .before .before .before .if5 .taken) ∙ judged (c .before .before .before .before .before .before)) _ _ _ _ (near (c .before .before .before .before .before .before)) (sure (c .before .before .before .before .before .before)) (c .before .before .before .if7 .left) (c .if11 .left) _ (c .before .after4 .ensures))
 
 returns-8 : At tie.Need-returns-8
-returns-8 c = refuses _ _ _ (sure (c .before)) (judged (c .before)) (c .if4 .left)
+returns-8 c = refuses _ _ _ (sure (c .before)) (judged (c .before)) (c .if5 .left)
 
 pub step-spec : {M : Type 1} → statement M
 step-spec =
@@ -473,15 +479,9 @@ step-spec =
     below16-requires-3
     mul-s
     element-copy-out-s
-    mul-u
-    element-copy-out-u
-    mul-p
-    element-copy-out-p
     mul-f
     element-copy-out-f
     parent-of-requires
-    mul-m
-    element-copy-out-m
     scope-of-requires
     mul-i
     loop-holds
@@ -489,19 +489,19 @@ step-spec =
     add-i
     mul-h
     element-copy-out-h
-    joined-requires
+    having-requires
     loop-less
     loop-again
     loop-less-2
     loop-again-2
-    array-read-contains8
-    contains8-requires
+    cast-has64
+    has64-requires
     loop2-holds
     mul-h-2
     element-copy-out-h-2
     cast-a
-    array-read-contains8-2
-    contains8-requires-2
+    cast-has64-2
+    has64-requires-2
     sub-steps
     loop2-less
     loop2-again
@@ -514,6 +514,12 @@ step-spec =
     add-j
     loop3-less
     loop3-again
+    mul-u
+    element-copy-out-u
+    mul-p
+    element-copy-out-p
+    mul-m
+    element-copy-out-m
     judge-requires
     after-requires
     mul-s2
@@ -526,16 +532,13 @@ step-spec =
     after-requires-3
     mul-p3
     element-set-from-p3
-    mul-i2
     loop4-holds
-    mul-g
-    element-copy-out-g
-    add-i2
     mul-h-4
     element-copy-out-h-4
-    element-write-h
-    mul-t119
-    element-set-from-self
+    add-i2
+    cleared-requires
+    mul-h2
+    element-set-from-h2
     loop4-less
     loop4-again
     loop4-less-2
@@ -544,8 +547,8 @@ step-spec =
     mul-h-5
     element-copy-out-h-5
     closed-requires
-    mul-h2
-    element-set-from-h2
+    mul-h2-2
+    element-set-from-h2-2
     add-i3
     loop5-less
     loop5-again
@@ -558,8 +561,8 @@ step-spec =
     mul-h-6
     element-copy-out-h-6
     dropped-requires
-    mul-h2-2
-    element-set-from-h2-2
+    mul-h2-3
+    element-set-from-h2-3
     add-i3-2
     loop6-less
     loop6-again

@@ -5,28 +5,28 @@ use Rattle.guard_cases.proofs.show.rights.Statement.{statement}
 use Rattle.guard_cases.proofs.show.rights.Tie as tie
 
 abbrev Inv-loop : tie.InvT-loop
-Inv-loop p e₀ t5 t6 e = e ≤ 64
+Inv-loop p e₀ t4 t5 e = e ≤ 64
 
 abbrev μ-loop : tie.MeasureT-loop
-μ-loop p e₀ t5 t6 e = 64 - e
+μ-loop p e₀ t4 t5 e = 64 - e
 
 loop-holds : tie.Need-loop-holds Inv-loop μ-loop
 loop-holds c = search needs
 
-element-copy-out-n : tie.Need-element-copy-out-n Inv-loop μ-loop
-element-copy-out-n c = search needs
+rights-on-requires : tie.Need-rights-on-requires Inv-loop μ-loop
+rights-on-requires c κs = search needs
 
 slice-aggregate-pair : tie.Need-slice-aggregate-pair Inv-loop μ-loop
 slice-aggregate-pair c = search needs
+
+cast-pair : tie.Need-cast-pair Inv-loop μ-loop
+cast-pair c = search needs
 
 pair-requires : tie.Need-pair-requires Inv-loop μ-loop
 pair-requires c κs = search needs
 
 slice-aggregate-pair-2 : tie.Need-slice-aggregate-pair-2 Inv-loop μ-loop
 slice-aggregate-pair-2 c = search needs
-
-cast-pair : tie.Need-cast-pair Inv-loop μ-loop
-cast-pair c = search needs
 
 pair-requires-2 : tie.Need-pair-requires-2 Inv-loop μ-loop
 pair-requires-2 c κs = search needs
@@ -50,11 +50,11 @@ rights-spec =
     Inv-loop
     μ-loop
     loop-holds
-    element-copy-out-n
+    rights-on-requires
     slice-aggregate-pair
+    cast-pair
     pair-requires
     slice-aggregate-pair-2
-    cast-pair
     pair-requires-2
     add-e
     loop-less

@@ -1,0 +1,66 @@
+-- Grant and revoke change the sets of the rights named, and no other.
+--     granted, revoked, owned       .. are the rights joined, taken away, and own joined
+-- Assumes nothing.
+use Prim.Native.Nat.{ℕ, _^_}
+use mathlib.Core.Path.{_≡_, refl, sym, ap, _∙_}
+use mathlib.Core.Bool.{Bool, true, false, not, cond, _&&_, _||_, or-true, or-false, and-true, and-false}
+use Rattle.bitset.specs.Sets.{has, contains, with, join, minus}
+use Rattle.bitset.specs.Sets.Laws.{has-join, has-minus}
+use Rattle.guard.specs.Tables.{read, write, execute, own, rightsOf}
+use Rattle.guard.specs.Edits.{put, setRights, addRights, removeRights}
+use Rattle.guard.specs.Inside.{setAfter, grantedAfter}
+use Rattle.guard.specs.declared.Role.{Role}
+use Rattle.guard.proofs.Laws.Rights.{contains-read, contains-write, contains-execute, contains-own, put-same}
+use Rattle.guard.proofs.Scans.{contains-one}
+
+-- one set, of the right at bit i
+module _ (i old m e s : ℕ) (same : contains old (2 ^ i) ≡ has s e) where
+  bit : has old i ≡ has s e
+  bit = sym (contains-one old i) ∙ same
+
+  joined : contains (join old m) (2 ^ i) ≡ (has s e || contains m (2 ^ i))
+  joined = contains-one (join old m) i ∙ rw (has-join, bit, ← contains-one m i)
+
+  lost : contains (minus old m) (2 ^ i) ≡ (has s e && not (contains m (2 ^ i)))
+  lost = contains-one (minus old m) i ∙ rw (has-minus, bit, ← contains-one m i)
+
+  grant-set : put (contains (join old m) (2 ^ i)) e s ≡ setAfter 10 (contains m (2 ^ i)) e s
+  unfolding setAfter
+  grant-set = rw joined (go (contains m (2 ^ i)))
+    where
+      go : (b : Bool) → put (has s e || b) e s ≡ cond b (put true e s) s
+      go true = rw (or-true (has s e))
+      go false = rw (or-false (has s e)) (put-same e s)
+
+  revoke-set : put (contains (minus old m) (2 ^ i)) e s ≡ setAfter 11 (contains m (2 ^ i)) e s
+  unfolding setAfter
+  revoke-set = rw lost (go (contains m (2 ^ i)))
+    where
+      go : (b : Bool) → put (has s e && not b) e s ≡ cond b (put false e s) s
+      go true = rw (and-false (has s e))
+      go false = rw (and-true (has s e)) (put-same e s)
+
+module _ (e : ℕ) (p : Role) where
+  pub granted : (m : ℕ) → grantedAfter 10 m e p ≡ addRights e m p
+  unfolding grantedAfter addRights setRights
+  granted m =
+      rw (
+        grant-set 0 (rightsOf p e) m e (p .reads) (contains-read p e),
+        grant-set 1 (rightsOf p e) m e (p .writes) (contains-write p e),
+        grant-set 2 (rightsOf p e) m e (p .executes) (contains-execute p e),
+        grant-set 3 (rightsOf p e) m e (p .owns) (contains-own p e),
+      )
+
+  pub revoked : (m : ℕ) → grantedAfter 11 m e p ≡ removeRights e m p
+  unfolding grantedAfter removeRights setRights
+  revoked m =
+      rw (
+        revoke-set 0 (rightsOf p e) m e (p .reads) (contains-read p e),
+        revoke-set 1 (rightsOf p e) m e (p .writes) (contains-write p e),
+        revoke-set 2 (rightsOf p e) m e (p .executes) (contains-execute p e),
+        revoke-set 3 (rightsOf p e) m e (p .owns) (contains-own p e),
+      )
+
+  pub owned : record { live = p .live; users = p .users; reads = p .reads; writes = p .writes; executes = p .executes; owns = with (p .owns) e } ≡ addRights e own p
+  unfolding grantedAfter setAfter put contains
+  owned = granted own
