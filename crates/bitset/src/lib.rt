@@ -1,11 +1,11 @@
 // Sets of small numbers, each held as one unsigned integer: member `i` is bit `i`.
 //
 // Each function equals the operation of the same name in specs/Sets, which is free of the width. `has`, `without`,
-// `contains`, `join` and `minus` take any arguments; `with` alone has a `requires`, since a set of w bits has no
+// `contains` and `minus` take any arguments; `with` alone has a `requires`, since a set of w bits has no
 // place for a member past it. Assumes nothing.
 ghost use mathlib.Core.Path.{_≡_};
 ghost use Prim.Native.Nat.{_<_};
-ghost use Rattle.bitset.specs.Sets.{has, with, without, contains, join, minus};
+ghost use Rattle.bitset.specs.Sets.{has, with, without, contains, minus};
 
 // Whether `i` is a member; no number past the width is.
 pub fn has16(s: u16, i: u32) -> bool
@@ -77,13 +77,6 @@ pub fn contains64(s: u64, m: u64) -> bool
     ensures { λ r. ⌜ r ≡ contains s m ⌝ }
 {
     s & m == m
-}
-
-// The members of either.
-pub fn join8(s: u8, m: u8) -> u8
-    ensures { λ r. ⌜ r ≡ join s m ⌝ }
-{
-    s | m
 }
 
 // The members of `s` that are none of `m`.

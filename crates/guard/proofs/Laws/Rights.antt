@@ -2,10 +2,10 @@
 --     rights-none, rights-zero                                          no rights are no membership, and back
 --     contains-read, contains-write, contains-execute, contains-own     one right is one membership
 --     rights-small                                                      rights are below 16
---     has-put-same, has-put-other, put-same, put-small                  a set with e put in or out
+--     has-put-same, has-put-other, put-same                             a set with e put in or out
 --     rights-granted, rights-other, rights-cleared                      the rights after an edit, on e and on others
 -- Assumes nothing.
-use Prim.Native.Nat.{ℕ, _+_, _^_, _<_}
+use Prim.Native.Nat.{ℕ, _+_, _<_}
 use mathlib.Core.Path.{_≡_, refl}
 use mathlib.Core.Bool.{Bool, true, false, cond}
 use lib.Dec.{eqb}
@@ -15,7 +15,7 @@ use borrow.Author.Tests.{eqb-true}
 use Rattle.bitset.specs.Tests.{all}
 use Rattle.bitset.specs.Tests.Laws.{all-e}
 use Rattle.bitset.specs.Sets.{has, contains}
-use Rattle.bitset.specs.Sets.Laws.{sets-ext, has-with-same, has-with-other, has-without-same, has-without-other, with-lt, without-le}
+use Rattle.bitset.specs.Sets.Laws.{sets-ext, has-with-same, has-with-other, has-without-same, has-without-other}
 use Rattle.guard.specs.Tables.{rightsOf}
 use Rattle.guard.specs.Edits.{put, granting, setRights, clearRights}
 use Rattle.guard.specs.declared.Role.{Role}
@@ -107,11 +107,6 @@ put-same e s = sets-ext (put (has s e) e s) s (λ i. go i (ℕ-discrete i e))
     go : (i : ℕ) → Dec (i ≡ e) → has (put (has s e) e s) i ≡ has s i
     go i (yes same) = rw same (has-put-same (has s e) e s)
     go i (no ne) = has-put-other (has s e) e s i ne
-
-pub put-small : (b : Bool) (e s : ℕ) → s < 2 ^ 64 → e < 64 → put b e s < 2 ^ 64
-unfolding put
-put-small true e s h l = with-lt 64 s e h l
-put-small false e s h l = omega (arith, without-le s e)
 
 -- ---- the rights after an edit
 -- a number below 16 is its four flags, added up
