@@ -96,13 +96,13 @@ module _ (t : Tables) (ok : sound t ≡ true) (e : ℕ) where
 
 -- ---- the sweeps of delete and of unmake, done
 pub swept-entity : (t : Tables) (e : ℕ) (f : Entity) (u v : Tables) → f ≡ noEntity → length (t .roles) ≡ 16 → length (t .sessions) ≡ 16
-    → u ≡ withRoles (withEntities t (set (t .entities) e f)) (mapped (clearRights e) 16 (t .roles))
-    → v ≡ withSessions u (mapped (closeBoth e) 16 (u .sessions))
+    → u ≡ withSessions (withEntities t (set (t .entities) e f)) (mapped (closeBoth e) 16 (t .sessions))
+    → v ≡ withRoles u (mapped (clearRights e) 16 (u .roles))
     → v ≡ eachSession (closeBoth e) (eachRole (clearRights e) (atEntity e (λ old. noEntity) t))
 unfolding eachSession eachRole atEntity
 swept-entity t e f u v dead roles sessions hu hv =
-    let cleared = roles-all (clearRights e) u (withEntities t (set (t .entities) e f)) 16 roles hu in
-    sessions-all (closeBoth e) v u 16 (rw cleared sessions) hv ∙ rw (cleared, dead)
+    let closed = sessions-all (closeBoth e) u (withEntities t (set (t .entities) e f)) 16 sessions hu in
+    roles-all (clearRights e) v u 16 (rw closed roles) hv ∙ rw (closed, dead)
 
 pub swept-role : (t : Tables) (r : ℕ) (p : Role) (v : Tables) → p ≡ noRole → length (t .sessions) ≡ 16
     → v ≡ withSessions (withRoles t (set (t .roles) r p)) (mapped (dropRole r) 16 (t .sessions))

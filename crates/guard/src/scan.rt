@@ -8,6 +8,7 @@ ghost use mathlib.Core.Bool.{not};
 ghost use mathlib.Core.List.{[], _∷_};
 ghost use lib.Dec.{eqb};
 ghost use Rattle.bitset.specs.Tests.{every, either};
+ghost use Rattle.bitset.specs.Sets.{has};
 ghost use Rattle.guard.specs.Scan.{having, markedOf, maskOf};
 
 // The entities on which role `p` has the right: read 1, write 2, execute 4, else own.
@@ -24,6 +25,14 @@ pub fn having(right: u8, p: Role) -> u64
         return p.writes;
     }
     p.owns
+}
+
+// `i` is a member. (`bitset::has64` would test that it is below 64.)
+pub fn is_in(set: u64, i: usize) -> bool
+    requires { ⌜ i < 64 ⌝ }
+    ensures { λ b. ⌜ b ≡ has set i ⌝ }
+{
+    (set >> (i as u64)) & 1 == 1
 }
 
 // A mark and a number as one number.

@@ -29,8 +29,19 @@ impl Tables {
         let s = self.sessions[x];
         let f = self.entities[e];
         let o = look::parent_of(q, f);
-        // What 13, 14 and 15 ask: the rights that the roles held give, then the way up by them, then the children.
+        // What 13, 14 and 15 ask: the children; where the roles held give the right, then the way up by those with execute.
         let w = look::scope_of(q.call, e, o, s.roles, s.writing);
+        let mut child = false;
+        if w.kids {
+            let kin = w.kin;
+            let base = kin / 16 * 16;
+            let mut j = 0usize;
+            while j < 16 {
+                let h = self.entities[base + j];
+                child = child | scan::is_kin(h, kin, w.named, q.name);
+                j += 1;
+            }
+        }
         let mut may = false;
         if w.opened {
             let at = w.at;
@@ -50,27 +61,16 @@ impl Tables {
                     through = through | h.executes;
                 }
             }
-            may = bitset::has64(asked, at as u32);
+            may = scan::is_in(asked, at);
             let mut a = w.from;
             let mut steps = 16usize;
             while (steps != 0) & (a % 16 != 0) {
                 let h = self.entities[a];
                 a = h.parent as usize;
-                may = may & bitset::has64(through, a as u32);
+                may = may & scan::is_in(through, a);
                 steps -= 1;
             }
             may = may & (a % 16 == 0);
-        }
-        let mut child = false;
-        if w.kids {
-            let kin = w.kin;
-            let base = kin / 16 * 16;
-            let mut j = 0usize;
-            while j < 16 {
-                let h = self.entities[base + j];
-                child = child | scan::is_kin(h, kin, w.named, q.name);
-                j += 1;
-            }
         }
         let u = self.users[k];
         let p = self.roles[r];
@@ -101,6 +101,13 @@ impl Tables {
                     let p3 = roles::after(q, k, e, p2);
                     self.roles[r] = p3;
                 } else if call == 8 {
+                    let mut i3 = 0usize;
+                    while i3 < 16 {
+                        let h = self.sessions[i3];
+                        let h2 = sessions::closed(e, h);
+                        self.sessions[i3] = h2;
+                        i3 += 1;
+                    }
                     let mut i2 = 0usize;
                     while i2 < 16 {
                         let j2 = i2;
@@ -111,13 +118,6 @@ impl Tables {
                             let h2 = roles::cleared(e, h);
                             self.roles[j2] = h2;
                         }
-                    }
-                    let mut i3 = 0usize;
-                    while i3 < 16 {
-                        let h = self.sessions[i3];
-                        let h2 = sessions::closed(e, h);
-                        self.sessions[i3] = h2;
-                        i3 += 1;
                     }
                 }
             } else {

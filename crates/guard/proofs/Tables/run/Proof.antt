@@ -39,40 +39,40 @@ use Rattle.guard.proofs.Tables.run.Statement.{statement}
 use Rattle.guard.proofs.Tables.run.Tie as tie
 
 abbrev Inv-loop2 : tie.InvT-loop2
-Inv-loop2 count self requests answers t q x r e k s f o w may at right asked₀ through₀ i₀ left₀ asked through i left = Gathered self (w .held) (w .right) at i left asked × Gathered self (w .held) execute at i left through
+Inv-loop2 count self requests answers t q x r e k s f o w child₀ kin base j₀ child j = Block (kinSeen self kin (w .named) (q .name)) kin j child
 
 abbrev μ-loop2 : tie.MeasureT-loop2
-μ-loop2 count self requests answers t q x r e k s f o w may at right asked₀ through₀ i₀ left₀ asked through i left = left
+μ-loop2 count self requests answers t q x r e k s f o w child₀ kin base j₀ child j = 16 - j
 
 abbrev Inv-loop3 : tie.InvT-loop3
-Inv-loop3 count self requests answers t q x r e k s f o w may₀ at right asked through i left a₀ steps₀ may a steps = Climbing self through a₀ may₀ steps a may
+Inv-loop3 count self requests answers t q x r e k s f o w child may at right asked₀ through₀ i₀ left₀ asked through i left = Gathered self (w .held) (w .right) at i left asked × Gathered self (w .held) execute at i left through
 
 abbrev μ-loop3 : tie.MeasureT-loop3
-μ-loop3 count self requests answers t q x r e k s f o w may₀ at right asked through i left a₀ steps₀ may a steps = steps
+μ-loop3 count self requests answers t q x r e k s f o w child may at right asked₀ through₀ i₀ left₀ asked through i left = left
 
 abbrev Inv-loop4 : tie.InvT-loop4
-Inv-loop4 count self requests answers t q x r e k s f o w may child₀ kin base j₀ child j = Block (kinSeen self kin (w .named) (q .name)) kin j child
+Inv-loop4 count self requests answers t q x r e k s f o child may₀ at right asked through i left a₀ steps₀ may a steps = Climbing self through a₀ may₀ steps a may
 
 abbrev μ-loop4 : tie.MeasureT-loop4
-μ-loop4 count self requests answers t q x r e k s f o w may child₀ kin base j₀ child j = 16 - j
+μ-loop4 count self requests answers t q x r e k s f o child may₀ at right asked through i left a₀ steps₀ may a steps = steps
 
 abbrev Inv-loop5 : tie.InvT-loop5
-Inv-loop5 count self₀ requests answers t x r e k o may child n call i2₀ self i2 = (i2 ≤ 16) × (self ≡ withRoles self₀ (mapped (clearRights e) i2 (self₀ .roles)))
+Inv-loop5 count self₀ requests answers t x r e k o child may n call i3₀ self i3 = (i3 ≤ 16) × (self ≡ withSessions self₀ (mapped (closeBoth e) i3 (self₀ .sessions)))
 
 abbrev μ-loop5 : tie.MeasureT-loop5
-μ-loop5 count self₀ requests answers t x r e k o may child n call i2₀ self i2 = 16 - i2
+μ-loop5 count self₀ requests answers t x r e k o child may n call i3₀ self i3 = 16 - i3
 
 abbrev Inv-loop6 : tie.InvT-loop6
-Inv-loop6 count self₀ requests answers t x r e k o may child n call i2 i3₀ self i3 = (i3 ≤ 16) × (self ≡ withSessions self₀ (mapped (closeBoth e) i3 (self₀ .sessions)))
+Inv-loop6 count self₀ requests answers t x r e k o child may n call i3 i2₀ self i2 = (i2 ≤ 16) × (self ≡ withRoles self₀ (mapped (clearRights e) i2 (self₀ .roles)))
 
 abbrev μ-loop6 : tie.MeasureT-loop6
-μ-loop6 count self₀ requests answers t x r e k o may child n call i2 i3₀ self i3 = 16 - i3
+μ-loop6 count self₀ requests answers t x r e k o child may n call i3 i2₀ self i2 = 16 - i2
 
 abbrev Inv-loop7 : tie.InvT-loop7
-Inv-loop7 count self₀ requests answers t x r e k o may child n call i3₀ self i3 = (i3 ≤ 16) × (self ≡ withSessions self₀ (mapped (dropRole r) i3 (self₀ .sessions)))
+Inv-loop7 count self₀ requests answers t x r e k o child may n call i3₀ self i3 = (i3 ≤ 16) × (self ≡ withSessions self₀ (mapped (dropRole r) i3 (self₀ .sessions)))
 
 abbrev μ-loop7 : tie.MeasureT-loop7
-μ-loop7 count self₀ requests answers t x r e k o may child n call i3₀ self i3 = 16 - i3
+μ-loop7 count self₀ requests answers t x r e k o child may n call i3₀ self i3 = 16 - i3
 
 abbrev Inv-loop : tie.InvT-loop
 Inv-loop count self₀ requests answers₀ t₀ self answers t = (t ≤ count) × Held self₀ requests t self answers × Sized self
@@ -97,15 +97,15 @@ turned c o stepped sized =
     let l = many (c .before .before .before .before .before) in
     (omega arith, held-more _ _ _ _ _ noRequest (c .before .loop .inv .1) o stepped (omega arith) (omega arith), sized)
 
-children : (c : At tie.Joined5) → (c .before .before .scope-of .result) .kids ≡ true → ((c .before .before .scope-of .result) .named ≡ true → 1 ≤ (getD (c .before .before .before .before .before .before .before .before .before .before .before .before .before .before .before .before .args .t2) (c .before .before .before .before .before .before .before .before .before .before .before .before .loop .t) noRequest) .name) → ((c .before .before .scope-of .result) .named ≡ false → isRoot ((c .before .before .scope-of .result) .kin) ≡ false)
-    → c .if5 .child ≡ some 64 (kinTest (c .before .before .before .before .before .before .before .before .before .before .before .before .loop .self) ((c .before .before .scope-of .result) .kin) ((c .before .before .scope-of .result) .named) ((getD (c .before .before .before .before .before .before .before .before .before .before .before .before .before .before .before .before .args .t2) (c .before .before .before .before .before .before .before .before .before .before .before .before .loop .t) noRequest) .name))
+children : (c : At tie.Joined3) → (c .before .scope-of .result) .kids ≡ true → ((c .before .scope-of .result) .named ≡ true → 1 ≤ (getD (c .before .before .before .before .before .before .before .before .before .before .before .before .before .before .before .args .t2) (c .before .before .before .before .before .before .before .before .before .before .before .loop .t) noRequest) .name) → ((c .before .scope-of .result) .named ≡ false → isRoot ((c .before .scope-of .result) .kin) ≡ false)
+    → c .if3 .child ≡ some 64 (kinTest (c .before .before .before .before .before .before .before .before .before .before .before .loop .self) ((c .before .scope-of .result) .kin) ((c .before .scope-of .result) .named) ((getD (c .before .before .before .before .before .before .before .before .before .before .before .before .before .before .before .args .t2) (c .before .before .before .before .before .before .before .before .before .before .before .loop .t) noRequest) .name))
 children c on asked other =
     ⊎-elim
-    (λ y. y .3 ∙ kin-all _ (c .before .before .before .before .before .before .before .before .before .before .before .before .loop .inv .1 .isSound) _ _ _ asked other (c .before .before .scope-of .ensures .kinIn) _ _ (y .1 .inv) (omega (arith, y .2 .left)))
+    (λ y. y .3 ∙ kin-all _ (c .before .before .before .before .before .before .before .before .before .before .before .loop .inv .1 .isSound) _ _ _ asked other (c .before .scope-of .ensures .kinIn) _ _ (y .1 .inv) (omega (arith, y .2 .left)))
     (λ y. absurd (clash _ on (y .0 .left)))
-    (c .if5 .came)
+    (c .if3 .came)
 
-found : (c : At tie.Joined5) → Found (c .before .before .before .before .before .before .before .before .before .before .before .before .loop .self) (c .before .before .scope-of .result) ((getD (c .before .before .before .before .before .before .before .before .before .before .before .before .before .before .before .before .args .t2) (c .before .before .before .before .before .before .before .before .before .before .before .before .loop .t) noRequest) .name) (c .before .if3 .may) (c .if5 .child)
+found : (c : At tie.Joined4) → Found (c .before .before .before .before .before .before .before .before .before .before .before .before .loop .self) (c .before .before .scope-of .result) ((getD (c .before .before .before .before .before .before .before .before .before .before .before .before .before .before .before .before .args .t2) (c .before .before .before .before .before .before .before .before .before .before .before .before .loop .t) noRequest) .name) (c .if4 .may) (c .before .if3 .child)
 found c =
     record {
       opened = λ on.
@@ -120,9 +120,9 @@ found c =
             },
           ))
           (λ y. absurd (clash _ on (y .0 .left)))
-          (c .before .if3 .came);
-      shut = λ off. ⊎-elim (λ y. absurd (clash _ (y .0 .taken) off)) (λ y. y .1) (c .before .if3 .came);
-      kids = children c;
+          (c .if4 .came);
+      shut = λ off. ⊎-elim (λ y. absurd (clash _ (y .0 .taken) off)) (λ y. y .1) (c .if4 .came);
+      kids = children (c .before);
     }
 
 concerned : (c : At tie.After-below163) → Concerned (getD (c .before .before .before .before .before .before .before .before .before .before .args .t2) (c .before .before .before .before .before .before .loop .t) noRequest) (c .before .before .before .below16 .result) (c .before .before .below162 .result) (c .before .below64 .result) (c .below163 .result)
@@ -150,11 +150,11 @@ swept-delete : (c : At tie.After-loop6) → c .before .loop6 .self ≡ ruleOf (a
 swept-delete c =
     let roles : length ((tables (c .before .before .before .before .before .before .before .before .before .before)) .roles) ≡ 16 = c .before .before .before .before .before .before .before .before .before .before .before .before .before .before .before .before .before .before .before .before .before .before .before .before .before .before .loop .inv .2 .roles in
     let sessions : length ((tables (c .before .before .before .before .before .before .before .before .before .before)) .sessions) ≡ 16 = c .before .before .before .before .before .before .before .before .before .before .before .before .before .before .before .before .before .before .before .before .before .before .before .before .before .before .loop .inv .2 .sessions in
-    let i : c .before .before .before .loop5 .i2 ≡ 16 = omega arith in
-    let j : c .before .loop6 .i3 ≡ 16 = omega arith in
+    let i : c .before .loop6 .i2 ≡ 16 = omega arith in
+    let j : c .before .before .before .loop5 .i3 ≡ 16 = omega arith in
     let delete : asked (c .before .before .before .before .before .before .before .before .before .before) .call ≡ 8 = c .before .before .before .before .if10 .taken in
     let z = (sym (c .before .before .before .before .before .before .before .before .before .if6 .taken) ∙ judged (c .before .before .before .before .before .before .before .before .before .before)) in
-    swept-entity (tables (c .before .before .before .before .before .before .before .before .before .before)) (c .before .before .before .before .before .before .before .before .before .before .before .before .before .before .before .before .before .before .before .before .before .below64 .result) (c .before .before .before .before .before .before .after2 .result) (c .before .before .before .loop5 .self) (c .before .loop6 .self) (deleted _ _ z _ _ _ _ (near (c .before .before .before .before .before .before .before .before .before .before)) delete _ _ (c .before .before .before .before .before .before .after2 .ensures)) roles sessions (rw i at (c .before .before .before .loop5 .inv .1)) (rw j at (c .before .loop6 .inv .1))
+    swept-entity (tables (c .before .before .before .before .before .before .before .before .before .before)) (c .before .before .before .before .before .before .before .before .before .before .before .before .before .before .before .before .before .before .before .before .before .below64 .result) (c .before .before .before .before .before .before .after2 .result) (c .before .before .before .loop5 .self) (c .before .loop6 .self) (deleted _ _ z _ _ _ _ (near (c .before .before .before .before .before .before .before .before .before .before)) delete _ _ (c .before .before .before .before .before .before .after2 .ensures)) roles sessions (rw j at (c .before .before .before .loop5 .inv .1)) (rw i at (c .before .loop6 .inv .1))
     ∙ delete-done _ _ z _ _ _ _ (near (c .before .before .before .before .before .before .before .before .before .before)) delete
 
 swept-unmake : (c : At tie.After-loop7) → c .before .loop7 .self ≡ ruleOf (asked (c .before .before .before .before .before .before .before .before)) .effect (asked (c .before .before .before .before .before .before .before .before)) (tables (c .before .before .before .before .before .before .before .before))
@@ -222,100 +222,94 @@ parent-of-requires c κs = parent-small _ (c .before .before .before .before .be
 scope-of-requires : At tie.Need-scope-of-requires
 scope-of-requires c κs = (c .before .before .before .before .below64 .ensures .small, c .parent-of .ensures .small)
 
-mul-i : At tie.Need-mul-i
-mul-i c = omega (arith, c .before .scope-of .ensures .atIn)
+mul-base : At tie.Need-mul-base
+mul-base c = omega (arith, c .before .scope-of .ensures .kinIn)
 
 loop2-holds : At tie.Need-loop2-holds
-loop2-holds c = (gathered-start _ _ _ _ _ (c .before .scope-of .ensures .atIn) (c .before .scope-of .ensures .left), gathered-start _ _ _ _ _ (c .before .scope-of .ensures .atIn) (c .before .scope-of .ensures .left))
+loop2-holds c = block-start _ _
+
+add-h : At tie.Need-add-h
+add-h c = omega (arith, c .before .before .before .scope-of .ensures .kinIn)
+
+mul-h : At tie.Need-mul-h
+mul-h c = omega (arith, c .before .before .before .scope-of .ensures .kinIn)
+
+element-copy-out-h : At tie.Need-element-copy-out-h
+element-copy-out-h c = omega (arith, c .before .before .before .scope-of .ensures .kinIn)
+
+is-kin-requires : At tie.Need-is-kin-requires
+is-kin-requires c κs = c .before .before .before .before .scope-of .ensures .kinIn
+
+add-j : At tie.Need-add-j
+add-j c = omega arith
+
+loop2-less : At tie.Need-loop2-less
+loop2-less c = omega arith
+
+loop2-again : At tie.Need-loop2-again
+unfolding kinSeen
+loop2-again c = block-more _ _ _ _ _ (c .before .before .before .loop2 .inv) (c .is-kin .ensures) (c .before .before .loop2-test .taken)
+
+mul-i : At tie.Need-mul-i
+mul-i c = omega (arith, c .before .before .scope-of .ensures .atIn)
+
+loop3-holds : At tie.Need-loop3-holds
+loop3-holds c = (gathered-start _ _ _ _ _ (c .before .before .scope-of .ensures .atIn) (c .before .before .scope-of .ensures .left), gathered-start _ _ _ _ _ (c .before .before .scope-of .ensures .atIn) (c .before .before .scope-of .ensures .left))
 
 has16-requires : At tie.Need-has16-requires
 has16-requires c κs = search needs
 
 add-i : At tie.Need-add-i
-add-i c = omega (arith, c .before .before .loop2 .inv .0 .walk .most)
+add-i c = omega (arith, c .before .before .loop3 .inv .0 .walk .most)
 
-mul-h : At tie.Need-mul-h
-mul-h c = omega (arith, walk-in _ _ _ _ (c .before .before .before .loop2 .inv .0 .walk) (c .before .before .before .before .before .scope-of .ensures .heldIn) (c .before .before .loop2-test .taken))
+mul-h-2 : At tie.Need-mul-h-2
+mul-h-2 c = omega (arith, walk-in _ _ _ _ (c .before .before .before .loop3 .inv .0 .walk) (c .before .before .before .before .before .before .scope-of .ensures .heldIn) (c .before .before .loop3-test .taken))
 
-element-copy-out-h : At tie.Need-element-copy-out-h
-element-copy-out-h c = walk-in _ _ _ _ (c .before .before .before .loop2 .inv .0 .walk) (c .before .before .before .before .before .scope-of .ensures .heldIn) (c .before .before .loop2-test .taken)
+element-copy-out-h-2 : At tie.Need-element-copy-out-h-2
+element-copy-out-h-2 c = walk-in _ _ _ _ (c .before .before .before .loop3 .inv .0 .walk) (c .before .before .before .before .before .before .scope-of .ensures .heldIn) (c .before .before .loop3-test .taken)
 
 having-requires : At tie.Need-having-requires
 having-requires c κs = search needs
 
-loop2-less : At tie.Need-loop2-less
-loop2-less c = omega (arith, c .before .before .before .before .before .loop2-test .taken)
+loop3-less : At tie.Need-loop3-less
+loop3-less c = omega (arith, c .before .before .before .before .before .loop3-test .taken)
 
-loop2-again : At tie.Need-loop2-again
+loop3-again : At tie.Need-loop3-again
 unfolding join having
-loop2-again c = (gathered-join _ _ _ _ _ _ _ (c .before .before .before .before .before .before .loop2 .inv .0) (c .before .before .before .before .before .before .before .before .scope-of .ensures .single (c .before .before .before .before .before .before .before .if3 .taken)) (sym (c .before .before .before .before .has16 .ensures) ∙ c .before .before .before .if4 .taken) (walk-in _ _ _ _ (c .before .before .before .before .before .before .loop2 .inv .0 .walk) (c .before .before .before .before .before .before .before .before .scope-of .ensures .heldIn) (c .before .before .before .before .before .loop2-test .taken)) _ (c .before .having .ensures), gathered-join _ _ _ _ _ _ _ (c .before .before .before .before .before .before .loop2 .inv .1) (inr (inr (inl refl))) (sym (c .before .before .before .before .has16 .ensures) ∙ c .before .before .before .if4 .taken) (walk-in _ _ _ _ (c .before .before .before .before .before .before .loop2 .inv .0 .walk) (c .before .before .before .before .before .before .before .before .scope-of .ensures .heldIn) (c .before .before .before .before .before .loop2-test .taken)) _ refl)
+loop3-again c = (gathered-join _ _ _ _ _ _ _ (c .before .before .before .before .before .before .loop3 .inv .0) (c .before .before .before .before .before .before .before .before .before .scope-of .ensures .single (c .before .before .before .before .before .before .before .if4 .taken)) (sym (c .before .before .before .before .has16 .ensures) ∙ c .before .before .before .if5 .taken) (walk-in _ _ _ _ (c .before .before .before .before .before .before .loop3 .inv .0 .walk) (c .before .before .before .before .before .before .before .before .before .scope-of .ensures .heldIn) (c .before .before .before .before .before .loop3-test .taken)) _ (c .before .having .ensures), gathered-join _ _ _ _ _ _ _ (c .before .before .before .before .before .before .loop3 .inv .1) (inr (inr (inl refl))) (sym (c .before .before .before .before .has16 .ensures) ∙ c .before .before .before .if5 .taken) (walk-in _ _ _ _ (c .before .before .before .before .before .before .loop3 .inv .0 .walk) (c .before .before .before .before .before .before .before .before .before .scope-of .ensures .heldIn) (c .before .before .before .before .before .loop3-test .taken)) _ refl)
 
-loop2-less-2 : At tie.Need-loop2-less-2
-loop2-less-2 c = omega (arith, c .before .before .loop2-test .taken)
+loop3-less-2 : At tie.Need-loop3-less-2
+loop3-less-2 c = omega (arith, c .before .before .loop3-test .taken)
 
-loop2-again-2 : At tie.Need-loop2-again-2
-loop2-again-2 c = (gathered-skip _ _ _ _ _ _ _ (c .before .before .before .loop2 .inv .0) (sym (c .before .has16 .ensures) ∙ c .if4 .left) (walk-in _ _ _ _ (c .before .before .before .loop2 .inv .0 .walk) (c .before .before .before .before .before .scope-of .ensures .heldIn) (c .before .before .loop2-test .taken)), gathered-skip _ _ _ _ _ _ _ (c .before .before .before .loop2 .inv .1) (sym (c .before .has16 .ensures) ∙ c .if4 .left) (walk-in _ _ _ _ (c .before .before .before .loop2 .inv .0 .walk) (c .before .before .before .before .before .scope-of .ensures .heldIn) (c .before .before .loop2-test .taken)))
+loop3-again-2 : At tie.Need-loop3-again-2
+loop3-again-2 c = (gathered-skip _ _ _ _ _ _ _ (c .before .before .before .loop3 .inv .0) (sym (c .before .has16 .ensures) ∙ c .if5 .left) (walk-in _ _ _ _ (c .before .before .before .loop3 .inv .0 .walk) (c .before .before .before .before .before .before .scope-of .ensures .heldIn) (c .before .before .loop3-test .taken)), gathered-skip _ _ _ _ _ _ _ (c .before .before .before .loop3 .inv .1) (sym (c .before .has16 .ensures) ∙ c .if5 .left) (walk-in _ _ _ _ (c .before .before .before .loop3 .inv .0 .walk) (c .before .before .before .before .before .before .scope-of .ensures .heldIn) (c .before .before .loop3-test .taken)))
 
-cast-has64 : At tie.Need-cast-has64
-cast-has64 c = omega (arith, c .before .before .before .scope-of .ensures .atIn)
+is-in-requires : At tie.Need-is-in-requires
+is-in-requires c κs = c .before .before .before .before .scope-of .ensures .atIn
 
-has64-requires : At tie.Need-has64-requires
-has64-requires c κs = search needs
+loop4-holds : At tie.Need-loop4-holds
+loop4-holds c = climbing-start _ _ _ _ (c .before .before .before .before .before .scope-of .ensures .fromIn)
 
-loop3-holds : At tie.Need-loop3-holds
-loop3-holds c = climbing-start _ _ _ _ (c .before .before .before .before .scope-of .ensures .fromIn)
+mul-h-3 : At tie.Need-mul-h-3
+mul-h-3 c = omega (arith, c .before .loop4 .inv .inside)
 
-mul-h-2 : At tie.Need-mul-h-2
-mul-h-2 c = omega (arith, c .before .loop3 .inv .inside)
-
-element-copy-out-h-2 : At tie.Need-element-copy-out-h-2
-element-copy-out-h-2 c = c .before .loop3 .inv .inside
+element-copy-out-h-3 : At tie.Need-element-copy-out-h-3
+element-copy-out-h-3 c = c .before .loop4 .inv .inside
 
 cast-a : At tie.Need-cast-a
 cast-a c = search needs
 
-cast-has64-2 : At tie.Need-cast-has64-2
-cast-has64-2 c = omega (arith, parent-small _ (c .before .before .before .before .before .before .before .before .before .before .before .before .before .before .before .before .before .before .loop .inv .1 .isSound) _ (c .before .before .before .loop3 .inv .inside))
-
-has64-requires-2 : At tie.Need-has64-requires-2
-has64-requires-2 c κs = search needs
+is-in-requires-2 : At tie.Need-is-in-requires-2
+is-in-requires-2 c κs = parent-small _ (c .before .before .before .before .before .before .before .before .before .before .before .before .before .before .before .before .before .before .before .loop .inv .1 .isSound) _ (c .before .before .before .loop4 .inv .inside)
 
 sub-steps : At tie.Need-sub-steps
-sub-steps c = steps-left (c .before .before .before .before .loop3 .steps) (c .before .before .before .before .loop3 .a) (c .before .before .before .loop3-test .taken)
-
-loop3-less : At tie.Need-loop3-less
-loop3-less c = omega (arith, steps-left (c .before .before .before .before .loop3 .steps) (c .before .before .before .before .loop3 .a) (c .before .before .before .loop3-test .taken))
-
-loop3-again : At tie.Need-loop3-again
-loop3-again c = climbing-more _ _ _ _ _ _ _ (c .before .before .before .before .loop3 .inv) (c .before .before .before .before .before .before .before .before .before .before .before .before .before .before .before .before .before .before .before .loop .inv .1 .isSound) _ (c .before .before .before .loop3-test .taken) (c .has642 .ensures)
-
-mul-base : At tie.Need-mul-base
-mul-base c = omega (arith, c .before .before .scope-of .ensures .kinIn)
-
-loop4-holds : At tie.Need-loop4-holds
-loop4-holds c = block-start _ _
-
-add-h : At tie.Need-add-h
-add-h c = omega (arith, c .before .before .before .before .scope-of .ensures .kinIn)
-
-mul-h-3 : At tie.Need-mul-h-3
-mul-h-3 c = omega (arith, c .before .before .before .before .scope-of .ensures .kinIn)
-
-element-copy-out-h-3 : At tie.Need-element-copy-out-h-3
-element-copy-out-h-3 c = omega (arith, c .before .before .before .before .scope-of .ensures .kinIn)
-
-is-kin-requires : At tie.Need-is-kin-requires
-is-kin-requires c κs = c .before .before .before .before .before .scope-of .ensures .kinIn
-
-add-j : At tie.Need-add-j
-add-j c = omega arith
+sub-steps c = steps-left (c .before .before .before .before .loop4 .steps) (c .before .before .before .before .loop4 .a) (c .before .before .before .loop4-test .taken)
 
 loop4-less : At tie.Need-loop4-less
-loop4-less c = omega arith
+loop4-less c = omega (arith, steps-left (c .before .before .before .before .loop4 .steps) (c .before .before .before .before .loop4 .a) (c .before .before .before .loop4-test .taken))
 
 loop4-again : At tie.Need-loop4-again
-unfolding kinSeen
-loop4-again c = block-more _ _ _ _ _ (c .before .before .before .loop4 .inv) (c .is-kin .ensures) (c .before .before .loop4-test .taken)
+loop4-again c = climbing-more _ _ _ _ _ _ _ (c .before .before .before .before .loop4 .inv) (c .before .before .before .before .before .before .before .before .before .before .before .before .before .before .before .before .before .before .before .before .loop .inv .1 .isSound) _ (c .before .before .before .loop4-test .taken) (c .is-in2 .ensures)
 
 mul-u : At tie.Need-mul-u
 mul-u c = omega (arith, c .before .before .before .before .before .before .below163 .ensures .small)
@@ -398,29 +392,23 @@ mul-h-4 c = omega (arith, c .loop5-test .taken)
 element-copy-out-h-4 : At tie.Need-element-copy-out-h-4
 element-copy-out-h-4 c = c .loop5-test .taken
 
-add-i2 : At tie.Need-add-i2
-add-i2 c = omega (arith, c .before .loop5-test .taken)
-
-cleared-requires : At tie.Need-cleared-requires
-cleared-requires c κs = near (c .before .before .before .before .before .before .before .before .before .before) .entity .small
+closed-requires : At tie.Need-closed-requires
+closed-requires c κs = near (c .before .before .before .before .before .before .before .before .before) .entity .small
 
 mul-h2 : At tie.Need-mul-h2
-mul-h2 c = omega (arith, c .before .before .before .loop5-test .taken)
+mul-h2 c = omega (arith, c .before .before .loop5-test .taken)
 
 element-set-from-h2 : At tie.Need-element-set-from-h2
-element-set-from-h2 c = c .before .before .before .loop5-test .taken
+element-set-from-h2 c = c .before .before .loop5-test .taken
+
+add-i3 : At tie.Need-add-i3
+add-i3 c = omega (arith, c .before .before .loop5-test .taken)
 
 loop5-less : At tie.Need-loop5-less
-loop5-less c = omega (arith, c .before .before .before .loop5-test .taken)
+loop5-less c = omega (arith, c .before .before .loop5-test .taken)
 
 loop5-again : At tie.Need-loop5-again
-loop5-again c = (omega (arith, c .before .before .before .loop5-test .taken), rw (c .cleared .ensures) (roles-more (clearRights _) _ _ _ (c .before .before .before .before .loop5 .inv .1)))
-
-loop5-less-2 : At tie.Need-loop5-less-2
-loop5-less-2 c = omega (arith, c .before .before .loop5-test .taken)
-
-loop5-again-2 : At tie.Need-loop5-again-2
-loop5-again-2 c = (omega (arith, c .before .before .loop5-test .taken), roles-dead (tables (c .before .before .before .before .before .before .before .before .before .before)) (sure (c .before .before .before .before .before .before .before .before .before .before)) _ _ _ _ refl (c .before .before .loop5-test .taken) (c .before .before .before .loop5 .inv .1) (c .if11 .left))
+loop5-again c = (omega (arith, c .before .before .loop5-test .taken), rw (c .closed .ensures) (sessions-more (closeBoth _) _ _ _ (c .before .before .before .loop5 .inv .1)))
 
 loop6-holds : At tie.Need-loop6-holds
 loop6-holds c = (omega arith, refl)
@@ -429,7 +417,7 @@ loop-less-3 : At tie.Need-loop-less-3
 loop-less-3 c = let h = turn (c .before .before .before .before .before .before .before .before .before .before .before .before .before .before .before .before .before .before .before .before .before .before .before .before .before) in search needs
 
 loop-again-3 : At tie.Need-loop-again-3
-loop-again-3 c = turned (c .before .before .before .before .before .before .before .before .before .before .before .before .before .before .before .before .before .before .before .before .before .before .before .before .before) (outcome _ _) (does _ _ _ (sure (c .before .before .before .before .before .before .before .before .before .before)) (judged (c .before .before .before .before .before .before .before .before .before .before)) (c .before .before .before .before .before .before .before .before .before .if6 .taken) _ (swept-delete (c))) (sized-sessions _ (sized-roles _ (sized-entity _ (c .before .before .before .before .before .before .before .before .before .before .before .before .before .before .before .before .before .before .before .before .before .before .before .before .before .before .loop .inv .2) _) (clearRights (c .before .before .before .before .before .before .before .before .before .before .before .before .before .before .before .before .before .before .before .before .before .below64 .result)) (c .before .before .before .loop5 .i2) _ (c .before .before .before .loop5 .inv .1)) (closeBoth (c .before .before .before .before .before .before .before .before .before .before .before .before .before .before .before .before .before .before .before .before .before .below64 .result)) (c .before .loop6 .i3) _ (c .before .loop6 .inv .1))
+loop-again-3 c = turned (c .before .before .before .before .before .before .before .before .before .before .before .before .before .before .before .before .before .before .before .before .before .before .before .before .before) (outcome _ _) (does _ _ _ (sure (c .before .before .before .before .before .before .before .before .before .before)) (judged (c .before .before .before .before .before .before .before .before .before .before)) (c .before .before .before .before .before .before .before .before .before .if6 .taken) _ (swept-delete (c))) (sized-roles _ (sized-sessions _ (sized-entity _ (c .before .before .before .before .before .before .before .before .before .before .before .before .before .before .before .before .before .before .before .before .before .before .before .before .before .before .loop .inv .2) _) (closeBoth (c .before .before .before .before .before .before .before .before .before .before .before .before .before .before .before .before .before .before .before .before .before .below64 .result)) (c .before .before .before .loop5 .i3) _ (c .before .before .before .loop5 .inv .1)) (clearRights (c .before .before .before .before .before .before .before .before .before .before .before .before .before .before .before .before .before .before .before .before .before .below64 .result)) (c .before .loop6 .i2) _ (c .before .loop6 .inv .1))
 
 mul-h-5 : At tie.Need-mul-h-5
 mul-h-5 c = omega (arith, c .loop6-test .taken)
@@ -437,23 +425,29 @@ mul-h-5 c = omega (arith, c .loop6-test .taken)
 element-copy-out-h-5 : At tie.Need-element-copy-out-h-5
 element-copy-out-h-5 c = c .loop6-test .taken
 
-closed-requires : At tie.Need-closed-requires
-closed-requires c κs = near (c .before .before .before .before .before .before .before .before .before .before .before) .entity .small
+add-i2 : At tie.Need-add-i2
+add-i2 c = omega (arith, c .before .loop6-test .taken)
+
+cleared-requires : At tie.Need-cleared-requires
+cleared-requires c κs = near (c .before .before .before .before .before .before .before .before .before .before .before .before) .entity .small
 
 mul-h2-2 : At tie.Need-mul-h2-2
-mul-h2-2 c = omega (arith, c .before .before .loop6-test .taken)
+mul-h2-2 c = omega (arith, c .before .before .before .loop6-test .taken)
 
 element-set-from-h2-2 : At tie.Need-element-set-from-h2-2
-element-set-from-h2-2 c = c .before .before .loop6-test .taken
-
-add-i3 : At tie.Need-add-i3
-add-i3 c = omega (arith, c .before .before .loop6-test .taken)
+element-set-from-h2-2 c = c .before .before .before .loop6-test .taken
 
 loop6-less : At tie.Need-loop6-less
-loop6-less c = omega (arith, c .before .before .loop6-test .taken)
+loop6-less c = omega (arith, c .before .before .before .loop6-test .taken)
 
 loop6-again : At tie.Need-loop6-again
-loop6-again c = (omega (arith, c .before .before .loop6-test .taken), rw (c .closed .ensures) (sessions-more (closeBoth _) _ _ _ (c .before .before .before .loop6 .inv .1)))
+loop6-again c = (omega (arith, c .before .before .before .loop6-test .taken), rw (c .cleared .ensures) (roles-more (clearRights _) _ _ _ (c .before .before .before .before .loop6 .inv .1)))
+
+loop6-less-2 : At tie.Need-loop6-less-2
+loop6-less-2 c = omega (arith, c .before .before .loop6-test .taken)
+
+loop6-again-2 : At tie.Need-loop6-again-2
+loop6-again-2 c = (omega (arith, c .before .before .loop6-test .taken), roles-dead (tables (c .before .before .before .before .before .before .before .before .before .before .before .before)) (sure (c .before .before .before .before .before .before .before .before .before .before .before .before)) _ _ _ _ (ap (λ (v : Tables). v .roles) (c .before .before .before .before .before .loop5 .inv .1)) (c .before .before .loop6-test .taken) (c .before .before .before .loop6 .inv .1) (c .if11 .left))
 
 loop-less-4 : At tie.Need-loop-less-4
 loop-less-4 c = let h = turn (c .before .before .before .before .before .before .before .before .before .before .before .before .before .before .before .before .before .before .before .before .before) in search needs
@@ -563,35 +557,33 @@ run-spec =
     element-copy-out-f
     parent-of-requires
     scope-of-requires
-    mul-i
+    mul-base
     loop2-holds
-    has16-requires
-    add-i
+    add-h
     mul-h
     element-copy-out-h
-    having-requires
-    loop2-less
-    loop2-again
-    loop2-less-2
-    loop2-again-2
-    cast-has64
-    has64-requires
-    loop3-holds
-    mul-h-2
-    element-copy-out-h-2
-    cast-a
-    cast-has64-2
-    has64-requires-2
-    sub-steps
-    loop3-less
-    loop3-again
-    mul-base
-    loop4-holds
-    add-h
-    mul-h-3
-    element-copy-out-h-3
     is-kin-requires
     add-j
+    loop2-less
+    loop2-again
+    mul-i
+    loop3-holds
+    has16-requires
+    add-i
+    mul-h-2
+    element-copy-out-h-2
+    having-requires
+    loop3-less
+    loop3-again
+    loop3-less-2
+    loop3-again-2
+    is-in-requires
+    loop4-holds
+    mul-h-3
+    element-copy-out-h-3
+    cast-a
+    is-in-requires-2
+    sub-steps
     loop4-less
     loop4-again
     mul-u
@@ -621,25 +613,25 @@ run-spec =
     loop5-holds
     mul-h-4
     element-copy-out-h-4
-    add-i2
-    cleared-requires
+    closed-requires
     mul-h2
     element-set-from-h2
+    add-i3
     loop5-less
     loop5-again
-    loop5-less-2
-    loop5-again-2
     loop6-holds
     loop-less-3
     loop-again-3
     mul-h-5
     element-copy-out-h-5
-    closed-requires
+    add-i2
+    cleared-requires
     mul-h2-2
     element-set-from-h2-2
-    add-i3
     loop6-less
     loop6-again
+    loop6-less-2
+    loop6-again-2
     loop-less-4
     loop-again-4
     mul-p2-2

@@ -35,40 +35,40 @@ use Rattle.guard.proofs.Tables.step.Statement.{statement}
 use Rattle.guard.proofs.Tables.step.Tie as tie
 
 abbrev Inv-loop : tie.InvT-loop
-Inv-loop q self x r e k s f o w may at right asked₀ through₀ i₀ left₀ asked through i left = Gathered self (w .held) (w .right) at i left asked × Gathered self (w .held) execute at i left through
+Inv-loop q self x r e k s f o w child₀ kin base j₀ child j = Block (kinSeen self kin (w .named) (q .name)) kin j child
 
 abbrev μ-loop : tie.MeasureT-loop
-μ-loop q self x r e k s f o w may at right asked₀ through₀ i₀ left₀ asked through i left = left
+μ-loop q self x r e k s f o w child₀ kin base j₀ child j = 16 - j
 
 abbrev Inv-loop2 : tie.InvT-loop2
-Inv-loop2 q self x r e k s f o w may₀ at right asked through i left a₀ steps₀ may a steps = Climbing self through a₀ may₀ steps a may
+Inv-loop2 q self x r e k s f o w child may at right asked₀ through₀ i₀ left₀ asked through i left = Gathered self (w .held) (w .right) at i left asked × Gathered self (w .held) execute at i left through
 
 abbrev μ-loop2 : tie.MeasureT-loop2
-μ-loop2 q self x r e k s f o w may₀ at right asked through i left a₀ steps₀ may a steps = steps
+μ-loop2 q self x r e k s f o w child may at right asked₀ through₀ i₀ left₀ asked through i left = left
 
 abbrev Inv-loop3 : tie.InvT-loop3
-Inv-loop3 q self x r e k s f o w may child₀ kin base j₀ child j = Block (kinSeen self kin (w .named) (q .name)) kin j child
+Inv-loop3 q self x r e k s f o child may₀ at right asked through i left a₀ steps₀ may a steps = Climbing self through a₀ may₀ steps a may
 
 abbrev μ-loop3 : tie.MeasureT-loop3
-μ-loop3 q self x r e k s f o w may child₀ kin base j₀ child j = 16 - j
+μ-loop3 q self x r e k s f o child may₀ at right asked through i left a₀ steps₀ may a steps = steps
 
 abbrev Inv-loop4 : tie.InvT-loop4
-Inv-loop4 self₀ x r e k o may child n call i2₀ self i2 = (i2 ≤ 16) × (self ≡ withRoles self₀ (mapped (clearRights e) i2 (self₀ .roles)))
+Inv-loop4 self₀ x r e k o child may n call i3₀ self i3 = (i3 ≤ 16) × (self ≡ withSessions self₀ (mapped (closeBoth e) i3 (self₀ .sessions)))
 
 abbrev μ-loop4 : tie.MeasureT-loop4
-μ-loop4 self₀ x r e k o may child n call i2₀ self i2 = 16 - i2
+μ-loop4 self₀ x r e k o child may n call i3₀ self i3 = 16 - i3
 
 abbrev Inv-loop5 : tie.InvT-loop5
-Inv-loop5 self₀ x r e k o may child n call i2 i3₀ self i3 = (i3 ≤ 16) × (self ≡ withSessions self₀ (mapped (closeBoth e) i3 (self₀ .sessions)))
+Inv-loop5 self₀ x r e k o child may n call i3 i2₀ self i2 = (i2 ≤ 16) × (self ≡ withRoles self₀ (mapped (clearRights e) i2 (self₀ .roles)))
 
 abbrev μ-loop5 : tie.MeasureT-loop5
-μ-loop5 self₀ x r e k o may child n call i2 i3₀ self i3 = 16 - i3
+μ-loop5 self₀ x r e k o child may n call i3 i2₀ self i2 = 16 - i2
 
 abbrev Inv-loop6 : tie.InvT-loop6
-Inv-loop6 self₀ x r e k o may child n call i3₀ self i3 = (i3 ≤ 16) × (self ≡ withSessions self₀ (mapped (dropRole r) i3 (self₀ .sessions)))
+Inv-loop6 self₀ x r e k o child may n call i3₀ self i3 = (i3 ≤ 16) × (self ≡ withSessions self₀ (mapped (dropRole r) i3 (self₀ .sessions)))
 
 abbrev μ-loop6 : tie.MeasureT-loop6
-μ-loop6 self₀ x r e k o may child n call i3₀ self i3 = 16 - i3
+μ-loop6 self₀ x r e k o child may n call i3₀ self i3 = 16 - i3
 
 -- a place of the function, or what is asked there, with these
 abbrev At : (tie.InvT-loop → tie.MeasureT-loop → tie.InvT-loop2 → tie.MeasureT-loop2 → tie.InvT-loop3 → tie.MeasureT-loop3 → tie.InvT-loop4 → tie.MeasureT-loop4 → tie.InvT-loop5 → tie.MeasureT-loop5 → tie.InvT-loop6 → tie.MeasureT-loop6 → Type 0) → Type 0
@@ -78,15 +78,15 @@ At P = P Inv-loop μ-loop Inv-loop2 μ-loop2 Inv-loop3 μ-loop3 Inv-loop4 μ-loo
 sounds : (c : At tie.Else1) → sound (c .before .before .args .t1) ≡ true
 sounds c = sym (c .before .is-sound .ensures) ∙ not-false _ (c .if1 .left)
 
-children : (c : At tie.Joined4) → (c .before .before .scope-of .result) .kids ≡ true → ((c .before .before .scope-of .result) .named ≡ true → 1 ≤ (c .before .before .before .before .before .before .before .before .before .before .before .before .args .q) .name) → ((c .before .before .scope-of .result) .named ≡ false → isRoot ((c .before .before .scope-of .result) .kin) ≡ false)
-    → c .if4 .child ≡ some 64 (kinTest (c .before .before .before .before .before .before .before .before .before .before .before .before .args .t1) ((c .before .before .scope-of .result) .kin) ((c .before .before .scope-of .result) .named) ((c .before .before .before .before .before .before .before .before .before .before .before .before .args .q) .name))
+children : (c : At tie.Joined2) → (c .before .scope-of .result) .kids ≡ true → ((c .before .scope-of .result) .named ≡ true → 1 ≤ (c .before .before .before .before .before .before .before .before .before .before .before .args .q) .name) → ((c .before .scope-of .result) .named ≡ false → isRoot ((c .before .scope-of .result) .kin) ≡ false)
+    → c .if2 .child ≡ some 64 (kinTest (c .before .before .before .before .before .before .before .before .before .before .before .args .t1) ((c .before .scope-of .result) .kin) ((c .before .scope-of .result) .named) ((c .before .before .before .before .before .before .before .before .before .before .before .args .q) .name))
 children c on asked other =
     ⊎-elim
-    (λ y. y .3 ∙ kin-all _ (sounds (c .before .before .before .before .before .before .before .before .before .before)) _ _ _ asked other (c .before .before .scope-of .ensures .kinIn) _ _ (y .1 .inv) (omega (arith, y .2 .left)))
+    (λ y. y .3 ∙ kin-all _ (sounds (c .before .before .before .before .before .before .before .before .before)) _ _ _ asked other (c .before .scope-of .ensures .kinIn) _ _ (y .1 .inv) (omega (arith, y .2 .left)))
     (λ y. absurd (clash _ on (y .0 .left)))
-    (c .if4 .came)
+    (c .if2 .came)
 
-found : (c : At tie.Joined4) → Found (c .before .before .before .before .before .before .before .before .before .before .before .before .args .t1) (c .before .before .scope-of .result) ((c .before .before .before .before .before .before .before .before .before .before .before .before .args .q) .name) (c .before .if2 .may) (c .if4 .child)
+found : (c : At tie.Joined3) → Found (c .before .before .before .before .before .before .before .before .before .before .before .before .args .t1) (c .before .before .scope-of .result) ((c .before .before .before .before .before .before .before .before .before .before .before .before .args .q) .name) (c .if3 .may) (c .before .if2 .child)
 found c =
     record {
       opened = λ on.
@@ -101,9 +101,9 @@ found c =
             },
           ))
           (λ y. absurd (clash _ on (y .0 .left)))
-          (c .before .if2 .came);
-      shut = λ off. ⊎-elim (λ y. absurd (clash _ (y .0 .taken) off)) (λ y. y .1) (c .before .if2 .came);
-      kids = children c;
+          (c .if3 .came);
+      shut = λ off. ⊎-elim (λ y. absurd (clash _ (y .0 .taken) off)) (λ y. y .1) (c .if3 .came);
+      kids = children (c .before);
     }
 
 concerned : (c : At tie.After-below163) → Concerned (c .before .before .before .before .before .before .args .q) (c .before .before .before .below16 .result) (c .before .before .below162 .result) (c .before .below64 .result) (c .below163 .result)
@@ -131,11 +131,11 @@ swept-delete : (c : At tie.After-loop5) → c .before .loop5 .self ≡ ruleOf (a
 swept-delete c =
     let roles : length ((tables (c .before .before .before .before .before .before .before .before .before .before)) .roles) ≡ 16 = search (long, c .before .before .before .before .before .before .before .before .before .before .before .before .before .before .before .before .before .before .before .before .before .before .before .before .before .before .good .0) in
     let sessions : length ((tables (c .before .before .before .before .before .before .before .before .before .before)) .sessions) ≡ 16 = search (long, c .before .before .before .before .before .before .before .before .before .before .before .before .before .before .before .before .before .before .before .before .before .before .before .before .before .before .good .0) in
-    let i : c .before .before .before .loop4 .i2 ≡ 16 = omega arith in
-    let j : c .before .loop5 .i3 ≡ 16 = omega arith in
+    let i : c .before .loop5 .i2 ≡ 16 = omega arith in
+    let j : c .before .before .before .loop4 .i3 ≡ 16 = omega arith in
     let delete : asked (c .before .before .before .before .before .before .before .before .before .before) .call ≡ 8 = c .before .before .before .before .if9 .taken in
     let z = (sym (c .before .before .before .before .before .before .before .before .before .if5 .taken) ∙ judged (c .before .before .before .before .before .before .before .before .before .before)) in
-    swept-entity (tables (c .before .before .before .before .before .before .before .before .before .before)) (c .before .before .before .before .before .before .before .before .before .before .before .before .before .before .before .before .before .before .before .before .before .below64 .result) (c .before .before .before .before .before .before .after2 .result) (c .before .before .before .loop4 .self) (c .before .loop5 .self) (deleted _ _ z _ _ _ _ (near (c .before .before .before .before .before .before .before .before .before .before)) delete _ _ (c .before .before .before .before .before .before .after2 .ensures)) roles sessions (rw i at (c .before .before .before .loop4 .inv .1)) (rw j at (c .before .loop5 .inv .1))
+    swept-entity (tables (c .before .before .before .before .before .before .before .before .before .before)) (c .before .before .before .before .before .before .before .before .before .before .before .before .before .before .before .before .before .before .before .before .before .below64 .result) (c .before .before .before .before .before .before .after2 .result) (c .before .before .before .loop4 .self) (c .before .loop5 .self) (deleted _ _ z _ _ _ _ (near (c .before .before .before .before .before .before .before .before .before .before)) delete _ _ (c .before .before .before .before .before .before .after2 .ensures)) roles sessions (rw j at (c .before .before .before .loop4 .inv .1)) (rw i at (c .before .loop5 .inv .1))
     ∙ delete-done _ _ z _ _ _ _ (near (c .before .before .before .before .before .before .before .before .before .before)) delete
 
 swept-unmake : (c : At tie.After-loop6) → c .before .loop6 .self ≡ ruleOf (asked (c .before .before .before .before .before .before .before .before)) .effect (asked (c .before .before .before .before .before .before .before .before)) (tables (c .before .before .before .before .before .before .before .before))
@@ -183,100 +183,94 @@ parent-of-requires c κs = parent-small _ (sounds (c .before .before .before .be
 scope-of-requires : At tie.Need-scope-of-requires
 scope-of-requires c κs = (c .before .before .before .before .below64 .ensures .small, c .parent-of .ensures .small)
 
-mul-i : At tie.Need-mul-i
-mul-i c = omega (arith, c .before .scope-of .ensures .atIn)
+mul-base : At tie.Need-mul-base
+mul-base c = omega (arith, c .before .scope-of .ensures .kinIn)
 
 loop-holds : At tie.Need-loop-holds
-loop-holds c = (gathered-start _ _ _ _ _ (c .before .scope-of .ensures .atIn) (c .before .scope-of .ensures .left), gathered-start _ _ _ _ _ (c .before .scope-of .ensures .atIn) (c .before .scope-of .ensures .left))
+loop-holds c = block-start _ _
+
+add-h : At tie.Need-add-h
+add-h c = omega (arith, c .before .before .before .scope-of .ensures .kinIn)
+
+mul-h : At tie.Need-mul-h
+mul-h c = omega (arith, c .before .before .before .scope-of .ensures .kinIn)
+
+element-copy-out-h : At tie.Need-element-copy-out-h
+element-copy-out-h c = omega (arith, c .before .before .before .scope-of .ensures .kinIn)
+
+is-kin-requires : At tie.Need-is-kin-requires
+is-kin-requires c κs = c .before .before .before .before .scope-of .ensures .kinIn
+
+add-j : At tie.Need-add-j
+add-j c = omega arith
+
+loop-less : At tie.Need-loop-less
+loop-less c = omega arith
+
+loop-again : At tie.Need-loop-again
+unfolding kinSeen
+loop-again c = block-more _ _ _ _ _ (c .before .before .before .loop .inv) (c .is-kin .ensures) (c .before .before .loop-test .taken)
+
+mul-i : At tie.Need-mul-i
+mul-i c = omega (arith, c .before .before .scope-of .ensures .atIn)
+
+loop2-holds : At tie.Need-loop2-holds
+loop2-holds c = (gathered-start _ _ _ _ _ (c .before .before .scope-of .ensures .atIn) (c .before .before .scope-of .ensures .left), gathered-start _ _ _ _ _ (c .before .before .scope-of .ensures .atIn) (c .before .before .scope-of .ensures .left))
 
 has16-requires : At tie.Need-has16-requires
 has16-requires c κs = search needs
 
 add-i : At tie.Need-add-i
-add-i c = omega (arith, c .before .before .loop .inv .0 .walk .most)
+add-i c = omega (arith, c .before .before .loop2 .inv .0 .walk .most)
 
-mul-h : At tie.Need-mul-h
-mul-h c = omega (arith, walk-in _ _ _ _ (c .before .before .before .loop .inv .0 .walk) (c .before .before .before .before .before .scope-of .ensures .heldIn) (c .before .before .loop-test .taken))
+mul-h-2 : At tie.Need-mul-h-2
+mul-h-2 c = omega (arith, walk-in _ _ _ _ (c .before .before .before .loop2 .inv .0 .walk) (c .before .before .before .before .before .before .scope-of .ensures .heldIn) (c .before .before .loop2-test .taken))
 
-element-copy-out-h : At tie.Need-element-copy-out-h
-element-copy-out-h c = walk-in _ _ _ _ (c .before .before .before .loop .inv .0 .walk) (c .before .before .before .before .before .scope-of .ensures .heldIn) (c .before .before .loop-test .taken)
+element-copy-out-h-2 : At tie.Need-element-copy-out-h-2
+element-copy-out-h-2 c = walk-in _ _ _ _ (c .before .before .before .loop2 .inv .0 .walk) (c .before .before .before .before .before .before .scope-of .ensures .heldIn) (c .before .before .loop2-test .taken)
 
 having-requires : At tie.Need-having-requires
 having-requires c κs = search needs
 
-loop-less : At tie.Need-loop-less
-loop-less c = omega (arith, c .before .before .before .before .before .loop-test .taken)
+loop2-less : At tie.Need-loop2-less
+loop2-less c = omega (arith, c .before .before .before .before .before .loop2-test .taken)
 
-loop-again : At tie.Need-loop-again
+loop2-again : At tie.Need-loop2-again
 unfolding join having
-loop-again c = (gathered-join _ _ _ _ _ _ _ (c .before .before .before .before .before .before .loop .inv .0) (c .before .before .before .before .before .before .before .before .scope-of .ensures .single (c .before .before .before .before .before .before .before .if2 .taken)) (sym (c .before .before .before .before .has16 .ensures) ∙ c .before .before .before .if3 .taken) (walk-in _ _ _ _ (c .before .before .before .before .before .before .loop .inv .0 .walk) (c .before .before .before .before .before .before .before .before .scope-of .ensures .heldIn) (c .before .before .before .before .before .loop-test .taken)) _ (c .before .having .ensures), gathered-join _ _ _ _ _ _ _ (c .before .before .before .before .before .before .loop .inv .1) (inr (inr (inl refl))) (sym (c .before .before .before .before .has16 .ensures) ∙ c .before .before .before .if3 .taken) (walk-in _ _ _ _ (c .before .before .before .before .before .before .loop .inv .0 .walk) (c .before .before .before .before .before .before .before .before .scope-of .ensures .heldIn) (c .before .before .before .before .before .loop-test .taken)) _ refl)
+loop2-again c = (gathered-join _ _ _ _ _ _ _ (c .before .before .before .before .before .before .loop2 .inv .0) (c .before .before .before .before .before .before .before .before .before .scope-of .ensures .single (c .before .before .before .before .before .before .before .if3 .taken)) (sym (c .before .before .before .before .has16 .ensures) ∙ c .before .before .before .if4 .taken) (walk-in _ _ _ _ (c .before .before .before .before .before .before .loop2 .inv .0 .walk) (c .before .before .before .before .before .before .before .before .before .scope-of .ensures .heldIn) (c .before .before .before .before .before .loop2-test .taken)) _ (c .before .having .ensures), gathered-join _ _ _ _ _ _ _ (c .before .before .before .before .before .before .loop2 .inv .1) (inr (inr (inl refl))) (sym (c .before .before .before .before .has16 .ensures) ∙ c .before .before .before .if4 .taken) (walk-in _ _ _ _ (c .before .before .before .before .before .before .loop2 .inv .0 .walk) (c .before .before .before .before .before .before .before .before .before .scope-of .ensures .heldIn) (c .before .before .before .before .before .loop2-test .taken)) _ refl)
 
-loop-less-2 : At tie.Need-loop-less-2
-loop-less-2 c = omega (arith, c .before .before .loop-test .taken)
+loop2-less-2 : At tie.Need-loop2-less-2
+loop2-less-2 c = omega (arith, c .before .before .loop2-test .taken)
 
-loop-again-2 : At tie.Need-loop-again-2
-loop-again-2 c = (gathered-skip _ _ _ _ _ _ _ (c .before .before .before .loop .inv .0) (sym (c .before .has16 .ensures) ∙ c .if3 .left) (walk-in _ _ _ _ (c .before .before .before .loop .inv .0 .walk) (c .before .before .before .before .before .scope-of .ensures .heldIn) (c .before .before .loop-test .taken)), gathered-skip _ _ _ _ _ _ _ (c .before .before .before .loop .inv .1) (sym (c .before .has16 .ensures) ∙ c .if3 .left) (walk-in _ _ _ _ (c .before .before .before .loop .inv .0 .walk) (c .before .before .before .before .before .scope-of .ensures .heldIn) (c .before .before .loop-test .taken)))
+loop2-again-2 : At tie.Need-loop2-again-2
+loop2-again-2 c = (gathered-skip _ _ _ _ _ _ _ (c .before .before .before .loop2 .inv .0) (sym (c .before .has16 .ensures) ∙ c .if4 .left) (walk-in _ _ _ _ (c .before .before .before .loop2 .inv .0 .walk) (c .before .before .before .before .before .before .scope-of .ensures .heldIn) (c .before .before .loop2-test .taken)), gathered-skip _ _ _ _ _ _ _ (c .before .before .before .loop2 .inv .1) (sym (c .before .has16 .ensures) ∙ c .if4 .left) (walk-in _ _ _ _ (c .before .before .before .loop2 .inv .0 .walk) (c .before .before .before .before .before .before .scope-of .ensures .heldIn) (c .before .before .loop2-test .taken)))
 
-cast-has64 : At tie.Need-cast-has64
-cast-has64 c = omega (arith, c .before .before .before .scope-of .ensures .atIn)
+is-in-requires : At tie.Need-is-in-requires
+is-in-requires c κs = c .before .before .before .before .scope-of .ensures .atIn
 
-has64-requires : At tie.Need-has64-requires
-has64-requires c κs = search needs
+loop3-holds : At tie.Need-loop3-holds
+loop3-holds c = climbing-start _ _ _ _ (c .before .before .before .before .before .scope-of .ensures .fromIn)
 
-loop2-holds : At tie.Need-loop2-holds
-loop2-holds c = climbing-start _ _ _ _ (c .before .before .before .before .scope-of .ensures .fromIn)
+mul-h-3 : At tie.Need-mul-h-3
+mul-h-3 c = omega (arith, c .before .loop3 .inv .inside)
 
-mul-h-2 : At tie.Need-mul-h-2
-mul-h-2 c = omega (arith, c .before .loop2 .inv .inside)
-
-element-copy-out-h-2 : At tie.Need-element-copy-out-h-2
-element-copy-out-h-2 c = c .before .loop2 .inv .inside
+element-copy-out-h-3 : At tie.Need-element-copy-out-h-3
+element-copy-out-h-3 c = c .before .loop3 .inv .inside
 
 cast-a : At tie.Need-cast-a
 cast-a c = search needs
 
-cast-has64-2 : At tie.Need-cast-has64-2
-cast-has64-2 c = omega (arith, parent-small _ (sounds (c .before .before .before .before .before .before .before .before .before .before .before .before .before .before .before .before)) _ (c .before .before .before .loop2 .inv .inside))
-
-has64-requires-2 : At tie.Need-has64-requires-2
-has64-requires-2 c κs = search needs
+is-in-requires-2 : At tie.Need-is-in-requires-2
+is-in-requires-2 c κs = parent-small _ (sounds (c .before .before .before .before .before .before .before .before .before .before .before .before .before .before .before .before .before)) _ (c .before .before .before .loop3 .inv .inside)
 
 sub-steps : At tie.Need-sub-steps
-sub-steps c = steps-left (c .before .before .before .before .loop2 .steps) (c .before .before .before .before .loop2 .a) (c .before .before .before .loop2-test .taken)
-
-loop2-less : At tie.Need-loop2-less
-loop2-less c = omega (arith, steps-left (c .before .before .before .before .loop2 .steps) (c .before .before .before .before .loop2 .a) (c .before .before .before .loop2-test .taken))
-
-loop2-again : At tie.Need-loop2-again
-loop2-again c = climbing-more _ _ _ _ _ _ _ (c .before .before .before .before .loop2 .inv) (sounds (c .before .before .before .before .before .before .before .before .before .before .before .before .before .before .before .before .before)) _ (c .before .before .before .loop2-test .taken) (c .has642 .ensures)
-
-mul-base : At tie.Need-mul-base
-mul-base c = omega (arith, c .before .before .scope-of .ensures .kinIn)
-
-loop3-holds : At tie.Need-loop3-holds
-loop3-holds c = block-start _ _
-
-add-h : At tie.Need-add-h
-add-h c = omega (arith, c .before .before .before .before .scope-of .ensures .kinIn)
-
-mul-h-3 : At tie.Need-mul-h-3
-mul-h-3 c = omega (arith, c .before .before .before .before .scope-of .ensures .kinIn)
-
-element-copy-out-h-3 : At tie.Need-element-copy-out-h-3
-element-copy-out-h-3 c = omega (arith, c .before .before .before .before .scope-of .ensures .kinIn)
-
-is-kin-requires : At tie.Need-is-kin-requires
-is-kin-requires c κs = c .before .before .before .before .before .scope-of .ensures .kinIn
-
-add-j : At tie.Need-add-j
-add-j c = omega arith
+sub-steps c = steps-left (c .before .before .before .before .loop3 .steps) (c .before .before .before .before .loop3 .a) (c .before .before .before .loop3-test .taken)
 
 loop3-less : At tie.Need-loop3-less
-loop3-less c = omega arith
+loop3-less c = omega (arith, steps-left (c .before .before .before .before .loop3 .steps) (c .before .before .before .before .loop3 .a) (c .before .before .before .loop3-test .taken))
 
 loop3-again : At tie.Need-loop3-again
-unfolding kinSeen
-loop3-again c = block-more _ _ _ _ _ (c .before .before .before .loop3 .inv) (c .is-kin .ensures) (c .before .before .loop3-test .taken)
+loop3-again c = climbing-more _ _ _ _ _ _ _ (c .before .before .before .before .loop3 .inv) (sounds (c .before .before .before .before .before .before .before .before .before .before .before .before .before .before .before .before .before .before)) _ (c .before .before .before .loop3-test .taken) (c .is-in2 .ensures)
 
 mul-u : At tie.Need-mul-u
 mul-u c = omega (arith, c .before .before .before .before .before .before .below163 .ensures .small)
@@ -341,29 +335,23 @@ mul-h-4 c = omega (arith, c .loop4-test .taken)
 element-copy-out-h-4 : At tie.Need-element-copy-out-h-4
 element-copy-out-h-4 c = c .loop4-test .taken
 
-add-i2 : At tie.Need-add-i2
-add-i2 c = omega (arith, c .before .loop4-test .taken)
-
-cleared-requires : At tie.Need-cleared-requires
-cleared-requires c κs = near (c .before .before .before .before .before .before .before .before .before .before) .entity .small
+closed-requires : At tie.Need-closed-requires
+closed-requires c κs = near (c .before .before .before .before .before .before .before .before .before) .entity .small
 
 mul-h2 : At tie.Need-mul-h2
-mul-h2 c = omega (arith, c .before .before .before .loop4-test .taken)
+mul-h2 c = omega (arith, c .before .before .loop4-test .taken)
 
 element-set-from-h2 : At tie.Need-element-set-from-h2
-element-set-from-h2 c = c .before .before .before .loop4-test .taken
+element-set-from-h2 c = c .before .before .loop4-test .taken
+
+add-i3 : At tie.Need-add-i3
+add-i3 c = omega (arith, c .before .before .loop4-test .taken)
 
 loop4-less : At tie.Need-loop4-less
-loop4-less c = omega (arith, c .before .before .before .loop4-test .taken)
+loop4-less c = omega (arith, c .before .before .loop4-test .taken)
 
 loop4-again : At tie.Need-loop4-again
-loop4-again c = (omega (arith, c .before .before .before .loop4-test .taken), rw (c .cleared .ensures) (roles-more (clearRights _) _ _ _ (c .before .before .before .before .loop4 .inv .1)))
-
-loop4-less-2 : At tie.Need-loop4-less-2
-loop4-less-2 c = omega (arith, c .before .before .loop4-test .taken)
-
-loop4-again-2 : At tie.Need-loop4-again-2
-loop4-again-2 c = (omega (arith, c .before .before .loop4-test .taken), roles-dead (tables (c .before .before .before .before .before .before .before .before .before .before)) (sure (c .before .before .before .before .before .before .before .before .before .before)) _ _ _ _ refl (c .before .before .loop4-test .taken) (c .before .before .before .loop4 .inv .1) (c .if10 .left))
+loop4-again c = (omega (arith, c .before .before .loop4-test .taken), rw (c .closed .ensures) (sessions-more (closeBoth _) _ _ _ (c .before .before .before .loop4 .inv .1)))
 
 loop5-holds : At tie.Need-loop5-holds
 loop5-holds c = (omega arith, refl)
@@ -374,23 +362,29 @@ mul-h-5 c = omega (arith, c .loop5-test .taken)
 element-copy-out-h-5 : At tie.Need-element-copy-out-h-5
 element-copy-out-h-5 c = c .loop5-test .taken
 
-closed-requires : At tie.Need-closed-requires
-closed-requires c κs = near (c .before .before .before .before .before .before .before .before .before .before .before) .entity .small
+add-i2 : At tie.Need-add-i2
+add-i2 c = omega (arith, c .before .loop5-test .taken)
+
+cleared-requires : At tie.Need-cleared-requires
+cleared-requires c κs = near (c .before .before .before .before .before .before .before .before .before .before .before .before) .entity .small
 
 mul-h2-2 : At tie.Need-mul-h2-2
-mul-h2-2 c = omega (arith, c .before .before .loop5-test .taken)
+mul-h2-2 c = omega (arith, c .before .before .before .loop5-test .taken)
 
 element-set-from-h2-2 : At tie.Need-element-set-from-h2-2
-element-set-from-h2-2 c = c .before .before .loop5-test .taken
-
-add-i3 : At tie.Need-add-i3
-add-i3 c = omega (arith, c .before .before .loop5-test .taken)
+element-set-from-h2-2 c = c .before .before .before .loop5-test .taken
 
 loop5-less : At tie.Need-loop5-less
-loop5-less c = omega (arith, c .before .before .loop5-test .taken)
+loop5-less c = omega (arith, c .before .before .before .loop5-test .taken)
 
 loop5-again : At tie.Need-loop5-again
-loop5-again c = (omega (arith, c .before .before .loop5-test .taken), rw (c .closed .ensures) (sessions-more (closeBoth _) _ _ _ (c .before .before .before .loop5 .inv .1)))
+loop5-again c = (omega (arith, c .before .before .before .loop5-test .taken), rw (c .cleared .ensures) (roles-more (clearRights _) _ _ _ (c .before .before .before .before .loop5 .inv .1)))
+
+loop5-less-2 : At tie.Need-loop5-less-2
+loop5-less-2 c = omega (arith, c .before .before .loop5-test .taken)
+
+loop5-again-2 : At tie.Need-loop5-again-2
+loop5-again-2 c = (omega (arith, c .before .before .loop5-test .taken), roles-dead (tables (c .before .before .before .before .before .before .before .before .before .before .before .before)) (sure (c .before .before .before .before .before .before .before .before .before .before .before .before)) _ _ _ _ (ap (λ (v : Tables). v .roles) (c .before .before .before .before .before .loop4 .inv .1)) (c .before .before .loop5-test .taken) (c .before .before .before .loop5 .inv .1) (c .if10 .left))
 
 mul-p2-2 : At tie.Need-mul-p2-2
 mul-p2-2 c = omega (arith, near (c .before .before .before) .role .small)
@@ -483,35 +477,33 @@ step-spec =
     element-copy-out-f
     parent-of-requires
     scope-of-requires
-    mul-i
+    mul-base
     loop-holds
-    has16-requires
-    add-i
+    add-h
     mul-h
     element-copy-out-h
-    having-requires
-    loop-less
-    loop-again
-    loop-less-2
-    loop-again-2
-    cast-has64
-    has64-requires
-    loop2-holds
-    mul-h-2
-    element-copy-out-h-2
-    cast-a
-    cast-has64-2
-    has64-requires-2
-    sub-steps
-    loop2-less
-    loop2-again
-    mul-base
-    loop3-holds
-    add-h
-    mul-h-3
-    element-copy-out-h-3
     is-kin-requires
     add-j
+    loop-less
+    loop-again
+    mul-i
+    loop2-holds
+    has16-requires
+    add-i
+    mul-h-2
+    element-copy-out-h-2
+    having-requires
+    loop2-less
+    loop2-again
+    loop2-less-2
+    loop2-again-2
+    is-in-requires
+    loop3-holds
+    mul-h-3
+    element-copy-out-h-3
+    cast-a
+    is-in-requires-2
+    sub-steps
     loop3-less
     loop3-again
     mul-u
@@ -535,23 +527,23 @@ step-spec =
     loop4-holds
     mul-h-4
     element-copy-out-h-4
-    add-i2
-    cleared-requires
+    closed-requires
     mul-h2
     element-set-from-h2
+    add-i3
     loop4-less
     loop4-again
-    loop4-less-2
-    loop4-again-2
     loop5-holds
     mul-h-5
     element-copy-out-h-5
-    closed-requires
+    add-i2
+    cleared-requires
     mul-h2-2
     element-set-from-h2-2
-    add-i3
     loop5-less
     loop5-again
+    loop5-less-2
+    loop5-again-2
     mul-p2-2
     element-copy-out-p2-2
     after-requires-4
