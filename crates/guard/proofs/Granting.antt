@@ -2,16 +2,23 @@
 --     granted, revoked, owned       .. are the rights joined, taken away, and own joined
 -- Assumes nothing.
 use Prim.Native.Nat.{ℕ, _^_}
-use mathlib.Core.Path.{_≡_, refl, sym, ap, _∙_}
+use mathlib.Core.Path.{_≡_, refl, sym, _∙_}
 use mathlib.Core.Bool.{Bool, true, false, not, cond, _&&_, _||_, or-true, or-false, and-true, and-false}
+use borrow.Author.Tests.{eqb-true, eq-eqb}
+use Rattle.bitset.specs.Tests.Laws.{both}
 use Rattle.bitset.specs.Sets.{has, contains, with, join, minus}
-use Rattle.bitset.specs.Sets.Laws.{has-join, has-minus}
-use Rattle.guard.specs.Tables.{read, write, execute, own, rightsOf}
+use Rattle.bitset.specs.Sets.Laws.{has-one, has-join, has-minus, contains-has, has-contains}
+use Rattle.guard.specs.Tables.{own, rightsOf}
 use Rattle.guard.specs.Edits.{put, setRights, addRights, removeRights}
 use Rattle.guard.specs.Inside.{setAfter, grantedAfter}
 use Rattle.guard.specs.declared.Role.{Role}
 use Rattle.guard.proofs.Laws.Rights.{contains-read, contains-write, contains-execute, contains-own, put-same}
-use Rattle.guard.proofs.Scans.{contains-one}
+
+-- a single right is one bit
+contains-one : (x k : ℕ) → contains x (2 ^ k) ≡ has x k
+contains-one x k =
+    both _ _ (λ h. contains-has x (2 ^ k) h k (has-one k k ∙ eq-eqb k k refl))
+    (λ h. has-contains x (2 ^ k) (λ i e. rw (eqb-true i k (sym (has-one k i) ∙ e)) h))
 
 -- one set, of the right at bit i
 module _ (i old m e s : ℕ) (same : contains old (2 ^ i) ≡ has s e) where

@@ -1,6 +1,5 @@
 -- Laws of the scans: what a walk over the roles held finds, and what a walk over the entities of a level does. The rights given
 -- on a level are in Given, the climb over them in Climb.
---     contains-one                                              a single right is one bit
 --     Walk, walk-start, walk-in, walk-more, walk-end            the roles, from the lowest of a level to the last one held
 --     Roles, roles-start, roles-more, roles-all                 whether one of those walked over gives a right
 --     Block, block-start, block-more, block-all                 whether one of the entities of a level meets a test
@@ -13,11 +12,11 @@ use native.Mathlib.Decide.{decLt}
 use native.Mathlib.Nat.{div-eq-of-lt, lt-of-lt-of-le, add-zero}
 use native.Mathlib.Omega.{arith}
 use lib.Pow.{pow-mono, shr-shr}
-use borrow.Author.Tests.{eqb-true, eq-eqb, le-leb, lt-leb}
+use borrow.Author.Tests.{eqb-true, le-leb, lt-leb}
 use Rattle.bitset.specs.Tests.{every, some}
 use Rattle.bitset.specs.Tests.Laws.{both, clash, of-not-true, every-at, some-i, some-e, some-none, some-more, some-no-i}
 use Rattle.bitset.specs.Sets.{has, contains, from}
-use Rattle.bitset.specs.Sets.Laws.{has-none, has-one, contains-has, has-contains}
+use Rattle.bitset.specs.Sets.Laws.{has-none}
 use Rattle.bitset.specs.Sets.Shift.{has-from, from-has, from-zero}
 use Rattle.guard.specs.Tables.{rightsOn, isChild}
 use Rattle.guard.specs.Sound.{sound}
@@ -27,11 +26,6 @@ use Rattle.guard.proofs.Laws.Sound.{parent-level}
 pub mod Given
 pub mod Climb
 pub mod Kin
-
-pub contains-one : (x k : ℕ) → contains x (2 ^ k) ≡ has x k
-contains-one x k =
-    both _ _ (λ h. contains-has x (2 ^ k) h k (has-one k k ∙ eq-eqb k k refl))
-    (λ h. has-contains x (2 ^ k) (λ i e. rw (eqb-true i k (sym (has-one k i) ∙ e)) h))
 
 -- ---- the roles
 -- the walk stands at role r, and `left` is what is held from there on

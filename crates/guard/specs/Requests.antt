@@ -13,7 +13,6 @@ use Rattle.guard.specs.Edits.{atSession, atRole, atEntity, eachSession, 
 use Rattle.guard.specs.Refusals.{Refusal, _when_}
 use Rattle.guard.specs.Conditions.{labelOf, seatLive, pastUser, seatDead, parentNoContainer, entityBelowSeat, seatBelowEntity, createBelow, grantBelow, seatBelowRole, labelBelowEntity, labelOther, labelBelowParent, userUnlisted, roleNotHeld, keeperNotHeld, cannotOpen, cannotChange, notOwned, roleHeld, openForReading, openForWriting, userListed, notOpen, userNotListed, entityDead, parentDead, roleDead, entityLive, roleLive, nameTaken, hasChildren, recordedParent}
 use Rattle.guard.specs.declared.Session.{Session}
-use Rattle.guard.specs.declared.Role.{Role}
 use Rattle.guard.specs.declared.Entity.{Entity}
 use Rattle.guard.specs.declared.Tables.{Tables}
 use Rattle.guard.specs.declared.Request.{Request}

@@ -8,7 +8,6 @@ use Rattle.bitset.specs.Tests.{every, some}
 use Rattle.bitset.specs.Sets.{has, contains}
 use Rattle.guard.specs.Level.{roleCount, roleLevel, entityLevel, isRoot}
 use Rattle.guard.specs.Label.{noLabel}
-use Rattle.guard.specs.declared.Label.{Label}
 use Rattle.guard.specs.declared.User.{User}
 use Rattle.guard.specs.declared.Session.{Session}
 use Rattle.guard.specs.declared.Role.{Role}

@@ -1,5 +1,5 @@
 -- The upper part for a level L, and which requests are upper.
-use Prim.Native.Nat.{ℕ, _*_, _^_, _/_}
+use Prim.Native.Nat.{ℕ, _*_}
 use mathlib.Core.Bool.{Bool, true, cond}
 use mathlib.Core.List.{List, [], _∷_, map}
 use lib.Dec.{leb, ltb}

@@ -7,7 +7,8 @@ use crate::User;
 // The records that a request concerns: the acting session, the user, the marks of the role, the entity, and the parent
 // (create: the one named; else the entity's). A number past its range has some other record in its place.
 // `may` is what 13 asks of the roles held. `child` is what 14 and 15 ask: that a child of the parent has the name, or that
-// the entity has a child. A request that asks neither may have anything there.
+// the entity has a child. A request that asks neither, or has its answer before it is asked (a root, name 0), may have
+// anything there.
 pub struct View {
     pub session: Session,
     pub user: User,

@@ -5,14 +5,14 @@
 -- Assumes nothing.
 use Prim.Native.Nat.{ℕ, _+_, _*_, _/_, _^_, _<_}
 use mathlib.Core.Path.{_≡_, sym, _∙_}
-use mathlib.Core.Bool.{Bool, true, false, and-true, or-false}
+use mathlib.Core.Bool.{true, false, and-true, or-false}
 use mathlib.Core.Logic.{inl, inr}
 use native.Mathlib.Omega.{arith}
 use Rattle.bitset.specs.Tests.{every}
 use Rattle.bitset.specs.Tests.Laws.{every-at, some-e}
 use Rattle.bitset.specs.Sets.{has, contains, join}
 use Rattle.bitset.specs.Sets.Laws.{has-none, has-join}
-use Rattle.guard.specs.Tables.{roleAt, entityAt, rightsOf, rightsOn}
+use Rattle.guard.specs.Tables.{roleAt, entityAt, rightsOf}
 use Rattle.guard.specs.Sound.{sound}
 use Rattle.guard.specs.Scan.{gives, having}
 use Rattle.guard.specs.Inside.{Single}

@@ -1,5 +1,5 @@
 -- `having` is the set of the right asked. Assumes nothing.
-use borrow.Author.Tests.{eq-eqb, ne-eqb}
+use borrow.Author.Tests.{ne-eqb}
 use Rattle.guard.specs.Scan.{having}
 use Rattle.guard.proofs.scan.having.Statement.{statement}
 use Rattle.guard.proofs.scan.having.Tie as tie
