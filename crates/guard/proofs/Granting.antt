@@ -6,11 +6,11 @@ use mathlib.Core.Path.{_≡_, refl, sym, _∙_}
 use mathlib.Core.Bool.{Bool, true, false, not, cond, _&&_, _||_, or-true, or-false, and-true, and-false}
 use borrow.Author.Tests.{eqb-true, eq-eqb}
 use Rattle.bitset.specs.Tests.Laws.{both}
-use Rattle.bitset.specs.Sets.{has, contains, with, join, minus}
+use Rattle.bitset.specs.Sets.{has, contains, join, minus}
 use Rattle.bitset.specs.Sets.Laws.{has-one, has-join, has-minus, contains-has, has-contains}
 use Rattle.guard.specs.Tables.{own, rightsOf}
-use Rattle.guard.specs.Edits.{put, setRights, addRights, removeRights}
-use Rattle.guard.specs.Inside.{setAfter, grantedAfter}
+use Rattle.guard.specs.Edits.{putIn, setRights, addRights, removeRights}
+use Rattle.guard.specs.Inside.{setAfter, grantedAfter, owning}
 use Rattle.guard.specs.declared.Role.{Role}
 use Rattle.guard.proofs.Laws.Rights.{contains-read, contains-write, contains-execute, contains-own, put-same}
 
@@ -31,24 +31,24 @@ module _ (i old m e s : ℕ) (same : contains old (2 ^ i) ≡ has s e) where
   lost : contains (minus old m) (2 ^ i) ≡ (has s e && not (contains m (2 ^ i)))
   lost = contains-one (minus old m) i ∙ rw (has-minus, bit, ← contains-one m i)
 
-  grant-set : put (contains (join old m) (2 ^ i)) e s ≡ setAfter 10 (contains m (2 ^ i)) e s
+  grant-set : putIn (contains (join old m) (2 ^ i)) e s ≡ setAfter true (contains m (2 ^ i)) e s
   unfolding setAfter
   grant-set = rw joined (go (contains m (2 ^ i)))
     where
-      go : (b : Bool) → put (has s e || b) e s ≡ cond b (put true e s) s
+      go : (b : Bool) → putIn (has s e || b) e s ≡ cond b (putIn true e s) s
       go true = rw (or-true (has s e))
       go false = rw (or-false (has s e)) (put-same e s)
 
-  revoke-set : put (contains (minus old m) (2 ^ i)) e s ≡ setAfter 11 (contains m (2 ^ i)) e s
+  revoke-set : putIn (contains (minus old m) (2 ^ i)) e s ≡ setAfter false (contains m (2 ^ i)) e s
   unfolding setAfter
   revoke-set = rw lost (go (contains m (2 ^ i)))
     where
-      go : (b : Bool) → put (has s e && not b) e s ≡ cond b (put false e s) s
+      go : (b : Bool) → putIn (has s e && not b) e s ≡ cond b (putIn false e s) s
       go true = rw (and-false (has s e))
       go false = rw (and-true (has s e)) (put-same e s)
 
 module _ (e : ℕ) (p : Role) where
-  pub granted : (m : ℕ) → grantedAfter 10 m e p ≡ addRights e m p
+  pub granted : (m : ℕ) → grantedAfter true m e p ≡ addRights e m p
   unfolding grantedAfter addRights setRights
   granted m =
       rw (
@@ -58,7 +58,7 @@ module _ (e : ℕ) (p : Role) where
         grant-set 3 (rightsOf p e) m e (p .owns) (contains-own p e),
       )
 
-  pub revoked : (m : ℕ) → grantedAfter 11 m e p ≡ removeRights e m p
+  pub revoked : (m : ℕ) → grantedAfter false m e p ≡ removeRights e m p
   unfolding grantedAfter removeRights setRights
   revoked m =
       rw (
@@ -68,6 +68,6 @@ module _ (e : ℕ) (p : Role) where
         revoke-set 3 (rightsOf p e) m e (p .owns) (contains-own p e),
       )
 
-  pub owned : record { live = p .live; users = p .users; reads = p .reads; writes = p .writes; executes = p .executes; owns = with (p .owns) e } ≡ addRights e own p
-  unfolding grantedAfter setAfter put contains
+  pub owned : owning e p ≡ addRights e own p
+  unfolding grantedAfter setAfter putIn contains
   owned = granted own

@@ -1,25 +1,42 @@
--- A batch: up to 256 requests at once. What a host gets for a log of that length.
-use Prim.Native.Nat.{ℕ, _-_}
+-- A batch: requests handed over as rows of numbers, made one after the other.
+use Prim.Native.Nat.{ℕ, zero, suc, _+_, _*_, _/_}
+use mathlib.Core.Path.{_≡_}
 use mathlib.Core.Bool.{cond}
-use mathlib.Core.List.{List, _++_}
+use mathlib.Core.List.{List, [], _∷_, _++_}
 use lib.Dec.{leb}
-use lib.ListN.{take, replicate}
+use lib.ListN.{length, getD, drop}
 use Rattle.guard.specs.Step.{run, answers}
+use Rattle.guard.specs.Methods.{request}
 use Rattle.guard.specs.declared.Tables.{Tables}
 use Rattle.guard.specs.declared.Request.{Request}
-use Rattle.guard.specs.declared.Ran.{Ran}
 
-abbrev pub batchSize : ℕ
-batchSize = 256
+-- A request is a row of eleven numbers, in the order of the record's fields.
+abbrev pub rowLength : ℕ
+rowLength = 11
 
--- The tables after the first n requests and the answer to each, with 0 behind the last. A count past the array is
--- answered 2, and nothing is run.
-unfoldable pub batch : Tables → List Request → ℕ → Ran
-batch t requests n =
-    cond (leb n batchSize)
-    (record {
-      tables = run t (take n requests);
-      answers = answers t (take n requests) ++ replicate (batchSize - n) 0;
-      answer = 0;
-    })
-    (record { tables = t; answers = replicate batchSize 0; answer = 2 })
+-- the number in column j of row i
+abbrev pub cell : List ℕ → ℕ → ℕ → ℕ
+cell rows i j = getD rows (rowLength * i + j) 0
+
+unfoldable pub requestAt : List ℕ → ℕ → Request
+requestAt rows i =
+    request (cell rows i 0) (cell rows i 1) (cell rows i 2) (cell rows i 3) (cell rows i 4) (cell rows i 5) (cell rows i 6) (cell rows i 7) (cell rows i 8) (cell rows i 9) (cell rows i 10)
+
+-- the requests of the first n rows
+unfoldable pub requests : ℕ → List ℕ → List Request
+requests zero rows = []
+requests (suc n) rows = requests n rows ++ (requestAt rows n ∷ [])
+
+-- as many as stand whole in so many numbers and have room for their answers
+unfoldable pub batchLength : ℕ → ℕ → ℕ
+batchLength numbers room = cond (leb (numbers / rowLength) room) (numbers / rowLength) room
+
+-- the log that a host hands over with room for so many answers
+abbrev pub batch : List ℕ → ℕ → List Request
+batch rows room = requests (batchLength (length rows) room) rows
+
+-- What a host gets: the tables u after the log, and in the place of the first bytes of `old` the answer to each request; the
+-- bytes behind them are as they were.
+pub record RunsBatch (t : Tables) (rows old new : List ℕ) (u : Tables) : Type 0 where
+  pub tables : u ≡ run t (batch rows (length old))
+  pub answered : new ≡ answers t (batch rows (length old)) ++ drop (batchLength (length rows) (length old)) old

@@ -13,8 +13,8 @@ use Rattle.guard.specs.declared.Tables.{Tables}
 use Rattle.guard.specs.declared.Request.{Request}
 
 -- the label asked for
-abbrev pub labelOf : Request → Label
-labelOf q = label (q .level) (q .cats)
+abbrev pub labelAsked : Request → Label
+labelAsked q = label (q .level) (q .cats)
 
 module _ (t : Tables) (q : Request) where
   -- ---- The host program
@@ -26,7 +26,7 @@ module _ (t : Tables) (q : Request) where
   unfoldable pub pastUser : Bool
   pastUser =
       either (ltb (userAt t (q .user) .ceiling) (sessionLevel (q .seat)))
-      (not (dominates (userAt t (q .user) .clearance) (labelOf q)))
+      (not (dominates (userAt t (q .user) .clearance) (labelAsked q)))
 
   -- ---- The acting seat
   -- 5 it is not live.
@@ -70,7 +70,7 @@ module _ (t : Tables) (q : Request) where
 
   -- create: the new label does not dominate the parent's.
   abbrev pub labelBelowParent : Bool
-  labelBelowParent = not (dominates (labelOf q) (entityAt t (q .parent) .label))
+  labelBelowParent = not (dominates (labelAsked q) (entityAt t (q .parent) .label))
 
   -- 12 take: x's user is not listed.
   abbrev pub userUnlisted : Bool

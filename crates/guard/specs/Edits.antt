@@ -67,8 +67,8 @@ listing users r =
     record { live = r .live; users = users; reads = r .reads; writes = r .writes; executes = r .executes; owns = r .owns }
 
 -- the set with e in it, or without
-unfoldable pub put : Bool → ℕ → ℕ → ℕ
-put inside e s = cond inside (with s e) (without s e)
+unfoldable pub putIn : Bool → ℕ → ℕ → ℕ
+putIn inside e s = cond inside (with s e) (without s e)
 
 -- the role has the rights n on e, and no others
 abbrev pub granting : ℕ → ℕ → Role → Role
@@ -76,10 +76,10 @@ granting e n r =
     record {
       live = r .live;
       users = r .users;
-      reads = put (contains n read) e (r .reads);
-      writes = put (contains n write) e (r .writes);
-      executes = put (contains n execute) e (r .executes);
-      owns = put (contains n own) e (r .owns);
+      reads = putIn (contains n read) e (r .reads);
+      writes = putIn (contains n write) e (r .writes);
+      executes = putIn (contains n execute) e (r .executes);
+      owns = putIn (contains n own) e (r .owns);
     }
 
 unfoldable pub setRights : ℕ → (ℕ → ℕ) → Role → Role

@@ -13,8 +13,9 @@ pub mod Requests
 pub mod Step
 pub mod Upper
 pub mod Morning
-pub mod Batch
+pub mod Kind
 pub mod Methods
+pub mod Batch
 pub mod Inside
 pub mod Scan
 pub mod Tested

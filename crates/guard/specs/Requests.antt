@@ -11,7 +11,7 @@ use Rattle.guard.specs.Tables.{noSession, noRole, noEntity, container, r
 use Rattle.guard.specs.Sound.{topName}
 use Rattle.guard.specs.Edits.{atSession, atRole, atEntity, eachSession, eachRole, takeRole, dropRole, openReading, openWriting, closeBoth, addRights, removeRights, clearRights, listUser, unlistUser, renameTo, madeRole}
 use Rattle.guard.specs.Refusals.{Refusal, _when_}
-use Rattle.guard.specs.Conditions.{labelOf, seatLive, pastUser, seatDead, parentNoContainer, entityBelowSeat, seatBelowEntity, createBelow, grantBelow, seatBelowRole, labelBelowEntity, labelOther, labelBelowParent, userUnlisted, roleNotHeld, keeperNotHeld, cannotOpen, cannotChange, notOwned, roleHeld, openForReading, openForWriting, userListed, notOpen, userNotListed, entityDead, parentDead, roleDead, entityLive, roleLive, nameTaken, hasChildren, recordedParent}
+use Rattle.guard.specs.Conditions.{labelAsked, seatLive, pastUser, seatDead, parentNoContainer, entityBelowSeat, seatBelowEntity, createBelow, grantBelow, seatBelowRole, labelBelowEntity, labelOther, labelBelowParent, userUnlisted, roleNotHeld, keeperNotHeld, cannotOpen, cannotChange, notOwned, roleHeld, openForReading, openForWriting, userListed, notOpen, userNotListed, entityDead, parentDead, roleDead, entityLive, roleLive, nameTaken, hasChildren, recordedParent}
 use Rattle.guard.specs.declared.Session.{Session}
 use Rattle.guard.specs.declared.Entity.{Entity}
 use Rattle.guard.specs.declared.Tables.{Tables}
@@ -34,7 +34,7 @@ fieldInRange q entity = ltb (q .entity) entityCount
 fieldInRange q parent = ltb (q .parent) entityCount
 fieldInRange q kind = leb (q .kind) container
 fieldInRange q name = every (leb 1 (q .name) ∷ leb (q .name) topName ∷ [])
-fieldInRange q label = labelInRange (labelOf q)
+fieldInRange q label = labelInRange (labelAsked q)
 fieldInRange q rights = every (leb 1 (q .rights) ∷ leb (q .rights) allRights ∷ [])
 
 -- What the paper says of one request: the fields that it uses, the refusals that apply after 1 and 2, and what it does.
@@ -46,7 +46,7 @@ pub record Rule : Type 0 where
 
 -- login (seat, user, label): 3, 4. The seat becomes live with nothing held or open.
 unfoldable pub loggedIn : Request → Session
-loggedIn q = record { live = true; user = q .user; label = labelOf q; roles = 0; reading = 0; writing = 0 }
+loggedIn q = record { live = true; user = q .user; label = labelAsked q; roles = 0; reading = 0; writing = 0 }
 
 unfoldable pub login : Rule
 login =
@@ -126,7 +126,7 @@ close =
 -- create (x, e, kind, parent, name, label, role): 7, 8, 9, 10, 11, 12, 13, 14. The role gains own on e and nobody gains
 -- anything else.
 unfoldable pub created : Request → Entity
-created q = record { live = true; kind = q .kind; parent = q .parent; name = q .name; label = labelOf q }
+created q = record { live = true; kind = q .kind; parent = q .parent; name = q .name; label = labelAsked q }
 
 unfoldable pub create : Rule
 create =

@@ -1,33 +1,73 @@
--- The words in which the contracts of the scans are put: what 13, 14 and 15 ask of the roles held and of the entities of
--- a level. No public entry's contract cites them, so a buyer need not read them.
-use Prim.Native.Nat.{ℕ, _+_, _*_}
-use mathlib.Core.Bool.{Bool, cond}
-use mathlib.Core.List.{[], _∷_}
-use lib.Dec.{leb, eqb}
+-- The words in which the contracts of the scans are put: what 13, 14 and 15 ask of the roles held and of the entities of a
+-- level, over two columns of the tables. No public entry's contract cites them, so a buyer need not read them.
+--   keys      for each entity its parent and its name in one number (Tested.keyOf)
+--   grants    for each role four sets of entities, one for each right: those of role r stand from 4 r on
+use Prim.Native.Nat.{ℕ, _+_, _*_, _/_, _%_, _<_}
+use mathlib.Core.Path.{_≡_}
+use mathlib.Core.Bool.{Bool, false, cond}
+use mathlib.Core.List.{List, [], _∷_}
+use lib.Dec.{eqb}
+use lib.ListN.{length, getD}
 use Rattle.bitset.specs.Tests.{every, some}
-use Rattle.bitset.specs.Sets.{has, contains}
-use Rattle.guard.specs.Level.{roleCount, roleLevel, entityLevel}
-use Rattle.guard.specs.Tables.{read, write, execute, rightsOn}
+use Rattle.bitset.specs.Sets.{has, without}
+use Rattle.guard.specs.Level.{roleCount, entityCount, entitiesPerLevel}
+use Rattle.guard.specs.Tables.{roleAt, entityAt}
+use Rattle.guard.specs.Chain.{climbs}
+use Rattle.guard.specs.Tested.{keyOf, parentByKey}
+use Rattle.guard.specs.Inside.{asksWay, asksName}
+use Rattle.guard.specs.Kind as kind
 use Rattle.guard.specs.declared.Role.{Role}
 use Rattle.guard.specs.declared.Tables.{Tables}
+use Rattle.guard.specs.declared.scan.Rights.{Rights}
 
--- role r is one of `held`, of at least e's level, and has the right on e
-abbrev pub giver : Tables → ℕ → ℕ → ℕ → ℕ → Bool
-giver t held right e r = every (leb (entityLevel e) (roleLevel r) ∷ has held r ∷ contains (rightsOn t r e) right ∷ [])
+-- ---- the columns
+pub record Keys (t : Tables) (keys : List ℕ) : Type 0 where
+  pub long : length keys ≡ entityCount
+  pub at : (e : ℕ) → e < entityCount → getD keys e 0 ≡ keyOf (entityAt t e)
 
--- the roles `held` give the right on e
-unfoldable pub gives : Tables → ℕ → ℕ → ℕ → Bool
-gives t held right e = some roleCount (giver t held right e)
+-- the entities on which a role has the right: 0 read, 1 write, 2 execute, 3 own
+unfoldable pub side : Role → ℕ → ℕ
+side p k = getD (p .reads ∷ p .writes ∷ p .executes ∷ p .owns ∷ []) k 0
 
--- the entities on which a role has the right: read 1, write 2, execute 4, else own
-unfoldable pub having : ℕ → Role → ℕ
-having right p = cond (eqb right read) (p .reads) (cond (eqb right write) (p .writes) (cond (eqb right execute) (p .executes) (p .owns)))
+pub record Grants (t : Tables) (grants : List ℕ) : Type 0 where
+  pub long : length grants ≡ 4 * roleCount
+  pub at : (r k : ℕ) → r < roleCount → k < 4 → getD grants (4 * r + k) 0 ≡ side (roleAt t r) k
 
--- ---- one entity compared as whole numbers
--- a mark and a number as one number
-abbrev pub markedOf : Bool → ℕ → ℕ
-markedOf live parent = cond live (parent * 65536 + 1) (parent * 65536)
+-- the sets of role r stored anew; a deleted entity taken out of each set
+pub record Granted (old : List ℕ) (r : ℕ) (p : Role) (new : List ℕ) : Type 0 where
+  pub long : length new ≡ 4 * roleCount
+  pub at : (k : ℕ) → k < 4 → getD new (4 * r + k) 0 ≡ side p k
+  pub others : (j : ℕ) → (j / 4 ≡ r → ⊥) → getD new j 0 ≡ getD old j 0
 
--- all bits, or none
-abbrev pub maskOf : Bool → ℕ
-maskOf named = cond named 4294967295 0
+pub record Cleared (old : List ℕ) (e : ℕ) (new : List ℕ) : Type 0 where
+  pub long : length new ≡ 4 * roleCount
+  pub each : (j : ℕ) → j < 64 → getD new j 0 ≡ without (getD old j 0) e
+
+-- ---- the scans
+-- one of the roles held has the right k on e
+unfoldable pub given : List ℕ → ℕ → ℕ → ℕ → Bool
+given grants held k e = some roleCount (λ r. every (has held r ∷ has (getD grants (4 * r + k) 0) e ∷ []))
+
+pub record Gathered (grants : List ℕ) (held : ℕ) (g : Rights) : Type 0 where
+  pub reads : (e : ℕ) → has (g .reads) e ≡ given grants held 0 e
+  pub writes : (e : ℕ) → has (g .writes) e ≡ given grants held 1 e
+  pub executes : (e : ℕ) → has (g .executes) e ≡ given grants held 2 e
+  pub owns : (e : ℕ) → has (g .owns) e ≡ given grants held 3 e
+
+-- the containers above e are all in the set
+abbrev pub climbsBy : List ℕ → ℕ → ℕ → Bool
+climbsBy keys through e = climbs (parentByKey keys) (has through) entitiesPerLevel e
+
+unfoldable pub reachedBy : List ℕ → ℕ → ℕ → ℕ → Bool
+reachedBy keys call e through = cond (asksWay call) (climbsBy keys through e) false
+
+-- an entity of p's level has the key of a child of p with the name; has the parent p
+unfoldable pub nameBy : List ℕ → ℕ → ℕ → Bool
+nameBy keys p name = some entitiesPerLevel (λ m. eqb (getD keys (p / 16 * 16 + m) 0) (p * 65536 + name % 65536))
+
+unfoldable pub childBy : List ℕ → ℕ → Bool
+childBy keys p = some entitiesPerLevel (λ m. eqb (getD keys (p / 16 * 16 + m) 0 / 65536) p)
+
+unfoldable pub kinBy : List ℕ → ℕ → ℕ → ℕ → ℕ → Bool
+kinBy keys call e o name =
+    cond (eqb call kind.delete) (childBy keys e) (cond (asksName call) (nameBy keys o name) false)

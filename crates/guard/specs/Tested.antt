@@ -83,8 +83,8 @@ roleTest grantable r p =
 abbrev pub packedLabel : Label → ℕ
 packedLabel a = a .grade * 256 + a .cats
 
-abbrev pub labelOf : Entity → ℕ
-labelOf n = cond (n .live) (packedLabel (n .label)) 65535
+abbrev pub labelNumber : Entity → ℕ
+labelNumber n = cond (n .live) (packedLabel (n .label)) 65535
 
 abbrev pub dominated : List ℕ → Label → ℕ → Bool
 dominated labels a e = every (leb (getD labels e 0) (a .grade * 256 + 255) ∷ contains (a .cats) (getD labels e 0 % 256) ∷ [])

@@ -1,37 +1,43 @@
 // The number of one request, whatever its kind.
 use crate::Request;
 use crate::entities;
+use crate::kinds;
 use crate::opens;
 use crate::roles;
 use crate::sessions;
 use crate::view::View;
 ghost use mathlib.Core.Path.{_≡_};
 ghost use Rattle.guard.specs.Requests.{ruleOf};
-ghost use Rattle.guard.specs.Inside.{number, Seen, Scanned};
+ghost use Rattle.guard.specs.Step.{inRanges};
+ghost use Rattle.guard.specs.Inside.{number, Seen};
 ghost use Rattle.guard.specs.declared.Tables.{Tables as TablesOf};
 
 // A number that is none of the sixteen is out of range.
 pub fn judge(q: Request, v: View) -> u8
-    ensures { λ n. ⌜ ((t : TablesOf) → Seen t q v → Scanned t q v → n ≡ number (ruleOf q) t q) ⌝ }
+    requires { ⌜ v .fits ≡ inRanges q ⌝ }
+    ensures { λ n. ⌜ ((t : TablesOf) → Seen t q v → n ≡ number (ruleOf q) t q) ⌝ }
 {
+    if !v.fits {
+        return 2;
+    }
     let call = q.call;
     match call {
-        0 => sessions::login_number(q, v),
-        1 => sessions::logout_number(q, v),
-        2 => sessions::take_number(q, v),
-        3 => sessions::drop_number(q, v),
-        4 => opens::openr_number(q, v),
-        5 => opens::openw_number(q, v),
-        6 => opens::close_number(q, v),
-        7 => entities::create_number(q, v),
-        8 => entities::delete_number(q, v),
-        9 => entities::rename_number(q, v),
-        10 => roles::rights_number(q, v),
-        11 => roles::rights_number(q, v),
-        12 => roles::list_number(q, v),
-        13 => roles::unlist_number(q, v),
-        14 => roles::make_number(q, v),
-        15 => roles::unmake_number(q, v),
+        kinds::LOGIN => sessions::login_refusal(q, v),
+        kinds::LOGOUT => sessions::logout_refusal(v),
+        kinds::TAKE => sessions::take_refusal(q, v),
+        kinds::DROP => sessions::drop_refusal(q, v),
+        kinds::OPENR => opens::openr_refusal(q, v),
+        kinds::OPENW => opens::openw_refusal(q, v),
+        kinds::CLOSE => opens::close_refusal(q, v),
+        kinds::CREATE => entities::create_refusal(q, v),
+        kinds::DELETE => entities::change_refusal(q, v, 15),
+        kinds::RENAME => entities::change_refusal(q, v, 14),
+        kinds::GRANT => roles::rights_refusal(q, v),
+        kinds::REVOKE => roles::rights_refusal(q, v),
+        kinds::LIST => roles::list_refusal(q, v, bitset::has16(v.users, q.user)),
+        kinds::UNLIST => roles::list_refusal(q, v, !bitset::has16(v.users, q.user)),
+        kinds::MAKE => roles::make_refusal(q, v),
+        kinds::UNMAKE => roles::unmake_refusal(q, v),
         16..=4294967295 => 2,
     }
 }

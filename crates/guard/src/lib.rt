@@ -3,15 +3,18 @@
 // The records below hold document 01's tables, and a request as a host hands it in. What they mean, which tables are
 // sound, what each request answers and how it changes the tables is said by the definitions in specs/, in the paper's
 // order. Sets are bit sets: member `i` is bit `i` (crate `bitset`). No record holds an enum or a reference.
-mod batch;
+mod change;
 mod entities;
 mod fresh;
 mod judge;
+mod kinds;
 mod labels;
 mod look;
 mod methods;
 mod opens;
 mod roles;
+mod rows;
+mod run;
 mod scan;
 mod sessions;
 mod sound;
@@ -87,13 +90,5 @@ pub struct Request {
 // What a request hands back: the tables after it, and its answer: 0 done, or the number of the refusal.
 pub struct Outcome {
     pub tables: Tables,
-    pub answer: u8,
-}
-
-// What a batch hands back: the tables after it, the answer to each request, and the answer to the batch: 0, or 2 for a
-// count past the array.
-pub struct Ran {
-    pub tables: Tables,
-    pub answers: [u8; 256],
     pub answer: u8,
 }

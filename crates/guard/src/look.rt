@@ -1,139 +1,108 @@
-// Which records a request concerns, and which of the tables are to be scanned for it.
-use crate::Entity;
+// The numbers of a request, looked up once: where its records stand, and whether those that its kind uses are in range.
 use crate::Request;
-ghost use Prim.Native.Nat.{_/_, _^_, _<_};
+use crate::kinds;
+ghost use Prim.Native.Nat.{_<_};
 ghost use mathlib.Core.Path.{_≡_};
 ghost use mathlib.Core.Bool.{cond};
 ghost use lib.Dec.{eqb};
-ghost use Rattle.guard.specs.Inside.{Below, Parent, toOpen, toChange, toGrant, Scoped};
+ghost use Rattle.guard.specs.Step.{inRanges};
+ghost use Rattle.guard.specs.Kind as kind;
+ghost use Rattle.guard.specs.Inside.{Below, Placed, asksWay, asksName, asksRights};
+
+// The places of the records that a request concerns: where a number is past its range, some other place. `fits`: every number
+// that the request's kind uses is in its range.
+pub struct Places {
+    pub seat: usize,
+    pub user: usize,
+    pub role: usize,
+    pub entity: usize,
+    pub parent: usize,
+    pub fits: bool,
+}
 
 // A number below the end, or 0 in the place of one past it.
-pub fn below16(n: u32) -> usize
-    ensures { λ i. ⌜ Below 16 n i ⌝ }
+fn below(n: u32, end: u32) -> usize
+    requires { ⌜ 0 < end ⌝ }
+    ensures { λ i. ⌜ Below end n i ⌝ }
 {
-    if n < 16 { n as usize } else { 0 }
+    if n < end { n as usize } else { 0 }
 }
 
-pub fn below64(n: u32) -> usize
-    ensures { λ i. ⌜ Below 64 n i ⌝ }
+// Whether each number that the request uses is in its range: for each kind the fields that stand in brackets behind its word.
+fn fits(q: Request) -> bool
+    ensures { λ b. ⌜ b ≡ inRanges q ⌝ }
 {
-    if n < 64 { n as usize } else { 0 }
-}
-
-// The parent that a request concerns: create names it, delete and rename go by the entity's record.
-pub fn parent_of(q: Request, f: Entity) -> usize
-    requires { ⌜ f .parent < 64 ⌝ }
-    ensures { λ i. ⌜ Parent q f i ⌝ }
-{
-    if q.call == 7 {
-        return below64(q.parent);
+    let call = q.call;
+    let seat = q.seat < 16;
+    let user = q.user < 16;
+    let role = q.role < 16;
+    let entity = q.entity < 64;
+    let label = (q.level <= 3) & (q.cats <= 255);
+    let name = (1 <= q.name) & (q.name <= 65535);
+    match call {
+        kinds::LOGIN => seat & (user & label),
+        kinds::LOGOUT => seat,
+        kinds::TAKE | kinds::DROP => seat & role,
+        kinds::OPENR | kinds::OPENW | kinds::CLOSE => seat & entity,
+        kinds::CREATE => {
+            seat & (entity & ((q.kind <= 1) & ((q.parent < 64) & (name & (label & role)))))
+        }
+        kinds::DELETE => seat & entity,
+        kinds::RENAME => seat & (entity & name),
+        kinds::GRANT | kinds::REVOKE => {
+            seat & (role & (entity & ((1 <= q.rights) & (q.rights <= 15))))
+        }
+        kinds::LIST | kinds::UNLIST => seat & (role & user),
+        kinds::MAKE | kinds::UNMAKE => seat & role,
+        16..=4294967295 => false,
     }
-    f.parent as usize
 }
 
-// What 13, 14 and 15 ask of the tables: that `opened` is so, and the roles `held` give `right` on `at`; that they give execute
-// on every container above `from`; whether `kin` has a child, of the request's name where `named`. A request that asks no
-// right holds no role, one that asks for no way up has a root in `from`, and one that asks for no child has `kids` false.
-// `left` is `held` from the lowest role of the level of `at` on.
-pub struct Scope {
-    pub at: usize,
-    pub from: usize,
-    pub kin: usize,
-    pub held: u16,
-    pub left: u16,
-    pub right: u8,
-    pub opened: bool,
-    pub kids: bool,
-    pub named: bool,
-}
-
-const NOTHING: Scope = Scope {
-    at: 0,
-    from: 0,
-    kin: 0,
-    held: 0,
-    left: 0,
-    right: 0,
-    opened: false,
-    kids: false,
-    named: false,
-};
-
-// The roles `held` from number `r` on, counted from there.
-fn held_from(held: u16, r: usize) -> u16
-    requires { ⌜ r < 16 ⌝ }
-    ensures { λ left. ⌜ left ≡ held / 2 ^ r ⌝ }
+pub fn look_up(q: Request) -> Places
+    ensures { λ p. ⌜ Placed q p ⌝ }
 {
-    held >> (r as u32)
-}
-
-// openr asks read, 1, and openw write, 2.
-fn to_open(right: u8, e: usize, held: u16) -> Scope
-    requires { ⌜ e < 64 ⌝ }
-    ensures { λ w. ⌜ w ≡ toOpen right e held ⌝ }
-{
-    let mut w = NOTHING;
-    w.at = e;
-    w.from = e;
-    w.held = held;
-    w.left = held_from(held, e / 16 * 4);
-    w.right = right;
-    w.opened = true;
-    w
-}
-
-// create, delete and rename ask execute, 4, on the parent `o`, and that it is open for writing.
-fn to_change(o: usize, kin: usize, named: bool, held: u16, writing: u64) -> Scope
-    requires { ⌜ o < 64 ⌝ }
-    ensures { λ w. ⌜ w ≡ toChange o kin named held writing ⌝ }
-{
-    let mut w = NOTHING;
-    w.at = o;
-    w.kin = kin;
-    w.held = held;
-    w.left = held_from(held, o / 16 * 4);
-    w.right = 4;
-    w.opened = bitset::has64(writing, o as u32);
-    w.kids = true;
-    w.named = named;
-    w
-}
-
-// grant and revoke ask own, 8.
-fn to_grant(e: usize, held: u16) -> Scope
-    requires { ⌜ e < 64 ⌝ }
-    ensures { λ w. ⌜ w ≡ toGrant e held ⌝ }
-{
-    let mut w = NOTHING;
-    w.at = e;
-    w.held = held;
-    w.left = held_from(held, e / 16 * 4);
-    w.right = 8;
-    w.opened = true;
-    w
-}
-
-// Whose children are asked for: delete, 8, asks for the entity's, create and rename for the parent's.
-fn kin_of(call: u32, e: usize, o: usize) -> usize
-    ensures { λ i. ⌜ i ≡ cond (eqb call 8) e o ⌝ }
-{
-    if call == 8 { e } else { o }
-}
-
-// The scope of a request with entity `e` and parent `o`, by a session that holds `held` and has `writing` open.
-pub fn scope_of(call: u32, e: usize, o: usize, held: u16, writing: u64) -> Scope
-    requires { ⌜ (e < 64) × (o < 64) ⌝ }
-    ensures { λ w. ⌜ Scoped call e o held writing w ⌝ }
-{
-    if (4 <= call) & (call <= 5) {
-        return to_open((call - 3) as u8, e, held);
+    Places {
+        seat: below(q.seat, 16),
+        user: below(q.user, 16),
+        role: below(q.role, 16),
+        entity: below(q.entity, 64),
+        parent: below(q.parent, 64),
+        fits: fits(q),
     }
-    if (7 <= call) & (call <= 9) {
-        let kin = kin_of(call, e, o);
-        return to_change(o, kin, call != 8, held, writing);
+}
+
+// The parent that a request concerns: create names it, the others go by the entity's record.
+pub fn parent_of(call: u32, named: usize, recorded: u8) -> usize
+    ensures { λ o. ⌜ o ≡ cond (eqb call kind.create) named recorded ⌝ }
+{
+    if call == kinds::CREATE {
+        return named;
     }
-    if (10 <= call) & (call <= 11) {
-        return to_grant(e, held);
+    recorded as usize
+}
+
+// openr and openw ask for the way up.
+pub fn asks_way(call: u32) -> bool
+    ensures { λ b. ⌜ b ≡ asksWay call ⌝ }
+{
+    (call == kinds::OPENR) | (call == kinds::OPENW)
+}
+
+// create and rename ask for a name among the children.
+pub fn asks_name(call: u32) -> bool
+    ensures { λ b. ⌜ b ≡ asksName call ⌝ }
+{
+    (call == kinds::CREATE) | (call == kinds::RENAME)
+}
+
+// The roles held, for a kind that asks for rights; none for another.
+pub fn asking(call: u32, held: u16) -> u16
+    ensures { λ h. ⌜ h ≡ cond (asksRights call) held 0 ⌝ }
+{
+    match call {
+        kinds::OPENR | kinds::OPENW => held,
+        kinds::CREATE | kinds::DELETE | kinds::RENAME => held,
+        kinds::GRANT | kinds::REVOKE => held,
+        _ => 0,
     }
-    NOTHING
 }

@@ -1,64 +1,171 @@
-// What the scans for 13, 14 and 15 do in one turn, on single records: the loops over the tables stand where the
-// tables are, since a function that took them would copy them.
-use crate::Entity;
+// What 13, 14 and 15 ask of the tables, scanned over two columns: for each entity its parent and its name as one number
+// (`keys`, sound/tree), and for each role its four sets of entities (`grants`). A function that took the records would copy them.
 use crate::Role;
+use crate::Tables;
+use crate::kinds;
+use crate::look;
 ghost use Prim.Native.Nat.{_<_};
 ghost use mathlib.Core.Path.{_≡_};
-ghost use mathlib.Core.Bool.{not};
-ghost use mathlib.Core.List.{[], _∷_};
-ghost use lib.Dec.{eqb};
-ghost use Rattle.bitset.specs.Tests.{every, either};
+ghost use lib.ListN.{length};
 ghost use Rattle.bitset.specs.Sets.{has};
-ghost use Rattle.guard.specs.Scan.{having, markedOf, maskOf};
+ghost use Rattle.guard.specs.Scan.{Grants, Granted, Cleared, Gathered, climbsBy, reachedBy, nameBy, childBy, kinBy};
 
-// The entities on which role `p` has the right: read 1, write 2, execute 4, else own.
-pub fn having(right: u8, p: Role) -> u64
-    ensures { λ s. ⌜ s ≡ having right p ⌝ }
+// The entities on which a session has each right.
+pub struct Rights {
+    pub reads: u64,
+    pub writes: u64,
+    pub executes: u64,
+    pub owns: u64,
+}
+
+impl Tables {
+    // Of each role its sets, as its record has them.
+    pub(crate) fn grants(self) -> [u64; 64]
+        ensures { λ g. ⌜ Grants self g ⌝ }
+    {
+        let mut g = [0u64; 64];
+        let mut r = 0usize;
+        while r < 16 {
+            let p = self.roles[r];
+            put(&mut g, r, p);
+            r += 1;
+        }
+        g
+    }
+}
+
+// The sets of role `r`.
+pub fn put(grants: &mut [u64; 64], r: usize, p: Role) -> usize
+    requires { ⌜ (r < 16) × (length (now grants) ≡ 64) ⌝ }
+    ensures { λ n. ⌜ Granted (now (grants .entry)) r p (now (grants .exit)) ⌝ }
 {
-    if right == 4 {
-        return p.executes;
+    let b = 4 * r;
+    grants[b] = p.reads;
+    grants[b + 1] = p.writes;
+    grants[b + 2] = p.executes;
+    grants[b + 3] = p.owns;
+    b
+}
+
+// A deleted entity goes from every set.
+pub fn clear(grants: &mut [u64; 64], e: usize) -> usize
+    requires { ⌜ (e < 64) × (length (now grants) ≡ 64) ⌝ }
+    ensures { λ n. ⌜ Cleared (now (grants .entry)) e (now (grants .exit)) ⌝ }
+{
+    let mut j = 0usize;
+    while j < 64 {
+        grants[j] = bitset::without64(grants[j], e as u32);
+        j += 1;
     }
-    if right == 1 {
-        return p.reads;
+    j
+}
+
+// The rights that the roles held give, together.
+pub fn gather(grants: &[u64; 64], held: u16) -> Rights
+    ensures { λ g. ⌜ Gathered (now (grants .entry)) held g ⌝ }
+{
+    let mut reads = 0u64;
+    let mut writes = 0u64;
+    let mut executes = 0u64;
+    let mut owns = 0u64;
+    let mut left = held;
+    while left != 0 {
+        let r = u16::trailing_zeros(left);
+        let b = 4 * r as usize;
+        reads = reads | grants[b];
+        writes = writes | grants[b + 1];
+        executes = executes | grants[b + 2];
+        owns = owns | grants[b + 3];
+        left = bitset::without16(left, r);
     }
-    if right == 2 {
-        return p.writes;
+    Rights {
+        reads,
+        writes,
+        executes,
+        owns,
     }
-    p.owns
 }
 
 // `i` is a member. (`bitset::has64` would test that it is below 64.)
-pub fn is_in(set: u64, i: usize) -> bool
+fn is_in(set: u64, i: usize) -> bool
     requires { ⌜ i < 64 ⌝ }
     ensures { λ b. ⌜ b ≡ has set i ⌝ }
 {
     (set >> (i as u64)) & 1 == 1
 }
 
-// A mark and a number as one number.
-fn marked(live: bool, parent: u32) -> u32
-    requires { ⌜ parent < 256 ⌝ }
-    ensures { λ n. ⌜ n ≡ markedOf live parent ⌝ }
+// Whether each container above `e` is in the set, up to and with the root.
+fn climbs(keys: &[u32; 64], through: u64, e: usize) -> bool
+    requires { ⌜ e < 64 ⌝ }
+    ensures { λ b. ⌜ b ≡ climbsBy (now (keys .entry)) through e ⌝ }
 {
-    if live {
-        return parent * 65536 + 1;
+    let mut at = e;
+    let mut left: u32 = 16;
+    while 0 < left {
+        if at % 16 == 0 {
+            return true;
+        }
+        at = (keys[at] / 65536 % 64) as usize;
+        if !is_in(through, at) {
+            return false;
+        }
+        left -= 1;
     }
-    parent * 65536
+    at % 16 == 0
 }
 
-// All bits, or none.
-fn mask(named: bool) -> u32
-    ensures { λ n. ⌜ n ≡ maskOf named ⌝ }
+pub fn reached(keys: &[u32; 64], call: u32, e: usize, through: u64) -> bool
+    requires { ⌜ e < 64 ⌝ }
+    ensures { λ b. ⌜ b ≡ reachedBy (now (keys .entry)) call e through ⌝ }
 {
-    if named { 4294967295 } else { 0 }
+    if look::asks_way(call) {
+        return climbs(keys, through, e);
+    }
+    false
 }
 
-// `f` is live, its parent is `p`, and it has the name where `named`. (Two comparisons of whole numbers, so that a
-// loop over entities needs no branch.)
-pub fn is_kin(f: Entity, p: usize, named: bool, name: u32) -> bool
+// Whether a child of `p` has the name.
+fn name_in(keys: &[u32; 64], p: usize, name: u32) -> bool
     requires { ⌜ p < 64 ⌝ }
-    ensures { λ b. ⌜ b ≡ every (f .live ∷ eqb (f .parent) p ∷ either (not named) (eqb (f .name) name) ∷ []) ⌝ }
+    ensures { λ b. ⌜ b ≡ nameBy (now (keys .entry)) p name ⌝ }
 {
-    (marked(f.live, f.parent as u32) == marked(true, p as u32))
-        & ((f.name as u32) & mask(named) == name & mask(named))
+    let key = (p as u32) * 65536 + name % 65536;
+    let first = p / 16 * 16;
+    let mut found = false;
+    let mut m = 0usize;
+    while m < 16 {
+        found = found | (keys[first + m] == key);
+        m += 1;
+    }
+    found
+}
+
+// Whether `p` has a child.
+fn child_in(keys: &[u32; 64], p: usize) -> bool
+    requires { ⌜ p < 64 ⌝ }
+    ensures { λ b. ⌜ b ≡ childBy (now (keys .entry)) p ⌝ }
+{
+    let parent = p as u32;
+    let first = p / 16 * 16;
+    let mut found = false;
+    let mut m = 0usize;
+    while m < 16 {
+        found = found | (keys[first + m] / 65536 == parent);
+        m += 1;
+    }
+    found
+}
+
+// What 14 and 15 ask: delete whether `e` has a child, create and rename whether a child of `o` has the name.
+pub fn kin(keys: &[u32; 64], call: u32, e: usize, o: usize, name: u32) -> bool
+    requires { ⌜ (e < 64) × (o < 64) ⌝ }
+    ensures { λ b. ⌜ b ≡ kinBy (now (keys .entry)) call e o name ⌝ }
+{
+    if call == kinds::DELETE {
+        return child_in(keys, e);
+    }
+    if look::asks_name(call) {
+        return name_in(keys, o, name);
+    }
+    false
 }

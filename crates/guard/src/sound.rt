@@ -6,7 +6,7 @@
 mod opens;
 mod record;
 mod rights;
-mod tree;
+pub mod tree;
 
 ghost use Prim.Native.Nat.{ℕ, _%_, _<_};
 ghost use mathlib.Core.Path.{_≡_};
@@ -17,7 +17,8 @@ ghost use Rattle.bitset.specs.Sets.{has};
 ghost use Rattle.guard.specs.Level.{sessionLevel};
 ghost use Rattle.guard.specs.Tables.{noUser, sessionAt, roleAt, entityAt};
 ghost use Rattle.guard.specs.Sound.{userInRange, sound};
-ghost use Rattle.guard.specs.Tested.{entityTest, keyOf, grantableIn, roleTest, labelOf, sessionTest};
+ghost use Rattle.guard.specs.Tested.{entityTest, grantableIn, roleTest, labelNumber, sessionTest};
+ghost use Rattle.guard.specs.Scan.{Keys};
 use crate::Tables;
 use opens::label_of;
 use opens::session_ok;
@@ -66,8 +67,9 @@ impl Tables {
         true
     }
 
-    fn keys(self) -> [u32; 64]
-        ensures { λ r. ⌜ ((e : ℕ) → e < 64 → getD r e 0 ≡ keyOf (entityAt self e)) ⌝ }
+    // Of each entity its parent and its name in one number.
+    pub(crate) fn keys(self) -> [u32; 64]
+        ensures { λ r. ⌜ Keys self r ⌝ }
     {
         let mut a = [0u32; 64];
         let mut e: usize = 0;
@@ -80,7 +82,7 @@ impl Tables {
     }
 
     fn labels(self) -> [u16; 64]
-        ensures { λ r. ⌜ ((e : ℕ) → e < 64 → getD r e 0 ≡ labelOf (entityAt self e)) ⌝ }
+        ensures { λ r. ⌜ ((e : ℕ) → e < 64 → getD r e 0 ≡ labelNumber (entityAt self e)) ⌝ }
     {
         let mut a = [0u16; 64];
         let mut e: usize = 0;
@@ -128,8 +130,9 @@ impl Tables {
         true
     }
 
-    // Whether the tables are sound, for all tables that the types admit.
-    pub fn is_sound(self) -> bool
+    // Whether the tables are sound, by the keys of their entities.
+    pub(crate) fn sound_by(self, keys: &[u32; 64]) -> bool
+        requires { ⌜ Keys self (now keys) ⌝ }
         ensures { λ r. ⌜ r ≡ sound self ⌝ }
     {
         if !self.users_in_range() {
@@ -138,19 +141,26 @@ impl Tables {
         if !self.entities_ok() {
             return false;
         }
-        let keys = self.keys();
-        if !end_at_root(&keys) {
+        if !end_at_root(keys) {
             return false;
         }
-        if !have_own_keys(&keys) {
+        if !have_own_keys(keys) {
             return false;
         }
-        let live = live_set(&keys);
+        let live = live_set(keys);
         let roles = self.roles_ok(live);
         if !roles.ok {
             return false;
         }
         let labels = self.labels();
         self.sessions_ok(&labels, roles.live)
+    }
+
+    // Whether the tables are sound, for all tables that the types admit.
+    pub fn is_sound(self) -> bool
+        ensures { λ r. ⌜ r ≡ sound self ⌝ }
+    {
+        let keys = self.keys();
+        self.sound_by(&keys)
     }
 }

@@ -17,7 +17,7 @@ use borrow.Author.Tests.{eqb-true}
 use Rattle.bitset.specs.Tests.Laws.{decide, clash}
 use Rattle.bitset.specs.Sets.{has, join, minus, with, without}
 use Rattle.bitset.specs.Sets.Laws.{has-join, has-minus, has-none, has-one, join-lt, minus-le}
-use Rattle.guard.specs.Edits.{put}
+use Rattle.guard.specs.Edits.{putIn}
 use Rattle.guard.proofs.Laws.Sound.{SetOk}
 
 -- ---- lists
@@ -87,7 +87,7 @@ module _ (w : ℕ) (live : Bool) (Q : ℕ → Bool) where
   unfolding without
   without-ok s i = minus-ok s (2 ^ i)
 
-  pub put-ok : (b : Bool) (i s : ℕ) → SetOk w live Q s → (b ≡ true → SetOk w live Q (with s i)) → SetOk w live Q (put b i s)
-  unfolding put
+  pub put-ok : (b : Bool) (i s : ℕ) → SetOk w live Q s → (b ≡ true → SetOk w live Q (with s i)) → SetOk w live Q (putIn b i s)
+  unfolding putIn
   put-ok true i s ok new = new refl
   put-ok false i s ok new = without-ok s i ok

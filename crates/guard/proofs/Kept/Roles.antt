@@ -17,7 +17,7 @@ use Rattle.bitset.specs.Sets.Laws.{has-minus, has-without-same, has-contains, c
 use Rattle.guard.specs.Level.{roleLevel, entityLevel, isKeeper}
 use Rattle.guard.specs.Tables.{noSession, noRole, sessionAt, roleAt, entityAt, rightsOf}
 use Rattle.guard.specs.Sound.{sound}
-use Rattle.guard.specs.Edits.{withRoles, atRole, eachRole, eachSession, dropRole, listing, put, granting, setRights, addRights, removeRights, listUser, unlistUser}
+use Rattle.guard.specs.Edits.{withRoles, atRole, eachRole, eachSession, dropRole, listing, putIn, granting, setRights, addRights, removeRights, listUser, unlistUser}
 use Rattle.guard.specs.Conditions.{grantBelow}
 use Rattle.guard.specs.Requests.{fieldInRange, grant, revoke, list, unlist, make, unmake}
 use Rattle.guard.specs.declared.Role.{Role}
@@ -31,7 +31,7 @@ use Rattle.guard.proofs.Kept.Sessions.{Keeps, not-below, dropped-ok, ea
 
 -- ---- a set with a member that it has, and one less some members
 with-same : (s e : ℕ) → has s e ≡ true → with s e ≡ s
-unfolding put
+unfolding putIn
 with-same s e h = rw h at (put-same e s)
 
 contains-minus : (a b : ℕ) → contains a (minus a b) ≡ true
@@ -47,7 +47,7 @@ module _ (es : List Entity) (r : ℕ) (p : Role) (ok : RoleOk es r p) where
   -- the four sets at once: s is the one by which the role has the right m
   granting-ok : (e n : ℕ)
       → ((m s : ℕ) → contains (rightsOf p e) m ≡ has s e → SetOk 64 (p .live) (λ f. grantable r f (entityIn es f)) s
-      → SetOk 64 (p .live) (λ f. grantable r f (entityIn es f)) (put (contains n m) e s))
+      → SetOk 64 (p .live) (λ f. grantable r f (entityIn es f)) (putIn (contains n m) e s))
       → RoleOk es r (granting e n p)
   granting-ok e n new =
       record {

@@ -20,7 +20,7 @@ use Rattle.guard.specs.Label.{labelInRange, sameLabel, noLabel}
 use Rattle.guard.specs.Tables.{noSession, sessionAt}
 use Rattle.guard.specs.Sound.{sound}
 use Rattle.guard.specs.Edits.{withSessions, atSession, eachSession, holding, opening, takeRole, dropRole, openReading, openWriting, closeBoth}
-use Rattle.guard.specs.Conditions.{labelOf}
+use Rattle.guard.specs.Conditions.{labelAsked}
 use Rattle.guard.specs.Requests.{Rule, fieldInRange, loggedIn, login, logout, take, drop, openr, openw, close}
 use Rattle.guard.specs.declared.Label.{Label}
 use Rattle.guard.specs.declared.Session.{Session}
@@ -104,7 +104,7 @@ pub keeps-login : Keeps login
 unfolding login loggedIn fieldInRange
 keeps-login t q d =
     session-kept t (q .seat) _ (d .isSound)
-    (λ l old. nothing-ok _ _ _ true (q .user) (labelOf q) (ltb-true _ _ (every-at _ (d .ranges) 1)) (every-at _ (d .ranges) 2) (λ dead. absurd (clash true refl dead)))
+    (λ l old. nothing-ok _ _ _ true (q .user) (labelAsked q) (ltb-true _ _ (every-at _ (d .ranges) 1)) (every-at _ (d .ranges) 2) (λ dead. absurd (clash true refl dead)))
 
 pub keeps-logout : Keeps logout
 unfolding logout labelInRange sameLabel every

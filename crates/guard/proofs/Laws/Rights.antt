@@ -2,7 +2,7 @@
 --     rights-none, rights-zero                                          no rights are no membership, and back
 --     contains-read, contains-write, contains-execute, contains-own     one right is one membership
 --     rights-small                                                      rights are below 16
---     has-put-same, has-put-other, put-same                             a set with e put in or out
+--     has-put-same, has-put-other, put-same                             a set with e putIn in or out
 --     rights-granted, rights-other, rights-cleared                      the rights after an edit, on e and on others
 -- Assumes nothing.
 use Prim.Native.Nat.{ℕ, _+_, _<_}
@@ -17,7 +17,7 @@ use Rattle.bitset.specs.Tests.Laws.{all-e}
 use Rattle.bitset.specs.Sets.{has, contains}
 use Rattle.bitset.specs.Sets.Laws.{sets-ext, has-with-same, has-with-other, has-without-same, has-without-other}
 use Rattle.guard.specs.Tables.{rightsOf}
-use Rattle.guard.specs.Edits.{put, granting, setRights, clearRights}
+use Rattle.guard.specs.Edits.{putIn, granting, setRights, clearRights}
 use Rattle.guard.specs.declared.Role.{Role}
 
 -- ---- four flags, added up
@@ -90,21 +90,21 @@ unfolding rightsOf
 rights-small p e =
     omega (arith, bit-le (has (p .reads) e) 1, bit-le (has (p .writes) e) 2, bit-le (has (p .executes) e) 4, bit-le (has (p .owns) e) 8)
 
--- ---- a set with e put in or out
-pub has-put-same : (b : Bool) (e s : ℕ) → has (put b e s) e ≡ b
-unfolding put
+-- ---- a set with e putIn in or out
+pub has-put-same : (b : Bool) (e s : ℕ) → has (putIn b e s) e ≡ b
+unfolding putIn
 has-put-same true e s = has-with-same s e
 has-put-same false e s = has-without-same s e
 
-pub has-put-other : (b : Bool) (e s i : ℕ) → (i ≡ e → ⊥) → has (put b e s) i ≡ has s i
-unfolding put
+pub has-put-other : (b : Bool) (e s i : ℕ) → (i ≡ e → ⊥) → has (putIn b e s) i ≡ has s i
+unfolding putIn
 has-put-other true e s i ne = has-with-other s e i ne
 has-put-other false e s i ne = has-without-other s e i ne
 
-pub put-same : (e s : ℕ) → put (has s e) e s ≡ s
-put-same e s = sets-ext (put (has s e) e s) s (λ i. go i (ℕ-discrete i e))
+pub put-same : (e s : ℕ) → putIn (has s e) e s ≡ s
+put-same e s = sets-ext (putIn (has s e) e s) s (λ i. go i (ℕ-discrete i e))
   where
-    go : (i : ℕ) → Dec (i ≡ e) → has (put (has s e) e s) i ≡ has s i
+    go : (i : ℕ) → Dec (i ≡ e) → has (putIn (has s e) e s) i ≡ has s i
     go i (yes same) = rw same (has-put-same (has s e) e s)
     go i (no ne) = has-put-other (has s e) e s i ne
 

@@ -1,5 +1,4 @@
 -- What the keys tell of the tree, where each entity's numbers are known.
---     Keys                      the keys of the tables
 --     parent-of-key             the parent that a key holds
 --     chains-as                 chains by the keys are chains of parents
 --     own-e, own-i              a key of its own in its level is a name that no sibling has
@@ -18,14 +17,12 @@ use Rattle.bitset.specs.Tests.{all}
 use Rattle.bitset.specs.Tests.Laws.{clash, is-false, not-of-false, of-not-true, of-not-false, every-i, every-at, either-l, either-r, either-e, implies-i, implies-e, all-i, all-e, all-cong}
 use Rattle.guard.specs.Level.{isRoot}
 use Rattle.guard.specs.Tables.{entityAt}
-use Rattle.guard.specs.Tested.{ends, keyOf, ownKey, parentByKey, liveByKey}
+use Rattle.guard.specs.Tested.{ends, ownKey, parentByKey, liveByKey}
+use Rattle.guard.specs.Scan.{Keys}
 use Rattle.guard.specs.declared.Tables.{Tables}
 use Rattle.guard.proofs.Laws.Sound.Facts.{parentIn, OwnName}
 use Rattle.guard.proofs.Soundness.Climb.{climbs-cong}
 use Rattle.guard.proofs.Soundness.Settled.{Known}
-
-abbrev pub Keys : Tables → List ℕ → Type 0
-Keys t keys = (e : ℕ) → e < 64 → getD keys e 0 ≡ keyOf (entityAt t e)
 
 cond-true : (b : Bool) (x y : ℕ) → b ≡ true → cond b x y ≡ x
 cond-true b x y q = rw q
@@ -34,11 +31,11 @@ cond-false : (b : Bool) (x y : ℕ) → b ≡ false → cond b x y ≡ y
 cond-false b x y q = rw q
 
 module _ (t : Tables) (keys : List ℕ) (K : Keys t keys) (N : (e : ℕ) → e < 64 → Known e (entityAt t e)) where
-  key-live : (e : ℕ) → e < 64 → entityAt t e .live ≡ true → getD keys e 0 ≡ entityAt t e .parent * 65536 + entityAt t e .name
-  key-live e l h = K e l ∙ cond-true (entityAt t e .live) _ _ h
+  pub key-live : (e : ℕ) → e < 64 → entityAt t e .live ≡ true → getD keys e 0 ≡ entityAt t e .parent * 65536 + entityAt t e .name
+  key-live e l h = K .at e l ∙ cond-true (entityAt t e .live) _ _ h
 
-  key-dead : (e : ℕ) → e < 64 → entityAt t e .live ≡ false → getD keys e 0 ≡ 16777216
-  key-dead e l h = K e l ∙ cond-false (entityAt t e .live) _ _ h
+  pub key-dead : (e : ℕ) → e < 64 → entityAt t e .live ≡ false → getD keys e 0 ≡ 16777216
+  key-dead e l h = K .at e l ∙ cond-false (entityAt t e .live) _ _ h
 
   pub parent-of-key : (e : ℕ) → e < 64 → (parentByKey keys e ≡ parentIn (t .entities) e) × (parentIn (t .entities) e < 64)
   parent-of-key e l = (go (entityAt t e .live) refl, N e l .parent)
@@ -48,7 +45,7 @@ module _ (t : Tables) (keys : List ℕ) (K : Keys t keys) (N : (e : ℕ) → e <
       go false h = rw (key-dead e l h, N e l .dead h .0)
 
   pub chains-as : all 64 (ends (parentByKey keys) 16) ≡ all 64 (ends (parentIn (t .entities)) 16)
-  chains-as = all-cong 64 _ _ (λ e l. climbs-cong _ _ parent-of-key 16 e l)
+  chains-as = all-cong 64 _ _ (λ e l. climbs-cong _ _ _ _ parent-of-key (λ k h. refl) 16 e l)
 
   pub live-of-key : (e : ℕ) → e < 64 → liveByKey keys e ≡ entityAt t e .live
   live-of-key e l = go (entityAt t e .live) refl

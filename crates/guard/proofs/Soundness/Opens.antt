@@ -18,7 +18,7 @@ use Rattle.guard.specs.Level.{sessionLevel}
 use Rattle.guard.specs.Label.{labelInRange, dominates, sameLabel}
 use Rattle.guard.specs.Tables.{roleAt, entityAt}
 use Rattle.guard.specs.Sound.{sessionInRange, isEmptySession}
-use Rattle.guard.specs.Tested.{sessionTest, labelOf}
+use Rattle.guard.specs.Tested.{sessionTest, labelNumber}
 use Rattle.guard.specs.declared.Label.{Label}
 use Rattle.guard.specs.declared.Session.{Session}
 use Rattle.guard.specs.declared.Entity.{Entity}
@@ -28,7 +28,7 @@ use Rattle.guard.proofs.Soundness.Tests.{cond-yes, cond-no, yes-e, no-e
 use Rattle.guard.proofs.Soundness.Settled.{Known, zero-label}
 
 abbrev pub Labels : Tables → List ℕ → Type 0
-Labels t labels = (e : ℕ) → e < 64 → getD labels e 0 ≡ labelOf (entityAt t e)
+Labels t labels = (e : ℕ) → e < 64 → getD labels e 0 ≡ labelNumber (entityAt t e)
 
 -- ---- a label against the number of an entity's
 module _ (l : Label) (g : ℕ) (c : ℕ) (l-small : l .grade ≤ 3) (c-small : c < 256) where
@@ -50,12 +50,12 @@ module _ (l : Label) (g : ℕ) (c : ℕ) (l-small : l .grade ≤ 3) (c-small : c
   same-as false b =
       both _ _ (λ h. absurd (omega (arith, eqb-true 65535 (l .grade * 256 + l .cats) h))) (λ h. absurd (clash false (every-at _ h 0) refl))
 
-below-is : (l : Label) (n : Entity) (v : ℕ) → v ≡ labelOf n → l .grade ≤ 3 → n .label .cats < 256
+below-is : (l : Label) (n : Entity) (v : ℕ) → v ≡ labelNumber n → l .grade ≤ 3 → n .label .cats < 256
     → every (leb v (l .grade * 256 + 255) ∷ contains (l .cats) (v % 256) ∷ []) ≡ every (n .live ∷ dominates l (n .label) ∷ [])
 unfolding dominates
 below-is l n v e p q = rw e (below-as l _ _ p q (n .live))
 
-same-is : (l : Label) (n : Entity) (v : ℕ) → v ≡ labelOf n → l .grade ≤ 3 → n .label .cats < 256 → l .cats < 256
+same-is : (l : Label) (n : Entity) (v : ℕ) → v ≡ labelNumber n → l .grade ≤ 3 → n .label .cats < 256 → l .cats < 256
     → eqb v (l .grade * 256 + l .cats) ≡ every (n .live ∷ sameLabel l (n .label) ∷ [])
 unfolding sameLabel
 same-is l n v e p q b = rw e (same-as l _ _ p q (n .live) b)

@@ -1,6 +1,6 @@
 -- The parts of the test, in its order, against `sound`: what sound tables pass, and that tables which pass all are sound.
 --     usersTest, entitiesTest, chainsTest, namesTest, rolesTest, sessionsTest                the parts
---     Taken, LiveRoles, Sized, keys-small                                                    what the later parts rest on
+--     Taken, LiveRoles, Sized, keys-small, numbers                                           what the later parts rest on
 --     users-pass, entities-pass, chains-pass, names-pass, roles-pass, sessions-pass          what sound tables pass
 --     refuted, met, decided                    a part that fails, one that is met, and the last part, which decides
 -- Assumes nothing.
@@ -18,12 +18,13 @@ use Rattle.guard.specs.Level.{sessionLevel, isRoot}
 use Rattle.guard.specs.Tables.{noUser, sessionAt, roleAt, entityAt}
 use Rattle.guard.specs.Sound.{userInRange, usersInRange, sound}
 use Rattle.guard.specs.Tested.{parentByKey, liveByKey, grantableIn, ends, entityTest, ownKey, roleTest, sessionTest}
+use Rattle.guard.specs.Scan.{Keys}
 use Rattle.guard.specs.declared.Tables.{Tables}
 use Rattle.guard.proofs.Laws.Sound.{sound-e, sound-i}
 use Rattle.guard.proofs.Laws.Sound.Facts.{Sound, EntityOk, parentIn}
 use Rattle.guard.proofs.Soundness.Climb.{climbs-root, climbs-on}
 use Rattle.guard.proofs.Soundness.Settled.{Settled, Known, settled, test-of, known}
-use Rattle.guard.proofs.Soundness.Keys.{Keys, chains-as, own-e, own-i, live-of-key, key-small}
+use Rattle.guard.proofs.Soundness.Keys.{chains-as, own-e, own-i, live-of-key, key-small}
 use Rattle.guard.proofs.Soundness.Grants.{role-e, role-i}
 use Rattle.guard.proofs.Soundness.Opens.{Labels, session-e, session-i}
 
@@ -74,7 +75,7 @@ module _ (t : Tables) (h : sound t ≡ true) where
   ok : Sound t
   ok = sound-e t h
 
-  numbers : (e : ℕ) → e < 64 → Known e (entityAt t e)
+  pub numbers : (e : ℕ) → e < 64 → Known e (entityAt t e)
   numbers e l = known t e _ (settled-of t e (ok .entity e l))
 
   pub users-pass : usersTest t ≡ true
@@ -88,9 +89,9 @@ module _ (t : Tables) (h : sound t ≡ true) where
   chains-pass keys K = chains-as t keys K numbers ∙ all-i 64 _ (λ e l. go e l (entityAt t e .live) refl (isRoot e) refl)
     where
       go : (e : ℕ) → e < 64 → (b : Bool) → entityAt t e .live ≡ b → (r : Bool) → isRoot e ≡ r → ends (parentIn (t .entities)) 16 e ≡ true
-      go e l b live true r = climbs-root _ 16 e r
+      go e l b live true r = climbs-root _ _ 16 e r
       go e l true live false r = ok .entity e l .placed live r .inside .chain
-      go e l false dead false r = climbs-on _ 16 e (omega arith) r ∙ rw (numbers e l .dead dead .0) (climbs-root _ 15 0 refl)
+      go e l false dead false r = climbs-on _ _ 16 e (omega arith) r ∙ rw (numbers e l .dead dead .0) (climbs-root _ _ 15 0 refl)
 
   pub names-pass : (keys : List ℕ) → Keys t keys → namesTest keys ≡ true
   names-pass keys K = all-i 64 _ (λ e l. own-i t keys K numbers e l (λ live other. ok .entity e l .placed live other .ownName))

@@ -5,7 +5,7 @@ ghost use lib.Dec.{leb, eqb};
 ghost use lib.ListN.{getD};
 ghost use Rattle.bitset.specs.Sets.{has};
 ghost use Rattle.guard.specs.Level.{entityLevel};
-ghost use Rattle.guard.specs.Tested.{packedLabel, labelOf, dominated, members, openLevels, openLabels, sessionTest};
+ghost use Rattle.guard.specs.Tested.{packedLabel, labelNumber, dominated, members, openLevels, openLabels, sessionTest};
 use super::record::is_empty_session;
 use super::record::session_in_range;
 use crate::Entity;
@@ -20,7 +20,7 @@ fn packed(a: Label) -> u16
 
 // The label of what is not live is above all.
 pub fn label_of(n: Entity) -> u16
-    ensures { λ r. ⌜ r ≡ labelOf n ⌝ }
+    ensures { λ r. ⌜ r ≡ labelNumber n ⌝ }
 {
     if !n.live {
         return 65535;

@@ -17,7 +17,7 @@ use Rattle.guard.specs.Label.{dominates, sameLabel}
 use Rattle.guard.specs.Tables.{sessionAt, entityAt, hasRight, execute, read, write, own, container, lists, isChild}
 use Rattle.guard.specs.Sound.{sound}
 use Rattle.guard.specs.Refusals.{_when_}
-use Rattle.guard.specs.Conditions.{labelOf, seatLive, pastUser, seatDead, createBelow, grantBelow, userUnlisted, keeperNotHeld, cannotOpen, cannotChange, roleHeld, openForReading, openForWriting, notOpen, entityDead, roleDead, roleLive, nameTaken, hasChildren, recordedParent}
+use Rattle.guard.specs.Conditions.{labelAsked, seatLive, pastUser, seatDead, createBelow, grantBelow, userUnlisted, keeperNotHeld, cannotOpen, cannotChange, roleHeld, openForReading, openForWriting, notOpen, entityDead, roleDead, roleLive, nameTaken, hasChildren, recordedParent}
 use Rattle.guard.specs.Requests.{Rule, fieldInRange, login, logout, take, drop, openr, openw, close, create, delete, rename, grant, revoke, list, unlist, make, unmake, unknown, rules, ruleOf}
 use Rattle.guard.specs.Upper.{firstEntity, fieldUpper}
 use Rattle.guard.specs.declared.Label.{Label}
@@ -172,7 +172,7 @@ module _ (L : ℕ) (q : Request) (t u : Tables) (same : Same L t u) (st : sound 
       also ap (λ (e : Entity). e .live) here
       also ap (λ (e : Entity). not (eqb (e .kind) container)) parent
       also refl
-      also ap (λ (e : Entity). not (dominates (labelOf q) (e .label))) parent
+      also ap (λ (e : Entity). not (dominates (labelAsked q) (e .label))) parent
       also ap not (roleHeld-same s o)
       also cannotChange-same (q .parent) s up
       also nameTaken-same (q .parent) up

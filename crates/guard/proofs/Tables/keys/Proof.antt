@@ -43,7 +43,7 @@ loop-again : tie.Need-loop-again Inv-loop μ-loop
 loop-again c = (omega arith, filled-more _ _ _ _ (omega arith) (c .before .before .before .loop .inv .1) (c .key .ensures))
 
 returns : tie.Need-returns Inv-loop μ-loop
-returns c = filled-all _ _ _ (omega arith) (c .before .loop .inv .1)
+returns c = record { long = c .before .loop .inv .1 .long; at = filled-all _ _ _ (omega arith) (c .before .loop .inv .1) }
 
 pub keys-spec : {M : Type 1} → statement M
 keys-spec =

@@ -4,13 +4,13 @@ use Prim.Native.Nat.{_-_, _≤_}
 use native.Mathlib.Omega.{arith}
 use mathlib.Core.Path.{refl}
 use Rattle.guard.specs.Tables.{entityAt}
-use Rattle.guard.specs.Tested.{labelOf}
+use Rattle.guard.specs.Tested.{labelNumber}
 use Rattle.guard.proofs.Soundness.Loops.{Filled, filled-none, filled-more, filled-all}
 use Rattle.guard.proofs.Tables.labels.Statement.{statement}
 use Rattle.guard.proofs.Tables.labels.Tie as tie
 
 abbrev Inv-loop : tie.InvT-loop
-Inv-loop self a₀ e₀ a e = (e ≤ 64) × Filled (λ k. labelOf (entityAt self k)) e a
+Inv-loop self a₀ e₀ a e = (e ≤ 64) × Filled (λ k. labelNumber (entityAt self k)) e a
 
 abbrev μ-loop : tie.MeasureT-loop
 μ-loop self a₀ e₀ a e = 64 - e

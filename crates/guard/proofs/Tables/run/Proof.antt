@@ -1,657 +1,554 @@
--- `Tables::run` is the batch of the definitions. The outer loop keeps Held (Batches): the tables and answers after t requests,
--- and that the tables are sound, since every request hands back sound ones. In a turn the loops keep what they keep in
--- `step`. Assumes nothing.
-use Prim.Native.Nat.{_+_, _-_, _≤_, _<_}
-use mathlib.Core.Path.{_≡_, refl, sym, ap, _∙_}
-use mathlib.Core.Bool.{Bool, true, false, _&&_}
-use mathlib.Core.Logic.{inl, inr, ⊎-elim}
-use native.Mathlib.Omega.{arith}
-use lib.ListN.{length, getD, set, take}
-use lib.Seq.{length-take-le}
+-- `run` is the log of its rows: each turn of the loop looks up what a request concerns, decides it and stores what it does. Assumes nothing.
 use borrow.Author.Needs.{needs}
-use borrow.Author.Tests.{not-true, not-false, le-leb, lt-leb}
-use Rattle.bitset.specs.Tests.{some}
-use Rattle.bitset.specs.Tests.Laws.{clash}
-use Rattle.bitset.specs.Sets.{has, join}
-use Rattle.guard.specs.Level.{isRoot}
-use Rattle.guard.specs.Tables.{execute}
-use Rattle.guard.specs.Chain.{climbs, parentOf}
+use Prim.Native.Nat.{ℕ, _+_, _-_, _≤_, _<_}
+use mathlib.Core.Path.{_≡_, refl, sym, ap, _∙_}
+use mathlib.Core.Bool.{true}
+use mathlib.Core.List.{List}
+use native.Mathlib.Omega.{arith}
+use lib.ListN.{length, set, length-append, length-replicate, length-drop}
+use borrow.Author.Tests.{not-true, not-false}
 use Rattle.guard.specs.Sound.{sound}
-use Rattle.guard.specs.Edits.{withSessions, withRoles, closeBoth, dropRole, clearRights}
 use Rattle.guard.specs.Requests.{ruleOf}
-use Rattle.guard.specs.Step.{step}
-use Rattle.guard.specs.Batch.{batch}
-use Rattle.guard.specs.Scan.{having}
-use Rattle.guard.specs.Inside.{number, kinTest, kinSeen}
+use Rattle.guard.specs.Step.{inRanges}
+use Rattle.guard.specs.Batch.{batchLength}
+use Rattle.guard.specs.Inside.{number, Placed}
+use Rattle.guard.specs.Scan.{Keys, Grants}
 use Rattle.guard.specs.declared.Tables.{Tables}
 use Rattle.guard.specs.declared.Request.{Request}
-use Rattle.guard.specs.declared.Outcome.{Outcome}
-use Rattle.guard.proofs.Scans.{walk-in, Block, block-start, block-more}
-use Rattle.guard.proofs.Scans.Given.{Gathered, gathered-start, gathered-join, gathered-skip, gathered-at}
-use Rattle.guard.proofs.Scans.Climb.{parent-small, steps-left, Climbing, climbing-start, climbing-more, climbing-all}
-use Rattle.guard.proofs.Scans.Kin.{kin-all}
-use Rattle.guard.proofs.Soundness.Loops.{long}
-use Rattle.guard.proofs.Sweeps.{mapped, roles-dead, roles-more, sessions-more, swept-entity, swept-role, Sized, sized-session, sized-entity, sized-role, sized-roles, sized-sessions}
-use Rattle.guard.proofs.Stepping.{Concerned, Found, seen-of, scanned-of, refuses, does, outcome}
-use Rattle.guard.proofs.Doing.{nine, session-done, create-done, deleted, delete-done, rename-done, role-done, unmade, unmake-done}
-use Rattle.guard.proofs.Batches.{noRequest, Held, held-none, held-more, all-refused}
+use Rattle.guard.specs.declared.change.Change.the-variants.{Session as OfSession, Create as OfCreate, Delete as OfDelete, Rename as OfRename, Role as OfRole, Unmake as OfUnmake}
+use Rattle.guard.proofs.Laws.Sound.{Sound, sound-e}
+use Rattle.guard.proofs.Ranges.{in-create, in-delete, in-rename}
+use Rattle.guard.proofs.Logs.{batch-room, batch-rows}
+use Rattle.guard.proofs.Columns.{keys-set, keys-other, grants-other, grants-role, grants-each}
+use Rattle.guard.proofs.Seen.{parent-in, seen-of}
+use Rattle.guard.proofs.Answers.{done-in-range}
+use Rattle.guard.proofs.Stored.{told, session-stored, create-stored, delete-stored, rename-stored, role-stored, unmake-stored}
+use Rattle.guard.proofs.Turns.{Held, held-none, held-more, held-length, held-all, no-batch, unsound-batch, Stepped, refuses, does}
 use Rattle.guard.proofs.Tables.run.Statement.{statement}
 use Rattle.guard.proofs.Tables.run.Tie as tie
 
-abbrev Inv-loop2 : tie.InvT-loop2
-Inv-loop2 count self requests answers t q x r e k s f o w child₀ kin base j₀ child j = Block (kinSeen self kin (w .named) (q .name)) kin j child
-
-abbrev μ-loop2 : tie.MeasureT-loop2
-μ-loop2 count self requests answers t q x r e k s f o w child₀ kin base j₀ child j = 16 - j
-
-abbrev Inv-loop3 : tie.InvT-loop3
-Inv-loop3 count self requests answers t q x r e k s f o w child may at right asked₀ through₀ i₀ left₀ asked through i left = Gathered self (w .held) (w .right) at i left asked × Gathered self (w .held) execute at i left through
-
-abbrev μ-loop3 : tie.MeasureT-loop3
-μ-loop3 count self requests answers t q x r e k s f o w child may at right asked₀ through₀ i₀ left₀ asked through i left = left
-
-abbrev Inv-loop4 : tie.InvT-loop4
-Inv-loop4 count self requests answers t q x r e k s f o child may₀ at right asked through i left a₀ steps₀ may a steps = Climbing self through a₀ may₀ steps a may
-
-abbrev μ-loop4 : tie.MeasureT-loop4
-μ-loop4 count self requests answers t q x r e k s f o child may₀ at right asked through i left a₀ steps₀ may a steps = steps
-
-abbrev Inv-loop5 : tie.InvT-loop5
-Inv-loop5 count self₀ requests answers t x r e k o child may n call i3₀ self i3 = (i3 ≤ 16) × (self ≡ withSessions self₀ (mapped (closeBoth e) i3 (self₀ .sessions)))
-
-abbrev μ-loop5 : tie.MeasureT-loop5
-μ-loop5 count self₀ requests answers t x r e k o child may n call i3₀ self i3 = 16 - i3
-
-abbrev Inv-loop6 : tie.InvT-loop6
-Inv-loop6 count self₀ requests answers t x r e k o child may n call i3 i2₀ self i2 = (i2 ≤ 16) × (self ≡ withRoles self₀ (mapped (clearRights e) i2 (self₀ .roles)))
-
-abbrev μ-loop6 : tie.MeasureT-loop6
-μ-loop6 count self₀ requests answers t x r e k o child may n call i3 i2₀ self i2 = 16 - i2
-
-abbrev Inv-loop7 : tie.InvT-loop7
-Inv-loop7 count self₀ requests answers t x r e k o child may n call i3₀ self i3 = (i3 ≤ 16) × (self ≡ withSessions self₀ (mapped (dropRole r) i3 (self₀ .sessions)))
-
-abbrev μ-loop7 : tie.MeasureT-loop7
-μ-loop7 count self₀ requests answers t x r e k o child may n call i3₀ self i3 = 16 - i3
-
 abbrev Inv-loop : tie.InvT-loop
-Inv-loop count self₀ requests answers₀ t₀ self answers t = (t ≤ count) × Held self₀ requests t self answers × Sized self
+Inv-loop rows answers₀ self₀ count keys₀ grants₀ i₀ answers self keys grants i = (i ≤ count) × (count ≡ batchLength (length rows) (length answers₀)) × Held self₀ rows answers₀ i self answers keys grants
 
 abbrev μ-loop : tie.MeasureT-loop
-μ-loop count self₀ requests answers₀ t₀ self answers t = count - t
+μ-loop rows answers₀ self₀ count keys₀ grants₀ i₀ answers self keys grants i = count - i
 
--- a place of the function, or what is asked there, with these
-abbrev At : (tie.InvT-loop2 → tie.MeasureT-loop2 → tie.InvT-loop3 → tie.MeasureT-loop3 → tie.InvT-loop4 → tie.MeasureT-loop4 → tie.InvT-loop5 → tie.MeasureT-loop5 → tie.InvT-loop6 → tie.MeasureT-loop6 → tie.InvT-loop7 → tie.MeasureT-loop7 → tie.InvT-loop → tie.MeasureT-loop → Type 0) → Type 0
-At P = P Inv-loop2 μ-loop2 Inv-loop3 μ-loop3 Inv-loop4 μ-loop4 Inv-loop5 μ-loop5 Inv-loop6 μ-loop6 Inv-loop7 μ-loop7 Inv-loop μ-loop
+abbrev At : (tie.InvT-loop → tie.MeasureT-loop → Type 0) → Type 0
+At P = P Inv-loop μ-loop
 
--- ---- what is known in a turn
-turn : (c : At tie.In-loop) → (c .before .loop .t < c .before .before .before .before .before .args .count) × (c .before .before .before .before .before .args .count ≤ 256)
-turn c = (c .loop-test .taken, c .before .before .before .before .if1 .left)
+-- ---- the places on the way of one request
+abbrev counted : At tie.After-sound-by → At tie.After-count
+counted c = c .before .before .before .before
 
-many : (c : At tie.Start) → length (c .args .t2) ≡ 256
-many c = search (long, c .good .1 .0)
+abbrev rows-at : At tie.After-count → List ℕ
+rows-at c = c .before .before .before .args .rows .now
 
-turned : (c : At tie.In-loop) → (o : Outcome) → o ≡ step (c .before .loop .self) (getD (c .before .before .before .before .before .args .t2) (c .before .loop .t) noRequest) → Sized (o .tables) → ((c .before .loop .t + 1) ≤ c .before .before .before .before .before .args .count) × Held (c .before .before .before .before .before .args .t1) (c .before .before .before .before .before .args .t2) (c .before .loop .t + 1) (o .tables) (set (c .before .loop .answers) (c .before .loop .t) (o .answer)) × Sized (o .tables)
-turned c o stepped sized =
-    let h = turn c in
-    let l = many (c .before .before .before .before .before) in
-    (omega arith, held-more _ _ _ _ _ noRequest (c .before .loop .inv .1) o stepped (omega arith) (omega arith), sized)
+abbrev old-at : At tie.After-count → List ℕ
+old-at c = c .before .before .before .args .answers .now
 
-children : (c : At tie.Joined3) → (c .before .scope-of .result) .kids ≡ true → ((c .before .scope-of .result) .named ≡ true → 1 ≤ (getD (c .before .before .before .before .before .before .before .before .before .before .before .before .before .before .before .args .t2) (c .before .before .before .before .before .before .before .before .before .before .before .loop .t) noRequest) .name) → ((c .before .scope-of .result) .named ≡ false → isRoot ((c .before .scope-of .result) .kin) ≡ false)
-    → c .if3 .child ≡ some 64 (kinTest (c .before .before .before .before .before .before .before .before .before .before .before .loop .self) ((c .before .scope-of .result) .kin) ((c .before .scope-of .result) .named) ((getD (c .before .before .before .before .before .before .before .before .before .before .before .before .before .before .before .args .t2) (c .before .before .before .before .before .before .before .before .before .before .before .loop .t) noRequest) .name))
-children c on asked other =
-    ⊎-elim
-    (λ y. y .3 ∙ kin-all _ (c .before .before .before .before .before .before .before .before .before .before .before .loop .inv .1 .isSound) _ _ _ asked other (c .before .scope-of .ensures .kinIn) _ _ (y .1 .inv) (omega (arith, y .2 .left)))
-    (λ y. absurd (clash _ on (y .0 .left)))
-    (c .if3 .came)
+-- the batch has room for its answers
+room : (c : At tie.After-count) → c .count .result ≤ length (old-at c)
+room c = omega (arith, c .count .ensures, batch-room (length (rows-at c)) (length (old-at c)))
 
-found : (c : At tie.Joined4) → Found (c .before .before .before .before .before .before .before .before .before .before .before .before .loop .self) (c .before .before .scope-of .result) ((getD (c .before .before .before .before .before .before .before .before .before .before .before .before .before .before .before .before .args .t2) (c .before .before .before .before .before .before .before .before .before .before .before .before .loop .t) noRequest) .name) (c .if4 .may) (c .before .if3 .child)
-found c =
-    record {
-      opened = λ on.
-          ⊎-elim
-          (λ y. (
-            y .1 .asked,
-            y .1 .through,
-            record {
-              here = gathered-at _ _ _ _ _ _ _ (y .1 .inv .0) (y .2 .left);
-              above = gathered-at _ _ _ _ _ _ _ (y .1 .inv .1) (y .2 .left);
-              way = y .6 ∙ climbing-all _ _ _ _ _ _ _ (y .4 .inv) (y .5 .left) ∙ ap (λ (b : Bool). b && climbs (parentOf (c .before .before .before .before .before .before .before .before .before .before .before .before .loop .self)) (has (y .1 .through)) 16 ((c .before .before .scope-of .result) .from)) (y .3 .ensures);
-            },
-          ))
-          (λ y. absurd (clash _ on (y .0 .left)))
-          (c .if4 .came);
-      shut = λ off. ⊎-elim (λ y. absurd (clash _ (y .0 .taken) off)) (λ y. y .1) (c .if4 .came);
-      kids = children (c .before);
-    }
+sound-at : (c : At tie.Else2) → sound (counted (c .before) .before .before .before .args .t1) ≡ true
+sound-at c = sym (c .before .sound-by .ensures) ∙ not-false _ (c .if2 .left)
 
-concerned : (c : At tie.After-below163) → Concerned (getD (c .before .before .before .before .before .before .before .before .before .before .args .t2) (c .before .before .before .before .before .before .loop .t) noRequest) (c .before .before .before .below16 .result) (c .before .before .below162 .result) (c .before .below64 .result) (c .below163 .result)
-concerned c = record { seat = c .before .before .before .below16 .ensures; role = c .before .before .below162 .ensures; entity = c .before .below64 .ensures; user = c .below163 .ensures }
+abbrev looked : At tie.After-parent-of → At tie.After-look-up
+looked c = c .before .before .before .before .before
 
-abbrev tables : At tie.After-judge → Tables
-tables c = c .before .before .before .before .before .before .before .before .before .before .before .before .before .before .before .before .loop .self
+abbrev turn-at : At tie.After-look-up → At tie.In-loop
+turn-at c = c .before .before
 
-abbrev asked : At tie.After-judge → Request
-asked c = getD (c .before .before .before .before .before .before .before .before .before .before .before .before .before .before .before .before .before .before .before .before .args .t2) (c .before .before .before .before .before .before .before .before .before .before .before .before .before .before .before .before .loop .t) noRequest
+parent-place : (c : At tie.After-parent-of) → c .parent-of .result < 64
+parent-place c = parent-in _ (turn-at (looked c) .before .loop .inv .2 .isSound) _ _ (looked c .look-up .ensures) _ (c .parent-of .ensures)
 
-judged : (c : At tie.After-judge) → c .judge .result ≡ number (ruleOf (asked c)) (tables c) (asked c)
+abbrev place : At tie.After-kin → At tie.After-look-up
+place c = looked (c .before .before .before .before .before .before .before .before)
+
+abbrev turn : At tie.After-judge → At tie.In-loop
+turn c = turn-at (place (c .before))
+
+abbrev tables : At tie.After-kin → Tables
+tables c = turn-at (place c) .before .loop .self
+
+abbrev asked : At tie.After-kin → Request
+asked c = place c .before .request .result
+
+abbrev began : At tie.In-loop → At tie.After-count
+began c = counted (c .before .before .before .before)
+
+abbrev rows-of : At tie.In-loop → List ℕ
+rows-of c = rows-at (began c)
+
+abbrev old-of : At tie.In-loop → List ℕ
+old-of c = old-at (began c)
+
+within : (c : At tie.In-loop) → c .before .loop .i < length (old-of c)
+within c = omega (arith, c .loop-test .taken, room (began c))
+
+-- ---- the decision
+sure : (c : At tie.After-kin) → sound (tables c) ≡ true
+sure c = turn-at (place c) .before .loop .inv .2 .isSound
+
+keys-at : (c : At tie.After-kin) → Keys (tables c) (turn-at (place c) .before .loop .keys)
+keys-at c = turn-at (place c) .before .loop .inv .2 .keys
+
+grants-at : (c : At tie.After-kin) → Grants (tables c) (turn-at (place c) .before .loop .grants)
+grants-at c = turn-at (place c) .before .loop .inv .2 .grants
+
+judged : (c : At tie.After-judge) → c .judge .result ≡ number (ruleOf (asked (c .before))) (tables (c .before)) (asked (c .before))
 judged c =
+    let k = c .before in
+    let way = k .before .before in
+    let gathered = way .before .before in
+    let asking = gathered .before in
+    let up = asking .before .before .before in
     c .judge .ensures _
-    (seen-of _ _ _ _ _ _ _ _ _ (concerned (c .before .before .before .before .before .before .before .before .before .before)))
-    (scanned-of _ _ _ _ _ _ _ _ _ (concerned (c .before .before .before .before .before .before .before .before .before .before)) (c .before .before .before .before .before .before .before .before .before .before .before .before .before .before .before .before .loop .inv .1 .isSound) (c .before .before .before .before .before .before .before .parent-of .ensures) _ (c .before .before .before .before .before .before .scope-of .ensures) (found (c .before .before .before .before)))
+    (seen-of _ (sure k) _ _ (place k .look-up .ensures) _ (up .parent-of .ensures) _ _ (keys-at k) (grants-at k) _ _ (asking .asking .ensures) (gathered .gather .ensures) _ _ (way .reached .ensures) (k .kin .ensures))
 
-sure : (c : At tie.After-judge) → sound (tables c) ≡ true
-sure c = (c .before .before .before .before .before .before .before .before .before .before .before .before .before .before .before .before .loop .inv .1 .isSound)
+-- the next turn holds, by what the tables and the columns are then
+turned : (c : At tie.After-judge) (u : Tables) → Stepped (tables (c .before)) (asked (c .before)) u (c .judge .result) → (k g : List ℕ) → Keys u k → Grants u g
+    → (turn c .before .loop .i + 1 ≤ began (turn c) .count .result)
+    × (began (turn c) .count .result ≡ batchLength (length (rows-of (turn c))) (length (old-of (turn c))))
+    × Held (began (turn c) .before .before .before .args .t1) (rows-of (turn c)) (old-of (turn c)) (turn c .before .loop .i + 1) u (set (turn c .before .loop .answers) (turn c .before .loop .i) (c .judge .result)) k g
+turned c u step k g K G =
+    let l = turn c in
+    (omega (arith, l .loop-test .taken), l .before .loop .inv .1, held-more _ _ _ _ _ _ _ _ (l .before .loop .inv .2) _ (place (c .before) .before .request .ensures) (within l) u _ step k g K G)
 
-near : (c : At tie.After-judge) → Concerned (asked c) (c .before .before .before .before .before .before .before .before .before .before .before .before .before .below16 .result) (c .before .before .before .before .before .before .before .before .before .before .before .before .below162 .result) (c .before .before .before .before .before .before .before .before .before .before .before .below64 .result) (c .before .before .before .before .before .before .before .before .before .before .below163 .result)
-near c = concerned (c .before .before .before .before .before .before .before .before .before .before)
+-- ---- where the answer is 0
+abbrev near : (c : At tie.Then3) → Placed (asked (c .before .before)) (place (c .before .before) .look-up .result)
+near c = place (c .before .before) .look-up .ensures
 
-swept-delete : (c : At tie.After-loop6) → c .before .loop6 .self ≡ ruleOf (asked (c .before .before .before .before .before .before .before .before .before .before)) .effect (asked (c .before .before .before .before .before .before .before .before .before .before)) (tables (c .before .before .before .before .before .before .before .before .before .before))
-swept-delete c =
-    let roles : length ((tables (c .before .before .before .before .before .before .before .before .before .before)) .roles) ≡ 16 = c .before .before .before .before .before .before .before .before .before .before .before .before .before .before .before .before .before .before .before .before .before .before .before .before .before .before .loop .inv .2 .roles in
-    let sessions : length ((tables (c .before .before .before .before .before .before .before .before .before .before)) .sessions) ≡ 16 = c .before .before .before .before .before .before .before .before .before .before .before .before .before .before .before .before .before .before .before .before .before .before .before .before .before .before .loop .inv .2 .sessions in
-    let i : c .before .loop6 .i2 ≡ 16 = omega arith in
-    let j : c .before .before .before .loop5 .i3 ≡ 16 = omega arith in
-    let delete : asked (c .before .before .before .before .before .before .before .before .before .before) .call ≡ 8 = c .before .before .before .before .if10 .taken in
-    let z = (sym (c .before .before .before .before .before .before .before .before .before .if6 .taken) ∙ judged (c .before .before .before .before .before .before .before .before .before .before)) in
-    swept-entity (tables (c .before .before .before .before .before .before .before .before .before .before)) (c .before .before .before .before .before .before .before .before .before .before .before .before .before .before .before .before .before .before .before .before .before .below64 .result) (c .before .before .before .before .before .before .after2 .result) (c .before .before .before .loop5 .self) (c .before .loop6 .self) (deleted _ _ z _ _ _ _ (near (c .before .before .before .before .before .before .before .before .before .before)) delete _ _ (c .before .before .before .before .before .before .after2 .ensures)) roles sessions (rw j at (c .before .before .before .loop5 .inv .1)) (rw i at (c .before .loop6 .inv .1))
-    ∙ delete-done _ _ z _ _ _ _ (near (c .before .before .before .before .before .before .before .before .before .before)) delete
+many : (c : At tie.Then3) → Sound (tables (c .before .before))
+many c = sound-e _ (sure (c .before .before))
 
-swept-unmake : (c : At tie.After-loop7) → c .before .loop7 .self ≡ ruleOf (asked (c .before .before .before .before .before .before .before .before)) .effect (asked (c .before .before .before .before .before .before .before .before)) (tables (c .before .before .before .before .before .before .before .before))
-swept-unmake c =
-    let sessions : length ((tables (c .before .before .before .before .before .before .before .before)) .sessions) ≡ 16 = c .before .before .before .before .before .before .before .before .before .before .before .before .before .before .before .before .before .before .before .before .before .before .before .before .loop .inv .2 .sessions in
-    let i : c .before .loop7 .i3 ≡ 16 = omega arith in
-    let unmake : asked (c .before .before .before .before .before .before .before .before) .call ≡ 15 = c .before .before .if12 .taken in
-    let z = (sym (c .before .before .before .before .before .before .before .if6 .taken) ∙ judged (c .before .before .before .before .before .before .before .before)) in
-    swept-role (tables (c .before .before .before .before .before .before .before .before)) (c .before .before .before .before .before .before .before .before .before .before .before .before .before .before .before .before .before .before .before .before .below162 .result) (c .before .before .before .after4 .result) (c .before .loop7 .self) (unmade _ _ z _ _ _ _ (near (c .before .before .before .before .before .before .before .before)) unmake _ (c .before .before .before .after4 .ensures)) sessions (rw i at (c .before .loop7 .inv .1))
-    ∙ unmake-done _ _ z _ _ _ _ (near (c .before .before .before .before .before .before .before .before)) unmake
+zero : (c : At tie.Then3) → 0 ≡ number (ruleOf (asked (c .before .before))) (tables (c .before .before)) (asked (c .before .before))
+zero c = sym (c .if3 .taken) ∙ judged (c .before)
 
-returns : At tie.Need-returns
-unfolding batch
-returns c = rw (lt-leb _ _ (c .if1 .taken))
+fits : (c : At tie.Then3) → inRanges (asked (c .before .before)) ≡ true
+fits c = done-in-range _ _ (zero c)
 
-is-sound-requires : At tie.Need-is-sound-requires
-is-sound-requires c κs = search needs
+does-so : (c : At tie.Then3) (u : Tables) → u ≡ ruleOf (asked (c .before .before)) .effect (asked (c .before .before)) (tables (c .before .before))
+    → Stepped (tables (c .before .before)) (asked (c .before .before)) u (c .before .judge .result)
+does-so c u e = does _ _ _ (sure (c .before .before)) (judged (c .before)) (c .if3 .taken) u e
 
-all-unsound-requires : At tie.Need-all-unsound-requires
-all-unsound-requires c κs = search needs
+told-session : (c : At tie.After-enum-told) → asked (c .before .before .before .before .before) .call ≤ 6
+told-session c = told OfSession _ _ (c .before .before .change-of .ensures) (c .enum-told .given .1)
 
-returns-2 : At tie.Need-returns-2
-unfolding batch
+told-create : (c : At tie.After-enum-told2) → asked (c .before .before .before .before .before) .call ≡ 7
+told-create c = told OfCreate _ _ (c .before .before .change-of .ensures) (c .enum-told2 .given .1)
+
+told-delete : (c : At tie.After-enum-told3) → asked (c .before .before .before .before .before) .call ≡ 8
+told-delete c = told OfDelete _ _ (c .before .before .change-of .ensures) (c .enum-told3 .given .1)
+
+told-rename : (c : At tie.After-enum-told4) → asked (c .before .before .before .before .before) .call ≡ 9
+told-rename c = told OfRename _ _ (c .before .before .change-of .ensures) (c .enum-told4 .given .1)
+
+told-unmake : (c : At tie.After-enum-told6) → asked (c .before .before .before .before .before) .call ≡ 15
+told-unmake c = told OfUnmake _ _ (c .before .before .change-of .ensures) (c .enum-told6 .given .1)
+
+told-role : (c : At tie.After-enum-told5) → (10 ≤ asked (c .before .before .before .before .before) .call) × (asked (c .before .before .before .before .before) .call ≡ 15 → ⊥)
+told-role c = told OfRole _ _ (c .before .before .change-of .ensures) (c .enum-told5 .given .1)
+
+count-requires : tie.Need-count-requires Inv-loop μ-loop
+count-requires c κs = search needs
+
+returns : tie.Need-returns Inv-loop μ-loop
+returns c = no-batch _ _ _ (sym (c .if1 .taken) ∙ c .before .count .ensures)
+
+keys-requires : tie.Need-keys-requires Inv-loop μ-loop
+keys-requires c κs = search needs
+
+sound-by-requires : tie.Need-sound-by-requires Inv-loop μ-loop
+sound-by-requires c κs = c .before .keys .ensures
+
+refuse-requires : tie.Need-refuse-requires Inv-loop μ-loop
+refuse-requires c κs = room (counted (c .before .before))
+
+same-length : tie.Need-same-length Inv-loop μ-loop
+same-length c = let refuse = c .before .before in rw (refuse .refuse .ensures .1) (simp (length-append, length-replicate, length-drop) (omega (arith, room (counted (refuse .before .before .before)))))
+
+returns-2 : tie.Need-returns-2 Inv-loop μ-loop
 returns-2 c =
-    let (stays, ones) = all-refused (c .before .before .before .before .args .t1) (take (c .before .before .before .before .args .count) (c .before .before .before .before .args .t2)) (sym (c .before .before .is-sound .ensures) ∙ not-true _ (c .before .if2 .taken)) in
-    let l = many (c .before .before .before .before) in
-    rw (le-leb _ _ (c .before .before .before .if1 .left), stays, ones, length-take-le (c .before .before .before .before .args .count) (c .before .before .before .before .args .t2) (omega arith), c .all-unsound .ensures)
+    let refuse = c .before .before in
+    let test = refuse .before .before in
+    unsound-batch _ _ _ _ _ (sym (test .before .sound-by .ensures) ∙ not-true _ (test .if2 .taken)) (counted (test .before) .count .ensures) (refuse .refuse .ensures .1)
 
-loop-holds : At tie.Need-loop-holds
-loop-holds c = (search needs, held-none _ _ (sym (c .before .is-sound .ensures) ∙ not-false _ (c .if2 .left)), record { sessions = search (long, c .before .before .before .good .0); roles = search (long, c .before .before .before .good .0) })
+grants-requires : tie.Need-grants-requires Inv-loop μ-loop
+grants-requires c κs = search needs
 
-mul-q : At tie.Need-mul-q
-mul-q c = search needs
+loop-holds : tie.Need-loop-holds Inv-loop μ-loop
+loop-holds c = (omega arith, counted (c .before .before) .count .ensures, held-none _ _ _ _ _ (sound-at (c .before)) (c .before .before .before .before .keys .ensures) (c .grants .ensures))
 
-array-copy-out-q : At tie.Need-array-copy-out-q
-array-copy-out-q c = search needs
+request-requires : tie.Need-request-requires Inv-loop μ-loop
+request-requires c κs = batch-rows _ _ _ (rw (c .before .loop .inv .1) at (c .loop-test .taken))
 
-below16-requires : At tie.Need-below16-requires
-below16-requires c κs = search needs
+look-up-requires : tie.Need-look-up-requires Inv-loop μ-loop
+look-up-requires c κs = search needs
 
-below16-requires-2 : At tie.Need-below16-requires-2
-below16-requires-2 c κs = search needs
+mul-session : tie.Need-mul-session Inv-loop μ-loop
+mul-session c = omega (arith, c .look-up .ensures .seat .small)
 
-below64-requires : At tie.Need-below64-requires
-below64-requires c κs = search needs
+element-copy-out-session : tie.Need-element-copy-out-session Inv-loop μ-loop
+element-copy-out-session c = c .look-up .ensures .seat .small
 
-below16-requires-3 : At tie.Need-below16-requires-3
-below16-requires-3 c κs = search needs
+mul-user : tie.Need-mul-user Inv-loop μ-loop
+mul-user c = omega (arith, c .before .look-up .ensures .user .small)
 
-mul-s : At tie.Need-mul-s
-mul-s c = omega (arith, c .before .before .before .below16 .ensures .small)
+element-copy-out-user : tie.Need-element-copy-out-user Inv-loop μ-loop
+element-copy-out-user c = c .before .look-up .ensures .user .small
 
-element-copy-out-s : At tie.Need-element-copy-out-s
-element-copy-out-s c = c .before .before .before .below16 .ensures .small
+mul-role : tie.Need-mul-role Inv-loop μ-loop
+mul-role c = omega (arith, c .before .before .look-up .ensures .role .small)
 
-mul-f : At tie.Need-mul-f
-mul-f c = omega (arith, c .before .before .below64 .ensures .small)
+element-copy-out-role : tie.Need-element-copy-out-role Inv-loop μ-loop
+element-copy-out-role c = c .before .before .look-up .ensures .role .small
 
-element-copy-out-f : At tie.Need-element-copy-out-f
-element-copy-out-f c = c .before .before .below64 .ensures .small
+mul-entity : tie.Need-mul-entity Inv-loop μ-loop
+mul-entity c = omega (arith, c .before .before .before .look-up .ensures .entity .small)
 
-parent-of-requires : At tie.Need-parent-of-requires
-parent-of-requires c κs = parent-small _ (c .before .before .before .before .before .before .before .before .loop .inv .1 .isSound) _ (c .before .before .before .below64 .ensures .small)
+element-copy-out-entity : tie.Need-element-copy-out-entity Inv-loop μ-loop
+element-copy-out-entity c = c .before .before .before .look-up .ensures .entity .small
 
-scope-of-requires : At tie.Need-scope-of-requires
-scope-of-requires c κs = (c .before .before .before .before .below64 .ensures .small, c .parent-of .ensures .small)
+parent-of-requires : tie.Need-parent-of-requires Inv-loop μ-loop
+parent-of-requires c κs = search needs
 
-mul-base : At tie.Need-mul-base
-mul-base c = omega (arith, c .before .scope-of .ensures .kinIn)
+mul-parent : tie.Need-mul-parent Inv-loop μ-loop
+mul-parent c = omega (arith, parent-place c)
 
-loop2-holds : At tie.Need-loop2-holds
-loop2-holds c = block-start _ _
+element-copy-out-parent : tie.Need-element-copy-out-parent Inv-loop μ-loop
+element-copy-out-parent c = parent-place c
 
-add-h : At tie.Need-add-h
-add-h c = omega (arith, c .before .before .before .scope-of .ensures .kinIn)
+asking-requires : tie.Need-asking-requires Inv-loop μ-loop
+asking-requires c κs = search needs
 
-mul-h : At tie.Need-mul-h
-mul-h c = omega (arith, c .before .before .before .scope-of .ensures .kinIn)
+gather-requires : tie.Need-gather-requires Inv-loop μ-loop
+gather-requires c κs = search needs
 
-element-copy-out-h : At tie.Need-element-copy-out-h
-element-copy-out-h c = omega (arith, c .before .before .before .scope-of .ensures .kinIn)
+reached-requires : tie.Need-reached-requires Inv-loop μ-loop
+reached-requires c κs = looked (c .before .before .before .before .before) .look-up .ensures .entity .small
 
-is-kin-requires : At tie.Need-is-kin-requires
-is-kin-requires c κs = c .before .before .before .before .scope-of .ensures .kinIn
+kin-requires : tie.Need-kin-requires Inv-loop μ-loop
+kin-requires c κs = let up = c .before .before .before .before .before .before .before in (looked up .look-up .ensures .entity .small, parent-place up)
 
-add-j : At tie.Need-add-j
-add-j c = omega arith
+judge-requires : tie.Need-judge-requires Inv-loop μ-loop
+judge-requires c κs = place c .look-up .ensures .fits
 
-loop2-less : At tie.Need-loop2-less
-loop2-less c = omega arith
+slice-write-answers : tie.Need-slice-write-answers Inv-loop μ-loop
+slice-write-answers c = let l = turn c in rw (held-length _ _ _ _ _ _ _ _ (l .before .loop .inv .2) (omega (arith, within l))) (within l)
 
-loop2-again : At tie.Need-loop2-again
-unfolding kinSeen
-loop2-again c = block-more _ _ _ _ _ (c .before .before .before .loop2 .inv) (c .is-kin .ensures) (c .before .before .loop2-test .taken)
+add-i : tie.Need-add-i Inv-loop μ-loop
+add-i c = let h = within (turn c) in let s = began (turn c) .before .before .before in search needs
 
-mul-i : At tie.Need-mul-i
-mul-i c = omega (arith, c .before .before .scope-of .ensures .atIn)
+change-of-requires : tie.Need-change-of-requires Inv-loop μ-loop
+change-of-requires c κs = search needs
 
-loop3-holds : At tie.Need-loop3-holds
-loop3-holds c = (gathered-start _ _ _ _ _ (c .before .before .scope-of .ensures .atIn) (c .before .before .scope-of .ensures .left), gathered-start _ _ _ _ _ (c .before .before .scope-of .ensures .atIn) (c .before .before .scope-of .ensures .left))
+enum-told : tie.Need-enum-told Inv-loop μ-loop
+enum-told c = search needs
 
-has16-requires : At tie.Need-has16-requires
-has16-requires c κs = search needs
+after-requires : tie.Need-after-requires Inv-loop μ-loop
+after-requires c κs = fits (c .before .before .before)
 
-add-i : At tie.Need-add-i
-add-i c = omega (arith, c .before .before .loop3 .inv .0 .walk .most)
+mul-s2 : tie.Need-mul-s2 Inv-loop μ-loop
+mul-s2 c = omega (arith, near (c .before .before .before .before) .seat .small)
 
-mul-h-2 : At tie.Need-mul-h-2
-mul-h-2 c = omega (arith, walk-in _ _ _ _ (c .before .before .before .loop3 .inv .0 .walk) (c .before .before .before .before .before .before .scope-of .ensures .heldIn) (c .before .before .loop3-test .taken))
+element-set-from-s2 : tie.Need-element-set-from-s2 Inv-loop μ-loop
+element-set-from-s2 c = near (c .before .before .before .before) .seat .small
 
-element-copy-out-h-2 : At tie.Need-element-copy-out-h-2
-element-copy-out-h-2 c = walk-in _ _ _ _ (c .before .before .before .loop3 .inv .0 .walk) (c .before .before .before .before .before .before .scope-of .ensures .heldIn) (c .before .before .loop3-test .taken)
+loop-less : tie.Need-loop-less Inv-loop μ-loop
+loop-less c = omega (arith, turn (c .before .before .before .before .before) .loop-test .taken)
 
-having-requires : At tie.Need-having-requires
-having-requires c κs = search needs
+loop-again : tie.Need-loop-again Inv-loop μ-loop
+loop-again c =
+    let d = c .before .before .before .before in
+    turned (d .before) _ (does-so d _ (session-stored _ _ (zero d) _ (near d) (told-session (c .before)) _ (c .after .ensures))) _ _
+    (keys-other _ _ (keys-at (d .before .before)) _ refl)
+    (grants-other _ _ (grants-at (d .before .before)) _ refl)
 
-loop3-less : At tie.Need-loop3-less
-loop3-less c = omega (arith, c .before .before .before .before .before .loop3-test .taken)
+enum-told-2 : tie.Need-enum-told-2 Inv-loop μ-loop
+enum-told-2 c = search needs
 
-loop3-again : At tie.Need-loop3-again
-unfolding join having
-loop3-again c = (gathered-join _ _ _ _ _ _ _ (c .before .before .before .before .before .before .loop3 .inv .0) (c .before .before .before .before .before .before .before .before .before .scope-of .ensures .single (c .before .before .before .before .before .before .before .if4 .taken)) (sym (c .before .before .before .before .has16 .ensures) ∙ c .before .before .before .if5 .taken) (walk-in _ _ _ _ (c .before .before .before .before .before .before .loop3 .inv .0 .walk) (c .before .before .before .before .before .before .before .before .before .scope-of .ensures .heldIn) (c .before .before .before .before .before .loop3-test .taken)) _ (c .before .having .ensures), gathered-join _ _ _ _ _ _ _ (c .before .before .before .before .before .before .loop3 .inv .1) (inr (inr (inl refl))) (sym (c .before .before .before .before .has16 .ensures) ∙ c .before .before .before .if5 .taken) (walk-in _ _ _ _ (c .before .before .before .before .before .before .loop3 .inv .0 .walk) (c .before .before .before .before .before .before .before .before .before .scope-of .ensures .heldIn) (c .before .before .before .before .before .loop3-test .taken)) _ refl)
+made-requires : tie.Need-made-requires Inv-loop μ-loop
+made-requires c κs = let r = in-create _ (fits (c .before .before .before)) (told-create c) in (r .kind, r .parent, r .name, r .level, r .cats)
 
-loop3-less-2 : At tie.Need-loop3-less-2
-loop3-less-2 c = omega (arith, c .before .before .loop3-test .taken)
-
-loop3-again-2 : At tie.Need-loop3-again-2
-loop3-again-2 c = (gathered-skip _ _ _ _ _ _ _ (c .before .before .before .loop3 .inv .0) (sym (c .before .has16 .ensures) ∙ c .if5 .left) (walk-in _ _ _ _ (c .before .before .before .loop3 .inv .0 .walk) (c .before .before .before .before .before .before .scope-of .ensures .heldIn) (c .before .before .loop3-test .taken)), gathered-skip _ _ _ _ _ _ _ (c .before .before .before .loop3 .inv .1) (sym (c .before .has16 .ensures) ∙ c .if5 .left) (walk-in _ _ _ _ (c .before .before .before .loop3 .inv .0 .walk) (c .before .before .before .before .before .before .scope-of .ensures .heldIn) (c .before .before .loop3-test .taken)))
-
-is-in-requires : At tie.Need-is-in-requires
-is-in-requires c κs = c .before .before .before .before .scope-of .ensures .atIn
-
-loop4-holds : At tie.Need-loop4-holds
-loop4-holds c = climbing-start _ _ _ _ (c .before .before .before .before .before .scope-of .ensures .fromIn)
-
-mul-h-3 : At tie.Need-mul-h-3
-mul-h-3 c = omega (arith, c .before .loop4 .inv .inside)
-
-element-copy-out-h-3 : At tie.Need-element-copy-out-h-3
-element-copy-out-h-3 c = c .before .loop4 .inv .inside
-
-cast-a : At tie.Need-cast-a
-cast-a c = search needs
-
-is-in-requires-2 : At tie.Need-is-in-requires-2
-is-in-requires-2 c κs = parent-small _ (c .before .before .before .before .before .before .before .before .before .before .before .before .before .before .before .before .before .before .before .loop .inv .1 .isSound) _ (c .before .before .before .loop4 .inv .inside)
-
-sub-steps : At tie.Need-sub-steps
-sub-steps c = steps-left (c .before .before .before .before .loop4 .steps) (c .before .before .before .before .loop4 .a) (c .before .before .before .loop4-test .taken)
-
-loop4-less : At tie.Need-loop4-less
-loop4-less c = omega (arith, steps-left (c .before .before .before .before .loop4 .steps) (c .before .before .before .before .loop4 .a) (c .before .before .before .loop4-test .taken))
-
-loop4-again : At tie.Need-loop4-again
-loop4-again c = climbing-more _ _ _ _ _ _ _ (c .before .before .before .before .loop4 .inv) (c .before .before .before .before .before .before .before .before .before .before .before .before .before .before .before .before .before .before .before .before .loop .inv .1 .isSound) _ (c .before .before .before .loop4-test .taken) (c .is-in2 .ensures)
-
-mul-u : At tie.Need-mul-u
-mul-u c = omega (arith, c .before .before .before .before .before .before .below163 .ensures .small)
-
-element-copy-out-u : At tie.Need-element-copy-out-u
-element-copy-out-u c = c .before .before .before .before .before .before .below163 .ensures .small
-
-mul-p : At tie.Need-mul-p
-mul-p c = omega (arith, c .before .before .before .before .before .before .before .before .before .below162 .ensures .small)
-
-element-copy-out-p : At tie.Need-element-copy-out-p
-element-copy-out-p c = c .before .before .before .before .before .before .before .before .before .below162 .ensures .small
-
-mul-m : At tie.Need-mul-m
-mul-m c = omega (arith, c .before .before .before .before .before .parent-of .ensures .small)
-
-element-copy-out-m : At tie.Need-element-copy-out-m
-element-copy-out-m c = c .before .before .before .before .before .parent-of .ensures .small
-
-judge-requires : At tie.Need-judge-requires
-judge-requires c κs = search needs
-
-array-write-answers : At tie.Need-array-write-answers
-array-write-answers c = let h = turn (c .before .before .before .before .before .before .before .before .before .before .before .before .before .before .before) in search needs
-
-add-t : At tie.Need-add-t
-add-t c = let h = turn (c .before .before .before .before .before .before .before .before .before .before .before .before .before .before .before) in search needs
-
-after-requires : At tie.Need-after-requires
-after-requires c κs = (near (c .before .before) .role .small, near (c .before .before) .entity .small)
-
-mul-s2 : At tie.Need-mul-s2
-mul-s2 c = omega (arith, near (c .before .before .before) .seat .small)
-
-element-set-from-s2 : At tie.Need-element-set-from-s2
-element-set-from-s2 c = near (c .before .before .before) .seat .small
-
-loop-less : At tie.Need-loop-less
-loop-less c = let h = turn (c .before .before .before .before .before .before .before .before .before .before .before .before .before .before .before .before .before .before) in search needs
-
-loop-again : At tie.Need-loop-again
-loop-again c = turned (c .before .before .before .before .before .before .before .before .before .before .before .before .before .before .before .before .before .before) (outcome _ _) (does _ _ _ (sure (c .before .before .before)) (judged (c .before .before .before)) (c .before .before .if6 .taken) _ (session-done _ _ (sym (c .before .before .if6 .taken) ∙ judged (c .before .before .before)) _ _ _ _ (near (c .before .before .before)) (c .before .if7 .taken) _ (c .after .ensures))) (sized-session _ (c .before .before .before .before .before .before .before .before .before .before .before .before .before .before .before .before .before .before .before .loop .inv .2) _ _)
-
-after-requires-2 : At tie.Need-after-requires-2
-after-requires-2 c κs = search needs
-
-mul-f2 : At tie.Need-mul-f2
+mul-f2 : tie.Need-mul-f2 Inv-loop μ-loop
 mul-f2 c = omega (arith, near (c .before .before .before .before) .entity .small)
 
-element-set-from-f2 : At tie.Need-element-set-from-f2
+element-set-from-f2 : tie.Need-element-set-from-f2 Inv-loop μ-loop
 element-set-from-f2 c = near (c .before .before .before .before) .entity .small
 
-mul-p2 : At tie.Need-mul-p2
-mul-p2 c = omega (arith, near (c .before .before .before .before .before) .role .small)
+key-requires : tie.Need-key-requires Inv-loop μ-loop
+key-requires c κs = search needs
 
-element-copy-out-p2 : At tie.Need-element-copy-out-p2
-element-copy-out-p2 c = near (c .before .before .before .before .before) .role .small
+mul-keys : tie.Need-mul-keys Inv-loop μ-loop
+mul-keys c = omega (arith, near (c .before .before .before .before .before) .entity .small)
 
-after-requires-3 : At tie.Need-after-requires-3
-after-requires-3 c κs = (near (c .before .before .before .before .before .before) .user .small, near (c .before .before .before .before .before .before) .entity .small)
+array-write-keys : tie.Need-array-write-keys Inv-loop μ-loop
+array-write-keys c = near (c .before .before .before .before .before) .entity .small
 
-mul-p3 : At tie.Need-mul-p3
-mul-p3 c = omega (arith, near (c .before .before .before .before .before .before .before) .role .small)
+owning-requires : tie.Need-owning-requires Inv-loop μ-loop
+owning-requires c κs = in-create _ (fits (c .before .before .before .before .before)) (told-create (c .before .before)) .entity
 
-element-set-from-p3 : At tie.Need-element-set-from-p3
-element-set-from-p3 c = near (c .before .before .before .before .before .before .before) .role .small
+mul-p2 : tie.Need-mul-p2 Inv-loop μ-loop
+mul-p2 c = omega (arith, near (c .before .before .before .before .before .before) .role .small)
 
-loop-less-2 : At tie.Need-loop-less-2
-loop-less-2 c = let h = turn (c .before .before .before .before .before .before .before .before .before .before .before .before .before .before .before .before .before .before .before .before .before .before) in search needs
+element-set-from-p2 : tie.Need-element-set-from-p2 Inv-loop μ-loop
+element-set-from-p2 c = near (c .before .before .before .before .before .before) .role .small
 
-loop-again-2 : At tie.Need-loop-again-2
-loop-again-2 c = turned (c .before .before .before .before .before .before .before .before .before .before .before .before .before .before .before .before .before .before .before .before .before .before) (outcome _ _) (does _ _ _ (sure (c .before .before .before .before .before .before .before)) (judged (c .before .before .before .before .before .before .before)) (c .before .before .before .before .before .before .if6 .taken) _ (create-done _ _ (sym (c .before .before .before .before .before .before .if6 .taken) ∙ judged (c .before .before .before .before .before .before .before)) _ _ _ _ (near (c .before .before .before .before .before .before .before)) (c .before .before .if9 .taken) _ _ (c .before .before .before .after2 .ensures) (c .after3 .ensures))) (sized-role _ (c .before .before .before .before .before .before .before .before .before .before .before .before .before .before .before .before .before .before .before .before .before .before .before .loop .inv .2) _ _ _)
+put-requires : tie.Need-put-requires Inv-loop μ-loop
+put-requires c κs = (near (c .before .before .before .before .before .before .before) .role .small, grants-at (c .before .before .before .before .before .before .before .before .before) .long)
 
-loop5-holds : At tie.Need-loop5-holds
-loop5-holds c = (omega arith, refl)
+loop-less-2 : tie.Need-loop-less-2 Inv-loop μ-loop
+loop-less-2 c = omega (arith, turn (c .before .before .before .before .before .before .before .before .before) .loop-test .taken)
 
-mul-h-4 : At tie.Need-mul-h-4
-mul-h-4 c = omega (arith, c .loop5-test .taken)
+loop-again-2 : tie.Need-loop-again-2 Inv-loop μ-loop
+loop-again-2 c =
+    let d = c .before .before .before .before .before .before .before .before in
+    let own = c .before .before in
+    let key = own .before in
+    let f = key .before in
+    turned (d .before) _ (does-so d _ (create-stored _ _ (zero d) _ (near d) (told-create (f .before)) _ _ (f .made .ensures) (own .owning .ensures))) _ _
+    (keys-set _ _ (keys-at (d .before .before)) _ (many d .manyEntities) _ (near d .entity .small) _ _ (key .key .ensures) refl)
+    (grants-role _ _ (grants-at (d .before .before)) _ (many d .manyRoles) _ (near d .role .small) _ _ (c .put .ensures) refl)
 
-element-copy-out-h-4 : At tie.Need-element-copy-out-h-4
-element-copy-out-h-4 c = c .loop5-test .taken
+enum-told-3 : tie.Need-enum-told-3 Inv-loop μ-loop
+enum-told-3 c = search needs
 
-closed-requires : At tie.Need-closed-requires
-closed-requires c κs = near (c .before .before .before .before .before .before .before .before .before) .entity .small
+empty-requires : tie.Need-empty-requires Inv-loop μ-loop
+empty-requires c κs = search needs
 
-mul-h2 : At tie.Need-mul-h2
-mul-h2 c = omega (arith, c .before .before .loop5-test .taken)
+mul-f2-2 : tie.Need-mul-f2-2 Inv-loop μ-loop
+mul-f2-2 c = omega (arith, near (c .before .before .before .before) .entity .small)
 
-element-set-from-h2 : At tie.Need-element-set-from-h2
-element-set-from-h2 c = c .before .before .loop5-test .taken
+element-set-from-f2-2 : tie.Need-element-set-from-f2-2 Inv-loop μ-loop
+element-set-from-f2-2 c = near (c .before .before .before .before) .entity .small
 
-add-i3 : At tie.Need-add-i3
-add-i3 c = omega (arith, c .before .before .loop5-test .taken)
+key-requires-2 : tie.Need-key-requires-2 Inv-loop μ-loop
+key-requires-2 c κs = search needs
 
-loop5-less : At tie.Need-loop5-less
-loop5-less c = omega (arith, c .before .before .loop5-test .taken)
+mul-keys-2 : tie.Need-mul-keys-2 Inv-loop μ-loop
+mul-keys-2 c = omega (arith, near (c .before .before .before .before .before) .entity .small)
 
-loop5-again : At tie.Need-loop5-again
-loop5-again c = (omega (arith, c .before .before .loop5-test .taken), rw (c .closed .ensures) (sessions-more (closeBoth _) _ _ _ (c .before .before .before .loop5 .inv .1)))
+array-write-keys-2 : tie.Need-array-write-keys-2 Inv-loop μ-loop
+array-write-keys-2 c = near (c .before .before .before .before .before) .entity .small
 
-loop6-holds : At tie.Need-loop6-holds
-loop6-holds c = (omega arith, refl)
+without-entity-requires : tie.Need-without-entity-requires Inv-loop μ-loop
+without-entity-requires c κs = search needs
 
-loop-less-3 : At tie.Need-loop-less-3
-loop-less-3 c = let h = turn (c .before .before .before .before .before .before .before .before .before .before .before .before .before .before .before .before .before .before .before .before .before .before .before .before .before) in search needs
+clear-requires : tie.Need-clear-requires Inv-loop μ-loop
+clear-requires c κs = (near (c .before .before .before .before .before .before .before .before) .entity .small, grants-at (c .before .before .before .before .before .before .before .before .before .before) .long)
 
-loop-again-3 : At tie.Need-loop-again-3
-loop-again-3 c = turned (c .before .before .before .before .before .before .before .before .before .before .before .before .before .before .before .before .before .before .before .before .before .before .before .before .before) (outcome _ _) (does _ _ _ (sure (c .before .before .before .before .before .before .before .before .before .before)) (judged (c .before .before .before .before .before .before .before .before .before .before)) (c .before .before .before .before .before .before .before .before .before .if6 .taken) _ (swept-delete (c))) (sized-roles _ (sized-sessions _ (sized-entity _ (c .before .before .before .before .before .before .before .before .before .before .before .before .before .before .before .before .before .before .before .before .before .before .before .before .before .before .loop .inv .2) _) (closeBoth (c .before .before .before .before .before .before .before .before .before .before .before .before .before .before .before .before .before .before .before .before .before .below64 .result)) (c .before .before .before .loop5 .i3) _ (c .before .before .before .loop5 .inv .1)) (clearRights (c .before .before .before .before .before .before .before .before .before .before .before .before .before .before .before .before .before .before .before .before .before .below64 .result)) (c .before .loop6 .i2) _ (c .before .loop6 .inv .1))
+without-entity-requires-2 : tie.Need-without-entity-requires-2 Inv-loop μ-loop
+without-entity-requires-2 c κs = search needs
 
-mul-h-5 : At tie.Need-mul-h-5
-mul-h-5 c = omega (arith, c .loop6-test .taken)
+loop-less-3 : tie.Need-loop-less-3 Inv-loop μ-loop
+loop-less-3 c = omega (arith, turn (c .before .before .before .before .before .before .before .before .before .before .before .before) .loop-test .taken)
 
-element-copy-out-h-5 : At tie.Need-element-copy-out-h-5
-element-copy-out-h-5 c = c .loop6-test .taken
+loop-again-3 : tie.Need-loop-again-3 Inv-loop μ-loop
+loop-again-3 c =
+    let d = c .before .before .before .before .before .before .before .before .before .before .before in
+    let clear = c .before .before in
+    let roles = clear .before .before in
+    let key = roles .before .before in
+    let f = key .before in
+    rw (roles .without-entity .ensures, c .without-entity2 .ensures)
+    (turned (d .before) _ (does-so d _ (delete-stored _ _ (zero d) _ (near d) (told-delete (f .before)) _ (f .empty .ensures))) _ _
+    (keys-set _ _ (keys-at (d .before .before)) _ (many d .manyEntities) _ (near d .entity .small) _ _ (key .key2 .ensures) refl)
+    (grants-each _ _ (grants-at (d .before .before)) _ _ _ (rw (near d .entity .same (in-delete _ (fits d) (told-delete (f .before)) .1)) at (clear .clear .ensures)) refl))
 
-add-i2 : At tie.Need-add-i2
-add-i2 c = omega (arith, c .before .loop6-test .taken)
+enum-told-4 : tie.Need-enum-told-4 Inv-loop μ-loop
+enum-told-4 c = search needs
 
-cleared-requires : At tie.Need-cleared-requires
-cleared-requires c κs = near (c .before .before .before .before .before .before .before .before .before .before .before .before) .entity .small
+renamed-requires : tie.Need-renamed-requires Inv-loop μ-loop
+renamed-requires c κs = in-rename _ (fits (c .before .before .before)) (told-rename c) .3
 
-mul-h2-2 : At tie.Need-mul-h2-2
-mul-h2-2 c = omega (arith, c .before .before .before .loop6-test .taken)
+mul-f2-3 : tie.Need-mul-f2-3 Inv-loop μ-loop
+mul-f2-3 c = omega (arith, near (c .before .before .before .before) .entity .small)
 
-element-set-from-h2-2 : At tie.Need-element-set-from-h2-2
-element-set-from-h2-2 c = c .before .before .before .loop6-test .taken
+element-set-from-f2-3 : tie.Need-element-set-from-f2-3 Inv-loop μ-loop
+element-set-from-f2-3 c = near (c .before .before .before .before) .entity .small
 
-loop6-less : At tie.Need-loop6-less
-loop6-less c = omega (arith, c .before .before .before .loop6-test .taken)
+key-requires-3 : tie.Need-key-requires-3 Inv-loop μ-loop
+key-requires-3 c κs = search needs
 
-loop6-again : At tie.Need-loop6-again
-loop6-again c = (omega (arith, c .before .before .before .loop6-test .taken), rw (c .cleared .ensures) (roles-more (clearRights _) _ _ _ (c .before .before .before .before .loop6 .inv .1)))
+mul-keys-3 : tie.Need-mul-keys-3 Inv-loop μ-loop
+mul-keys-3 c = omega (arith, near (c .before .before .before .before .before) .entity .small)
 
-loop6-less-2 : At tie.Need-loop6-less-2
-loop6-less-2 c = omega (arith, c .before .before .loop6-test .taken)
+array-write-keys-3 : tie.Need-array-write-keys-3 Inv-loop μ-loop
+array-write-keys-3 c = near (c .before .before .before .before .before) .entity .small
 
-loop6-again-2 : At tie.Need-loop6-again-2
-loop6-again-2 c = (omega (arith, c .before .before .loop6-test .taken), roles-dead (tables (c .before .before .before .before .before .before .before .before .before .before .before .before)) (sure (c .before .before .before .before .before .before .before .before .before .before .before .before)) _ _ _ _ (ap (λ (v : Tables). v .roles) (c .before .before .before .before .before .loop5 .inv .1)) (c .before .before .loop6-test .taken) (c .before .before .before .loop6 .inv .1) (c .if11 .left))
+loop-less-4 : tie.Need-loop-less-4 Inv-loop μ-loop
+loop-less-4 c = omega (arith, turn (c .before .before .before .before .before .before) .loop-test .taken)
 
-loop-less-4 : At tie.Need-loop-less-4
-loop-less-4 c = let h = turn (c .before .before .before .before .before .before .before .before .before .before .before .before .before .before .before .before .before .before .before .before .before) in search needs
+loop-again-4 : tie.Need-loop-again-4 Inv-loop μ-loop
+loop-again-4 c =
+    let d = c .before .before .before .before .before in
+    let f = c .before in
+    turned (d .before) _ (does-so d _ (rename-stored _ _ (zero d) _ (near d) (told-rename (f .before)) _ (f .renamed .ensures))) _ _
+    (keys-set _ _ (keys-at (d .before .before)) _ (many d .manyEntities) _ (near d .entity .small) _ _ (c .key3 .ensures) refl)
+    (grants-other _ _ (grants-at (d .before .before)) _ refl)
 
-loop-again-4 : At tie.Need-loop-again-4
-loop-again-4 c = turned (c .before .before .before .before .before .before .before .before .before .before .before .before .before .before .before .before .before .before .before .before .before) (outcome _ _) (does _ _ _ (sure (c .before .before .before .before .before .before)) (judged (c .before .before .before .before .before .before)) (c .before .before .before .before .before .if6 .taken) _ (rename-done _ _ (sym (c .before .before .before .before .before .if6 .taken) ∙ judged (c .before .before .before .before .before .before)) _ _ _ _ (near (c .before .before .before .before .before .before)) (nine _ (c .before .before .before .before .if7 .left) (c .before .before .before .if8 .taken) (c .before .if9 .left) (c .if10 .left)) _ (c .before .before .after2 .ensures))) (sized-entity _ (c .before .before .before .before .before .before .before .before .before .before .before .before .before .before .before .before .before .before .before .before .before .before .loop .inv .2) _)
+enum-told-5 : tie.Need-enum-told-5 Inv-loop μ-loop
+enum-told-5 c = search needs
 
-mul-p2-2 : At tie.Need-mul-p2-2
-mul-p2-2 c = omega (arith, near (c .before .before .before) .role .small)
+after-requires-2 : tie.Need-after-requires-2 Inv-loop μ-loop
+after-requires-2 c κs = fits (c .before .before .before)
 
-element-copy-out-p2-2 : At tie.Need-element-copy-out-p2-2
-element-copy-out-p2-2 c = near (c .before .before .before) .role .small
+mul-p2-2 : tie.Need-mul-p2-2 Inv-loop μ-loop
+mul-p2-2 c = omega (arith, near (c .before .before .before .before) .role .small)
 
-after-requires-4 : At tie.Need-after-requires-4
-after-requires-4 c κs = (near (c .before .before .before .before) .user .small, near (c .before .before .before .before) .entity .small)
+element-set-from-p2-2 : tie.Need-element-set-from-p2-2 Inv-loop μ-loop
+element-set-from-p2-2 c = near (c .before .before .before .before) .role .small
 
-mul-p3-2 : At tie.Need-mul-p3-2
-mul-p3-2 c = omega (arith, near (c .before .before .before .before .before) .role .small)
+put-requires-2 : tie.Need-put-requires-2 Inv-loop μ-loop
+put-requires-2 c κs = (near (c .before .before .before .before .before) .role .small, grants-at (c .before .before .before .before .before .before .before) .long)
 
-element-set-from-p3-2 : At tie.Need-element-set-from-p3-2
-element-set-from-p3-2 c = near (c .before .before .before .before .before) .role .small
+loop-less-5 : tie.Need-loop-less-5 Inv-loop μ-loop
+loop-less-5 c = omega (arith, turn (c .before .before .before .before .before .before .before) .loop-test .taken)
 
-loop7-holds : At tie.Need-loop7-holds
-loop7-holds c = (omega arith, refl)
+loop-again-5 : tie.Need-loop-again-5 Inv-loop μ-loop
+loop-again-5 c =
+    let d = c .before .before .before .before .before .before in
+    let p = c .before .before in
+    turned (d .before) _ (does-so d _ (role-stored _ _ (zero d) _ (near d) (sure (d .before .before)) (told-role (p .before) .0) (told-role (p .before) .1) _ (p .after2 .ensures))) _ _
+    (keys-other _ _ (keys-at (d .before .before)) _ refl)
+    (grants-role _ _ (grants-at (d .before .before)) _ (many d .manyRoles) _ (near d .role .small) _ _ (c .put2 .ensures) refl)
 
-loop-less-5 : At tie.Need-loop-less-5
-loop-less-5 c = let h = turn (c .before .before .before .before .before .before .before .before .before .before .before .before .before .before .before .before .before .before .before .before .before .before .before) in search needs
+enum-told-6 : tie.Need-enum-told-6 Inv-loop μ-loop
+enum-told-6 c = search needs
 
-loop-again-5 : At tie.Need-loop-again-5
-loop-again-5 c = turned (c .before .before .before .before .before .before .before .before .before .before .before .before .before .before .before .before .before .before .before .before .before .before .before) (outcome _ _) (does _ _ _ (sure (c .before .before .before .before .before .before .before .before)) (judged (c .before .before .before .before .before .before .before .before)) (c .before .before .before .before .before .before .before .if6 .taken) _ (swept-unmake (c))) (sized-sessions _ (sized-role _ (c .before .before .before .before .before .before .before .before .before .before .before .before .before .before .before .before .before .before .before .before .before .before .before .before .loop .inv .2) _ _ _) (dropRole (c .before .before .before .before .before .before .before .before .before .before .before .before .before .before .before .before .before .before .before .before .below162 .result)) (c .before .loop7 .i3) _ (c .before .loop7 .inv .1))
+empty-requires-2 : tie.Need-empty-requires-2 Inv-loop μ-loop
+empty-requires-2 c κs = search needs
 
-mul-h-6 : At tie.Need-mul-h-6
-mul-h-6 c = omega (arith, c .loop7-test .taken)
+mul-p2-3 : tie.Need-mul-p2-3 Inv-loop μ-loop
+mul-p2-3 c = omega (arith, near (c .before .before .before .before) .role .small)
 
-element-copy-out-h-6 : At tie.Need-element-copy-out-h-6
-element-copy-out-h-6 c = c .loop7-test .taken
+element-set-from-p2-3 : tie.Need-element-set-from-p2-3 Inv-loop μ-loop
+element-set-from-p2-3 c = near (c .before .before .before .before) .role .small
 
-dropped-requires : At tie.Need-dropped-requires
-dropped-requires c κs = near (c .before .before .before .before .before .before .before .before .before) .role .small
+put-requires-3 : tie.Need-put-requires-3 Inv-loop μ-loop
+put-requires-3 c κs = (near (c .before .before .before .before .before) .role .small, grants-at (c .before .before .before .before .before .before .before) .long)
 
-mul-h2-3 : At tie.Need-mul-h2-3
-mul-h2-3 c = omega (arith, c .before .before .loop7-test .taken)
+without-role-requires : tie.Need-without-role-requires Inv-loop μ-loop
+without-role-requires c κs = search needs
 
-element-set-from-h2-3 : At tie.Need-element-set-from-h2-3
-element-set-from-h2-3 c = c .before .before .loop7-test .taken
+loop-less-6 : tie.Need-loop-less-6 Inv-loop μ-loop
+loop-less-6 c = omega (arith, turn (c .before .before .before .before .before .before .before .before .before) .loop-test .taken)
 
-add-i3-2 : At tie.Need-add-i3-2
-add-i3-2 c = omega (arith, c .before .before .loop7-test .taken)
+loop-again-6 : tie.Need-loop-again-6 Inv-loop μ-loop
+loop-again-6 c =
+    let d = c .before .before .before .before .before .before .before .before in
+    let put = c .before .before in
+    let p = put .before .before in
+    rw (c .without-role .ensures)
+    (turned (d .before) _ (does-so d _ (unmake-stored _ _ (zero d) _ (near d) (told-unmake (p .before)) _ (p .empty2 .ensures))) _ _
+    (keys-other _ _ (keys-at (d .before .before)) _ refl)
+    (grants-role _ _ (grants-at (d .before .before)) _ (many d .manyRoles) _ (near d .role .small) _ _ (put .put3 .ensures) refl))
 
-loop7-less : At tie.Need-loop7-less
-loop7-less c = omega (arith, c .before .before .loop7-test .taken)
+loop-less-7 : tie.Need-loop-less-7 Inv-loop μ-loop
+loop-less-7 c = omega (arith, turn (c .before) .loop-test .taken)
 
-loop7-again : At tie.Need-loop7-again
-loop7-again c = (omega (arith, c .before .before .loop7-test .taken), rw (c .dropped .ensures) (sessions-more (dropRole _) _ _ _ (c .before .before .before .loop7 .inv .1)))
+loop-again-7 : tie.Need-loop-again-7 Inv-loop μ-loop
+loop-again-7 c = turned (c .before) _ (refuses _ _ _ (sure (c .before .before)) (judged (c .before)) (c .if3 .left)) _ _ (keys-at (c .before .before)) (grants-at (c .before .before))
 
-loop-less-6 : At tie.Need-loop-less-6
-loop-less-6 c = let h = turn (c .before .before .before .before .before .before .before .before .before .before .before .before .before .before .before .before .before .before .before .before .before) in search needs
+same-length-2 : tie.Need-same-length-2 Inv-loop μ-loop
+same-length-2 c = held-length _ _ _ _ _ _ _ _ (c .before .loop .inv .2) (omega (arith, c .before .loop .inv .0, room (counted (c .before .before .before .before))))
 
-loop-again-6 : At tie.Need-loop-again-6
-loop-again-6 c = turned (c .before .before .before .before .before .before .before .before .before .before .before .before .before .before .before .before .before .before .before .before .before) (outcome _ _) (does _ _ _ (sure (c .before .before .before .before .before .before)) (judged (c .before .before .before .before .before .before)) (c .before .before .before .before .before .if6 .taken) _ (role-done _ _ (sym (c .before .before .before .before .before .if6 .taken) ∙ judged (c .before .before .before .before .before .before)) _ _ _ _ (near (c .before .before .before .before .before .before)) (sure (c .before .before .before .before .before .before)) (c .before .before .before .if8 .left) (c .if12 .left) _ (c .before .after4 .ensures))) (sized-role _ (c .before .before .before .before .before .before .before .before .before .before .before .before .before .before .before .before .before .before .before .before .before .before .loop .inv .2) _ _ _)
-
-loop-less-7 : At tie.Need-loop-less-7
-loop-less-7 c = let h = turn (c .before .before .before .before .before .before .before .before .before .before .before .before .before .before .before .before) in search needs
-
-loop-again-7 : At tie.Need-loop-again-7
-loop-again-7 c = turned (c .before .before .before .before .before .before .before .before .before .before .before .before .before .before .before .before) (outcome _ _) (refuses _ _ _ (sure (c .before)) (judged (c .before)) (c .if6 .left)) (c .before .before .before .before .before .before .before .before .before .before .before .before .before .before .before .before .before .loop .inv .2)
-
-returns-3 : At tie.Need-returns-3
-unfolding batch
-returns-3 c =
-    let n : c .before .loop .t ≡ c .before .before .before .before .before .args .count = omega arith in
-    let h = rw n at (c .before .loop .inv .1) in
-    rw (le-leb _ _ (c .before .before .before .before .if1 .left), h .ran, h .said)
+returns-3 : tie.Need-returns-3 Inv-loop μ-loop
+returns-3 c = let n : c .before .loop .i ≡ counted (c .before .before .before .before) .count .result = omega (arith, c .loop-test .left, c .before .loop .inv .0) in held-all _ _ _ _ _ _ _ _ (c .before .loop .inv .2) (n ∙ c .before .loop .inv .1)
 
 pub run-spec : {M : Type 1} → statement M
 run-spec =
     tie.close
     (tie.spec
-    Inv-loop2
-    μ-loop2
-    Inv-loop3
-    μ-loop3
-    Inv-loop4
-    μ-loop4
-    Inv-loop5
-    μ-loop5
-    Inv-loop6
-    μ-loop6
-    Inv-loop7
-    μ-loop7
     Inv-loop
     μ-loop
+    count-requires
     returns
-    is-sound-requires
-    all-unsound-requires
+    keys-requires
+    sound-by-requires
+    refuse-requires
+    same-length
     returns-2
+    grants-requires
     loop-holds
-    mul-q
-    array-copy-out-q
-    below16-requires
-    below16-requires-2
-    below64-requires
-    below16-requires-3
-    mul-s
-    element-copy-out-s
-    mul-f
-    element-copy-out-f
+    request-requires
+    look-up-requires
+    mul-session
+    element-copy-out-session
+    mul-user
+    element-copy-out-user
+    mul-role
+    element-copy-out-role
+    mul-entity
+    element-copy-out-entity
     parent-of-requires
-    scope-of-requires
-    mul-base
-    loop2-holds
-    add-h
-    mul-h
-    element-copy-out-h
-    is-kin-requires
-    add-j
-    loop2-less
-    loop2-again
-    mul-i
-    loop3-holds
-    has16-requires
-    add-i
-    mul-h-2
-    element-copy-out-h-2
-    having-requires
-    loop3-less
-    loop3-again
-    loop3-less-2
-    loop3-again-2
-    is-in-requires
-    loop4-holds
-    mul-h-3
-    element-copy-out-h-3
-    cast-a
-    is-in-requires-2
-    sub-steps
-    loop4-less
-    loop4-again
-    mul-u
-    element-copy-out-u
-    mul-p
-    element-copy-out-p
-    mul-m
-    element-copy-out-m
+    mul-parent
+    element-copy-out-parent
+    asking-requires
+    gather-requires
+    reached-requires
+    kin-requires
     judge-requires
-    array-write-answers
-    add-t
+    slice-write-answers
+    add-i
+    change-of-requires
+    enum-told
     after-requires
     mul-s2
     element-set-from-s2
     loop-less
     loop-again
-    after-requires-2
+    enum-told-2
+    made-requires
     mul-f2
     element-set-from-f2
+    key-requires
+    mul-keys
+    array-write-keys
+    owning-requires
     mul-p2
-    element-copy-out-p2
-    after-requires-3
-    mul-p3
-    element-set-from-p3
+    element-set-from-p2
+    put-requires
     loop-less-2
     loop-again-2
-    loop5-holds
-    mul-h-4
-    element-copy-out-h-4
-    closed-requires
-    mul-h2
-    element-set-from-h2
-    add-i3
-    loop5-less
-    loop5-again
-    loop6-holds
+    enum-told-3
+    empty-requires
+    mul-f2-2
+    element-set-from-f2-2
+    key-requires-2
+    mul-keys-2
+    array-write-keys-2
+    without-entity-requires
+    clear-requires
+    without-entity-requires-2
     loop-less-3
     loop-again-3
-    mul-h-5
-    element-copy-out-h-5
-    add-i2
-    cleared-requires
-    mul-h2-2
-    element-set-from-h2-2
-    loop6-less
-    loop6-again
-    loop6-less-2
-    loop6-again-2
+    enum-told-4
+    renamed-requires
+    mul-f2-3
+    element-set-from-f2-3
+    key-requires-3
+    mul-keys-3
+    array-write-keys-3
     loop-less-4
     loop-again-4
+    enum-told-5
+    after-requires-2
     mul-p2-2
-    element-copy-out-p2-2
-    after-requires-4
-    mul-p3-2
-    element-set-from-p3-2
-    loop7-holds
+    element-set-from-p2-2
+    put-requires-2
     loop-less-5
     loop-again-5
-    mul-h-6
-    element-copy-out-h-6
-    dropped-requires
-    mul-h2-3
-    element-set-from-h2-3
-    add-i3-2
-    loop7-less
-    loop7-again
+    enum-told-6
+    empty-requires-2
+    mul-p2-3
+    element-set-from-p2-3
+    put-requires-3
+    without-role-requires
     loop-less-6
     loop-again-6
     loop-less-7
     loop-again-7
+    same-length-2
     returns-3)

@@ -1,53 +1,23 @@
--- `create_refusal` answers what stands before, if that is not 0, else the first condition that is met: 10 to 14. Assumes nothing.
+-- `create_refusal`: the conditions up to 9, then those from 10. Assumes nothing.
 use borrow.Author.Needs.{needs}
-use Rattle.bitset.specs.Tests.{either}
-use Rattle.guard.proofs.Returns.{refusing}
+use mathlib.Core.Path.{refl, sym, _∙_}
+use Rattle.guard.proofs.Laws.Refusals.{first-here, first-past}
 use Rattle.guard.proofs.entities.create_refusal.Statement.{statement}
 use Rattle.guard.proofs.entities.create_refusal.Tie as tie
 
+create-refusal-to-9-requires : tie.Need-create-refusal-to-9-requires
+create-refusal-to-9-requires c κs = search needs
+
 returns : tie.Need-returns
-returns c = search refusing depth 14 fits 4000
+returns c = c .before .create-refusal-to-9 .ensures ∙ sym (first-here _ _ (λ z. c .if1 .taken (c .before .create-refusal-to-9 .ensures ∙ z)))
+
+create-refusal-from-10-requires : tie.Need-create-refusal-from-10-requires
+create-refusal-from-10-requires c κs = search needs
 
 returns-2 : tie.Need-returns-2
-unfolding either
-returns-2 c = search refusing depth 14 fits 4000
-
-dominates-requires : tie.Need-dominates-requires
-dominates-requires c κs = search needs
-
-returns-3 : tie.Need-returns-3
-unfolding either
-returns-3 c = search refusing depth 14 fits 4000
-
-has16-requires : tie.Need-has16-requires
-has16-requires c κs = search needs
-
-returns-4 : tie.Need-returns-4
-unfolding either
-returns-4 c = search refusing depth 14 fits 4000
-
-returns-5 : tie.Need-returns-5
-unfolding either
-returns-5 c = search refusing depth 14 fits 4000
-
-returns-6 : tie.Need-returns-6
-unfolding either
-returns-6 c = search refusing depth 14 fits 4000
-
-returns-7 : tie.Need-returns-7
-unfolding either
-returns-7 c = search refusing depth 14 fits 4000
+returns-2 c = c .create-refusal-from-10 .ensures ∙ sym (first-past _ _ 0 refl (sym (c .before .before .create-refusal-to-9 .ensures) ∙ c .before .if1 .left))
 
 pub create-refusal-spec : {M : Type 1} → statement M
 create-refusal-spec =
     tie.close
-    (tie.spec
-    returns
-    returns-2
-    dominates-requires
-    returns-3
-    has16-requires
-    returns-4
-    returns-5
-    returns-6
-    returns-7)
+    (tie.spec create-refusal-to-9-requires returns create-refusal-from-10-requires returns-2)

@@ -1,10 +1,12 @@
--- `create_refusal_to_9` answers the first condition that is met: 5, 7, 8 or 9. Assumes nothing.
+-- `create_refusal_to_9` answers the first condition that is met: 5 to 9. Assumes nothing.
 use Rattle.bitset.specs.Tests.{either}
+use borrow.Author.Needs.{needs}
 use Rattle.guard.proofs.Returns.{refusing}
 use Rattle.guard.proofs.entities.create_refusal_to_9.Statement.{statement}
 use Rattle.guard.proofs.entities.create_refusal_to_9.Tie as tie
 
 returns : tie.Need-returns
+unfolding either
 returns c = search refusing depth 14 fits 4000
 
 returns-2 : tie.Need-returns-2

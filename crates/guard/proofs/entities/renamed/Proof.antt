@@ -1,6 +1,6 @@
--- `renamed` is the entity with the name, cut to its field. Assumes nothing.
-use Rattle.guard.specs.Edits.{renameTo}
+-- `renamed` is the entity with another name. Assumes nothing.
 use borrow.Author.Needs.{needs}
+use Rattle.guard.specs.Edits.{renameTo}
 use Rattle.guard.proofs.entities.renamed.Statement.{statement}
 use Rattle.guard.proofs.entities.renamed.Tie as tie
 

@@ -4,7 +4,7 @@ use mathlib.Core.Path.{_≡_}
 use native.Mathlib.Omega.{arith}
 use borrow.Author.Tests.{eq-eqb, ne-eqb}
 use Rattle.bitset.specs.Sets.{with, join, contains}
-use Rattle.guard.specs.Edits.{put}
+use Rattle.guard.specs.Edits.{putIn}
 use Rattle.guard.specs.Fresh.{freshRole}
 use borrow.Author.Needs.{needs}
 use Rattle.guard.proofs.fresh.fresh_role.Statement.{statement}
@@ -20,7 +20,7 @@ with64-requires : tie.Need-with64-requires
 with64-requires c κs = search needs
 
 returns : tie.Need-returns
-unfolding freshRole put contains with join
+unfolding freshRole putIn contains with join
 returns c =
     let e : c .before .before .args .r / 4 * 16 ≡ 16 * (c .before .before .args .r / 4) = omega arith in
     rw (eq-eqb _ _ (c .before .if1 .taken), c .with64 .ensures, e)

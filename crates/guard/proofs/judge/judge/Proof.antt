@@ -1,176 +1,204 @@
--- `judge` answers every request by the rule of its number: each arm of the match by what its function ensures,
--- the closing one since the number is none of the sixteen. Assumes nothing.
-use Prim.Native.Nat.{ℕ, zero, suc, _≤_}
-use mathlib.Core.Path.{_≡_, sym, ap, _∙_}
-use lib.ListN.{getD}
-use native.Mathlib.Omega.{arith}
+-- `judge` answers every request by the rule of its number: each arm of the match by what its function ensures, the closing one
+-- since the number is none of the sixteen. Assumes nothing.
 use borrow.Author.Needs.{needs}
-use borrow.Author.Tests.{le-ltb}
-use Rattle.guard.specs.Requests.{Rule, requestCount, fieldInRange, unknown, rules, ruleOf}
-use Rattle.guard.specs.Inside.{number}
-use Rattle.guard.specs.declared.Tables.{Tables}
-use Rattle.guard.specs.declared.Request.{Request}
-use Rattle.guard.proofs.Laws.Requests.{unknown-rule}
-use Rattle.guard.proofs.Deciding.{number-two, revoke-number}
+use mathlib.Core.Path.{_≡_, refl, sym, ap, _∙_}
+use mathlib.Core.Bool.{true}
+use borrow.Author.Tests.{not-true, not-false}
+use Rattle.bitset.specs.Tests.{either}
+use Rattle.guard.specs.Conditions.{pastUser, createBelow, grantBelow, cannotOpen, cannotChange, notOpen}
+use Rattle.guard.specs.Requests.{rules, login, logout, take, drop, openr, openw, close, create, delete, rename, grant, revoke, list, unlist, make, unmake}
+use Rattle.guard.specs.Step.{inRanges}
+use Rattle.guard.specs.Inside.{asksWay, asksName, asksRights}
+use Rattle.guard.proofs.Laws.Refusals.{alike-first}
+use Rattle.guard.proofs.Ranges.{in-login, in-logout, in-take, in-drop, in-openr, in-openw, in-close, in-create, in-delete, in-rename, in-grant, in-revoke, in-list, in-unlist, in-make, in-unmake}
+use Rattle.guard.proofs.Answers.{out-of-range, by-rule, none-of-sixteen}
 use Rattle.guard.proofs.judge.judge.Statement.{statement}
 use Rattle.guard.proofs.judge.judge.Tie as tie
 
--- by the rule at the request's number
-by-call : (t : Tables) (q : Request) (n k : ℕ) → q .call ≡ k → n ≡ number (getD rules k unknown) t q → n ≡ number (ruleOf q) t q
-unfolding ruleOf
-by-call t q n k h x = x ∙ ap (λ (c : ℕ). number (getD rules c unknown) t q) (sym h)
-
--- n is none of the first k numbers
-abbrev NoneOf : ℕ → ℕ → Type 0
-NoneOf n zero = Unit {0}
-NoneOf n (suc k) = NoneOf n k × (n ≡ k → ⊥)
-
-past : (n k : ℕ) → NoneOf n k → k ≤ n
-past n zero h = omega arith
-past n (suc k) h = omega (arith, past n k (h .0), h .1)
-
-by-none : (t : Tables) (q : Request) → NoneOf (q .call) requestCount → 2 ≡ number (ruleOf q) t q
-unfolding unknown fieldInRange
-by-none t q h =
-    let beyond = past (q .call) requestCount h in
-    number-two unknown t q 1 (le-ltb _ _ beyond) ∙ ap (λ (rule : Rule). number rule t q) (sym (unknown-rule q beyond))
-
-login-number-requires : tie.Need-login-number-requires
-login-number-requires c κs = search needs
-
-logout-number-requires : tie.Need-logout-number-requires
-logout-number-requires c κs = search needs
-
-take-number-requires : tie.Need-take-number-requires
-take-number-requires c κs = search needs
-
-drop-number-requires : tie.Need-drop-number-requires
-drop-number-requires c κs = search needs
-
-openr-number-requires : tie.Need-openr-number-requires
-openr-number-requires c κs = search needs
-
-openw-number-requires : tie.Need-openw-number-requires
-openw-number-requires c κs = search needs
-
-close-number-requires : tie.Need-close-number-requires
-close-number-requires c κs = search needs
-
-create-number-requires : tie.Need-create-number-requires
-create-number-requires c κs = search needs
-
-delete-number-requires : tie.Need-delete-number-requires
-delete-number-requires c κs = search needs
-
-rename-number-requires : tie.Need-rename-number-requires
-rename-number-requires c κs = search needs
-
-rights-number-requires : tie.Need-rights-number-requires
-rights-number-requires c κs = search needs
-
-rights-number-requires-2 : tie.Need-rights-number-requires-2
-rights-number-requires-2 c κs = search needs
-
-list-number-requires : tie.Need-list-number-requires
-list-number-requires c κs = search needs
-
-unlist-number-requires : tie.Need-unlist-number-requires
-unlist-number-requires c κs = search needs
-
-make-number-requires : tie.Need-make-number-requires
-make-number-requires c κs = search needs
-
-unmake-number-requires : tie.Need-unmake-number-requires
-unmake-number-requires c κs = search needs
+-- where the match is reached, every number that the kind uses is in range
+fits : (c : tie.Else1) → inRanges (c .before .before .args .q) ≡ true
+fits c = sym (c .before .before .pre) ∙ not-false _ (c .if1 .left)
 
 returns : tie.Need-returns
-unfolding rules
-returns c t seen scan = by-call t _ _ 0 (c .before .match .keys1) (c .login-number .ensures t seen)
+returns c = λ t seen. out-of-range t _ (sym (c .before .before .pre) ∙ not-true _ (c .if1 .taken))
+
+login-refusal-requires : tie.Need-login-refusal-requires
+login-refusal-requires c κs = let r = in-login _ (fits (c .before)) (c .match .keys1) in (r .2, r .3)
+
+logout-refusal-requires : tie.Need-logout-refusal-requires
+logout-refusal-requires c κs = search needs
+
+take-refusal-requires : tie.Need-take-refusal-requires
+take-refusal-requires c κs = search needs
+
+drop-refusal-requires : tie.Need-drop-refusal-requires
+drop-refusal-requires c κs = search needs
+
+openr-refusal-requires : tie.Need-openr-refusal-requires
+openr-refusal-requires c κs = search needs
+
+openw-refusal-requires : tie.Need-openw-refusal-requires
+openw-refusal-requires c κs = search needs
+
+close-refusal-requires : tie.Need-close-refusal-requires
+close-refusal-requires c κs = search needs
+
+create-refusal-requires : tie.Need-create-refusal-requires
+create-refusal-requires c κs = let r = in-create _ (fits (c .before)) (c .match .keys8) in (r .level, r .cats)
+
+change-refusal-requires : tie.Need-change-refusal-requires
+change-refusal-requires c κs = search needs
+
+change-refusal-requires-2 : tie.Need-change-refusal-requires-2
+change-refusal-requires-2 c κs = search needs
+
+rights-refusal-requires : tie.Need-rights-refusal-requires
+rights-refusal-requires c κs = search needs
+
+rights-refusal-requires-2 : tie.Need-rights-refusal-requires-2
+rights-refusal-requires-2 c κs = search needs
+
+has16-requires : tie.Need-has16-requires
+has16-requires c κs = search needs
+
+list-refusal-requires : tie.Need-list-refusal-requires
+list-refusal-requires c κs = search needs
+
+has16-requires-2 : tie.Need-has16-requires-2
+has16-requires-2 c κs = search needs
+
+list-refusal-requires-2 : tie.Need-list-refusal-requires-2
+list-refusal-requires-2 c κs = search needs
+
+make-refusal-requires : tie.Need-make-refusal-requires
+make-refusal-requires c κs = search needs
+
+unmake-refusal-requires : tie.Need-unmake-refusal-requires
+unmake-refusal-requires c κs = search needs
 
 returns-2 : tie.Need-returns-2
-unfolding rules
-returns-2 c t seen scan = by-call t _ _ 1 (c .before .match .keys2) (c .logout-number .ensures t seen)
+unfolding rules login pastUser
+returns-2 c = λ t seen.
+    let r = in-login _ (fits (c .before .before)) (c .before .match .keys1) in
+    by-rule t _ _ 0 (c .before .match .keys1) (fits (c .before .before)) (c .login-refusal .ensures ∙ rw (seen .session (r .0), seen .user (r .1)))
 
 returns-3 : tie.Need-returns-3
-unfolding rules
-returns-3 c t seen scan = by-call t _ _ 2 (c .before .match .keys3) (c .take-number .ensures t seen)
+unfolding rules logout
+returns-3 c = λ t seen.
+    let r = in-logout _ (fits (c .before .before)) (c .before .match .keys2) in
+    by-rule t _ _ 1 (c .before .match .keys2) (fits (c .before .before)) (c .logout-refusal .ensures ∙ rw (seen .session r))
 
 returns-4 : tie.Need-returns-4
-unfolding rules
-returns-4 c t seen scan = by-call t _ _ 3 (c .before .match .keys4) (c .drop-number .ensures t seen)
+unfolding rules take
+returns-4 c = λ t seen.
+    let r = in-take _ (fits (c .before .before)) (c .before .match .keys3) in
+    by-rule t _ _ 2 (c .before .match .keys3) (fits (c .before .before)) (c .take-refusal .ensures ∙ rw (seen .session (r .0), seen .live (r .1), seen .users (r .1)))
 
 returns-5 : tie.Need-returns-5
-unfolding rules
-returns-5 c t seen scan = by-call t _ _ 4 (c .before .match .keys5) (c .openr-number .ensures t seen (scan .openr (c .before .match .keys5)))
+unfolding rules drop
+returns-5 c = λ t seen.
+    let r = in-drop _ (fits (c .before .before)) (c .before .match .keys4) in
+    by-rule t _ _ 3 (c .before .match .keys4) (fits (c .before .before)) (c .drop-refusal .ensures ∙ rw (seen .session (r .0), seen .live (r .1)))
 
 returns-6 : tie.Need-returns-6
-unfolding rules
-returns-6 c t seen scan = by-call t _ _ 5 (c .before .match .keys6) (c .openw-number .ensures t seen (scan .openw (c .before .match .keys6)))
+unfolding rules openr cannotOpen asksRights asksWay asksName either
+returns-6 c = λ t seen.
+    let r = in-openr _ (fits (c .before .before)) (c .before .match .keys5) in
+    by-rule t _ _ 4 (c .before .match .keys5) (fits (c .before .before)) (c .openr-refusal .ensures ∙ rw (seen .session (r .0), seen .entity (r .1), seen .rights (ap asksRights (c .before .match .keys5)) (r .0) .reads _ (r .1), seen .reached (ap asksWay (c .before .match .keys5)) (r .0) (r .1)))
 
 returns-7 : tie.Need-returns-7
-unfolding rules
-returns-7 c t seen scan = by-call t _ _ 6 (c .before .match .keys7) (c .close-number .ensures t seen)
+unfolding rules openw cannotOpen asksRights asksWay asksName either
+returns-7 c = λ t seen.
+    let r = in-openw _ (fits (c .before .before)) (c .before .match .keys6) in
+    by-rule t _ _ 5 (c .before .match .keys6) (fits (c .before .before)) (c .openw-refusal .ensures ∙ rw (seen .session (r .0), seen .entity (r .1), seen .rights (ap asksRights (c .before .match .keys6)) (r .0) .writes _ (r .1), seen .reached (ap asksWay (c .before .match .keys6)) (r .0) (r .1)))
 
 returns-8 : tie.Need-returns-8
-unfolding rules
-returns-8 c t seen scan = by-call t _ _ 7 (c .before .match .keys8) (c .create-number .ensures t seen (scan .create (c .before .match .keys8)))
+unfolding rules close notOpen
+returns-8 c = λ t seen.
+    let r = in-close _ (fits (c .before .before)) (c .before .match .keys7) in
+    by-rule t _ _ 6 (c .before .match .keys7) (fits (c .before .before)) (c .close-refusal .ensures ∙ rw (seen .session (r .0), seen .entity (r .1)))
 
 returns-9 : tie.Need-returns-9
-unfolding rules
-returns-9 c t seen scan = by-call t _ _ 8 (c .before .match .keys9) (c .delete-number .ensures t seen (scan .delete (c .before .match .keys9)))
+unfolding rules create createBelow cannotChange asksRights asksWay asksName either
+returns-9 c = λ t seen.
+    let r = in-create _ (fits (c .before .before)) (c .before .match .keys8) in
+    by-rule t _ _ 7 (c .before .match .keys8) (fits (c .before .before)) (c .create-refusal .ensures ∙ rw (seen .session (r .seat), seen .entity (r .entity), seen .live (r .role), seen .parent (c .before .match .keys8) (r .parent), seen .rights (ap asksRights (c .before .match .keys8)) (r .seat) .executes _ (r .parent), seen .created (c .before .match .keys8) (r .parent) (r .named) (r .name)))
 
 returns-10 : tie.Need-returns-10
-unfolding rules
-returns-10 c t seen scan = by-call t _ _ 9 (c .before .match .keys10) (c .rename-number .ensures t seen (scan .rename (c .before .match .keys10)))
+unfolding rules delete cannotChange asksRights asksWay asksName either
+returns-10 c = λ t seen.
+    let r = in-delete _ (fits (c .before .before)) (c .before .match .keys9) in
+    by-rule t _ _ 8 (c .before .match .keys9) (fits (c .before .before)) (c .change-refusal .ensures ∙ rw (seen .session (r .0), seen .entity (r .1), seen .rights (ap asksRights (c .before .match .keys9)) (r .0) .executes _ (seen .inside (r .1)))
+    (alike-first _ _ (refl, refl, λ _ _. (refl, refl, λ other _. (refl, refl, λ _ _. (refl, refl, λ _ _. (refl, seen .deleted (c .before .match .keys9) (r .1) other, λ _ _. tt)))))))
 
 returns-11 : tie.Need-returns-11
-unfolding rules
-returns-11 c t seen scan = by-call t _ _ 10 (c .before .match .keys11) (c .rights-number .ensures t seen (scan .grant (c .before .match .keys11)))
+unfolding rules rename cannotChange asksRights asksWay asksName either
+returns-11 c = λ t seen.
+    let r = in-rename _ (fits (c .before .before)) (c .before .match .keys10) in
+    by-rule t _ _ 9 (c .before .match .keys10) (fits (c .before .before)) (c .change-refusal2 .ensures ∙ rw (seen .session (r .0), seen .entity (r .1), seen .rights (ap asksRights (c .before .match .keys10)) (r .0) .executes _ (seen .inside (r .1)), seen .renamed (c .before .match .keys10) (r .1) (r .2) (r .3)))
 
 returns-12 : tie.Need-returns-12
-unfolding rules
-returns-12 c t seen scan = by-call t _ _ 11 (c .before .match .keys12) (c .rights-number2 .ensures t seen (scan .revoke (c .before .match .keys12)) ∙ revoke-number t _)
+unfolding rules grant grantBelow asksRights asksWay asksName either
+returns-12 c = λ t seen.
+    let r = in-grant _ (fits (c .before .before)) (c .before .match .keys11) in
+    by-rule t _ _ 10 (c .before .match .keys11) (fits (c .before .before)) (c .rights-refusal .ensures ∙ rw (seen .session (r .0), seen .live (r .1), seen .entity (r .2), seen .rights (ap asksRights (c .before .match .keys11)) (r .0) .owns _ (r .2)))
 
 returns-13 : tie.Need-returns-13
-unfolding rules
-returns-13 c t seen scan = by-call t _ _ 12 (c .before .match .keys13) (c .list-number .ensures t seen)
+unfolding rules revoke grant grantBelow asksRights asksWay asksName either
+returns-13 c = λ t seen.
+    let r = in-revoke _ (fits (c .before .before)) (c .before .match .keys12) in
+    by-rule t _ _ 11 (c .before .match .keys12) (fits (c .before .before)) (c .rights-refusal2 .ensures ∙ rw (seen .session (r .0), seen .live (r .1), seen .entity (r .2), seen .rights (ap asksRights (c .before .match .keys12)) (r .0) .owns _ (r .2)))
 
 returns-14 : tie.Need-returns-14
-unfolding rules
-returns-14 c t seen scan = by-call t _ _ 13 (c .before .match .keys14) (c .unlist-number .ensures t seen)
+unfolding rules list
+returns-14 c = λ t seen.
+    let r = in-list _ (fits (c .before .before .before)) (c .before .before .match .keys13) in
+    by-rule t _ _ 12 (c .before .before .match .keys13) (fits (c .before .before .before)) (c .list-refusal .ensures ∙ rw (seen .session (r .0), seen .live (r .1), c .before .has16 .ensures, seen .users (r .1)))
 
 returns-15 : tie.Need-returns-15
-unfolding rules
-returns-15 c t seen scan = by-call t _ _ 14 (c .before .match .keys15) (c .make-number .ensures t seen)
+unfolding rules unlist
+returns-15 c = λ t seen.
+    let r = in-unlist _ (fits (c .before .before .before)) (c .before .before .match .keys14) in
+    by-rule t _ _ 13 (c .before .before .match .keys14) (fits (c .before .before .before)) (c .list-refusal2 .ensures ∙ rw (seen .session (r .0), seen .live (r .1), c .before .has162 .ensures, seen .users (r .1)))
 
 returns-16 : tie.Need-returns-16
-unfolding rules
-returns-16 c t seen scan = by-call t _ _ 15 (c .before .match .keys16) (c .unmake-number .ensures t seen)
+unfolding rules make
+returns-16 c = λ t seen.
+    let r = in-make _ (fits (c .before .before)) (c .before .match .keys15) in
+    by-rule t _ _ 14 (c .before .match .keys15) (fits (c .before .before)) (c .make-refusal .ensures ∙ rw (seen .session (r .0), seen .live (r .1)))
 
 returns-17 : tie.Need-returns-17
-returns-17 c t seen scan = by-none t _ (c .match .rest)
+unfolding rules unmake
+returns-17 c = λ t seen.
+    let r = in-unmake _ (fits (c .before .before)) (c .before .match .keys16) in
+    by-rule t _ _ 15 (c .before .match .keys16) (fits (c .before .before)) (c .unmake-refusal .ensures ∙ rw (seen .session (r .0), seen .live (r .1)))
+
+returns-18 : tie.Need-returns-18
+returns-18 c = λ t seen. none-of-sixteen t _ (c .match .rest)
 
 pub judge-spec : {M : Type 1} → statement M
 judge-spec =
     tie.close
     (tie.spec
-    login-number-requires
-    logout-number-requires
-    take-number-requires
-    drop-number-requires
-    openr-number-requires
-    openw-number-requires
-    close-number-requires
-    create-number-requires
-    delete-number-requires
-    rename-number-requires
-    rights-number-requires
-    rights-number-requires-2
-    list-number-requires
-    unlist-number-requires
-    make-number-requires
-    unmake-number-requires
     returns
+    login-refusal-requires
+    logout-refusal-requires
+    take-refusal-requires
+    drop-refusal-requires
+    openr-refusal-requires
+    openw-refusal-requires
+    close-refusal-requires
+    create-refusal-requires
+    change-refusal-requires
+    change-refusal-requires-2
+    rights-refusal-requires
+    rights-refusal-requires-2
+    has16-requires
+    list-refusal-requires
+    has16-requires-2
+    list-refusal-requires-2
+    make-refusal-requires
+    unmake-refusal-requires
     returns-2
     returns-3
     returns-4
@@ -186,4 +214,5 @@ judge-spec =
     returns-14
     returns-15
     returns-16
-    returns-17)
+    returns-17
+    returns-18)

@@ -1,5 +1,6 @@
 -- `openw_refusal` answers the first condition that is met: 5, 7, 10, 11, 13 or 16. Assumes nothing.
 use borrow.Author.Needs.{needs}
+use Rattle.bitset.specs.Tests.{either}
 use Rattle.guard.proofs.Returns.{refusing}
 use Rattle.guard.proofs.opens.openw_refusal.Statement.{statement}
 use Rattle.guard.proofs.opens.openw_refusal.Tie as tie
@@ -19,17 +20,23 @@ same-requires c κs = search needs
 returns-4 : tie.Need-returns-4
 returns-4 c = search refusing depth 14 fits 4000
 
-returns-5 : tie.Need-returns-5
-returns-5 c = search refusing depth 14 fits 4000
-
 has64-requires : tie.Need-has64-requires
 has64-requires c κs = search needs
 
+returns-5 : tie.Need-returns-5
+unfolding either
+returns-5 c = rw (← c .before .before .has64 .ensures) (search refusing depth 14 fits 4000)
+
+has64-requires-2 : tie.Need-has64-requires-2
+has64-requires-2 c κs = search needs
+
 returns-6 : tie.Need-returns-6
-returns-6 c = search refusing depth 14 fits 4000
+unfolding either
+returns-6 c = rw (← c .before .before .before .before .has64 .ensures, ← c .before .has642 .ensures) (search refusing depth 14 fits 4000)
 
 returns-7 : tie.Need-returns-7
-returns-7 c = search refusing depth 14 fits 4000
+unfolding either
+returns-7 c = rw (← c .before .before .before .before .has64 .ensures, ← c .before .has642 .ensures) (search refusing depth 14 fits 4000)
 
 pub openw-refusal-spec : {M : Type 1} → statement M
 openw-refusal-spec =
@@ -40,7 +47,8 @@ openw-refusal-spec =
     returns-3
     same-requires
     returns-4
-    returns-5
     has64-requires
+    returns-5
+    has64-requires-2
     returns-6
     returns-7)

@@ -1,55 +1,33 @@
--- `after` is the role after a request on it, by the request's number. Assumes nothing.
-use borrow.Author.Tests.{eq-eqb, ne-eqb, le-leb, lt-leb}
-use Rattle.guard.specs.Inside.{roleAfter}
+-- `after` is the role after a grant, a revoke, or an edit of its list or its life. Assumes nothing.
 use borrow.Author.Needs.{needs}
+use borrow.Author.Tests.{eq-eqb, ne-eqb}
+use Rattle.guard.specs.Inside.{roleAfter}
+use Rattle.guard.proofs.Ranges.{in-grant, in-revoke}
 use Rattle.guard.proofs.roles.after.Statement.{statement}
 use Rattle.guard.proofs.roles.after.Tie as tie
 
-empty-requires : tie.Need-empty-requires
-empty-requires c κs = search needs
+granted-requires : tie.Need-granted-requires
+granted-requires c κs = let r = in-grant _ (c .before .before .pre) (c .if1 .taken) in (r .3, r .2)
 
 returns : tie.Need-returns
 unfolding roleAfter
-returns c = rw (eq-eqb _ _ (c .before .if1 .taken), c .empty .ensures)
+returns c = rw (eq-eqb _ _ (c .before .if1 .taken), c .granted .ensures)
 
-cast-with64 : tie.Need-cast-with64
-cast-with64 c = search needs
-
-with64-requires : tie.Need-with64-requires
-with64-requires c κs = search needs
+granted-requires-2 : tie.Need-granted-requires-2
+granted-requires-2 c κs = let r = in-revoke _ (c .before .before .before .before .pre) (c .if2 .taken) in (r .3, r .2)
 
 returns-2 : tie.Need-returns-2
 unfolding roleAfter
-returns-2 c = rw (ne-eqb _ _ (c .before .before .before .if1 .left), eq-eqb _ _ (c .before .if2 .taken), c .with64 .ensures)
-
-cast-granted : tie.Need-cast-granted
-cast-granted c = search needs
-
-granted-requires : tie.Need-granted-requires
-granted-requires c κs = search needs
-
-returns-3 : tie.Need-returns-3
-unfolding roleAfter
-returns-3 c = rw (ne-eqb _ _ (c .before .before .before .before .before .before .if1 .left), ne-eqb _ _ (c .before .before .before .before .if2 .left), le-leb _ _ (c .before .before .if3 .taken), c .granted .ensures)
+returns-2 c = rw (ne-eqb _ _ (c .before .before .before .if1 .left), eq-eqb _ _ (c .before .if2 .taken), c .granted2 .ensures)
 
 users-after-requires : tie.Need-users-after-requires
 users-after-requires c κs = search needs
 
-returns-4 : tie.Need-returns-4
+returns-3 : tie.Need-returns-3
 unfolding roleAfter
-returns-4 c = rw (ne-eqb _ _ (c .before .before .before .before .before .if1 .left), ne-eqb _ _ (c .before .before .before .if2 .left), lt-leb _ _ (c .before .if3 .left), c .users-after .ensures)
+returns-3 c = rw (ne-eqb _ _ (c .before .before .before .if1 .left), ne-eqb _ _ (c .before .if2 .left), c .users-after .ensures)
 
 pub after-spec : {M : Type 1} → statement M
 after-spec =
     tie.close
-    (tie.spec
-    empty-requires
-    returns
-    cast-with64
-    with64-requires
-    returns-2
-    cast-granted
-    granted-requires
-    returns-3
-    users-after-requires
-    returns-4)
+    (tie.spec granted-requires returns granted-requires-2 returns-2 users-after-requires returns-3)

@@ -1,8 +1,11 @@
 -- `granted` is the role after a grant or a revoke, set by set. Assumes nothing.
-use Rattle.guard.specs.Inside.{grantedAfter}
 use borrow.Author.Needs.{needs}
+use Rattle.guard.specs.Inside.{grantedAfter}
 use Rattle.guard.proofs.roles.granted.Statement.{statement}
 use Rattle.guard.proofs.roles.granted.Tie as tie
+
+cast-named : tie.Need-cast-named
+cast-named c = search needs
 
 contains8-requires : tie.Need-contains8-requires
 contains8-requires c κs = search needs
@@ -46,6 +49,7 @@ pub granted-spec : {M : Type 1} → statement M
 granted-spec =
     tie.close
     (tie.spec
+    cast-named
     contains8-requires
     set-after-requires
     contains8-requires-2

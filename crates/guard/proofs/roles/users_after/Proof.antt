@@ -1,42 +1,29 @@
 -- `users_after`: list adds the user, unlist takes it away, and make leaves the list. Assumes nothing.
+use borrow.Author.Needs.{needs}
 use borrow.Author.Tests.{eq-eqb, ne-eqb}
 use Rattle.guard.specs.Inside.{usersAfter}
-use borrow.Author.Needs.{needs}
+use Rattle.guard.proofs.Ranges.{in-list}
 use Rattle.guard.proofs.roles.users_after.Statement.{statement}
 use Rattle.guard.proofs.roles.users_after.Tie as tie
 
-cast-with16 : tie.Need-cast-with16
-cast-with16 c = search needs
-
 with16-requires : tie.Need-with16-requires
-with16-requires c κs = search needs
+with16-requires c κs = in-list _ (c .before .before .pre) (c .if1 .taken) .2
 
 returns : tie.Need-returns
 unfolding usersAfter
 returns c = rw (eq-eqb _ _ (c .before .if1 .taken), c .with16 .ensures)
-
-cast-without16 : tie.Need-cast-without16
-cast-without16 c = search needs
 
 without16-requires : tie.Need-without16-requires
 without16-requires c κs = search needs
 
 returns-2 : tie.Need-returns-2
 unfolding usersAfter
-returns-2 c = rw (ne-eqb _ _ (c .before .before .if1 .left), eq-eqb _ _ (c .before .if2 .taken), c .without16 .ensures)
+returns-2 c = rw (ne-eqb _ _ (c .before .before .before .if1 .left), eq-eqb _ _ (c .before .if2 .taken), c .without16 .ensures)
 
 returns-3 : tie.Need-returns-3
 unfolding usersAfter
-returns-3 c = rw (ne-eqb _ _ (c .before .if1 .left), ne-eqb _ _ (c .if2 .left))
+returns-3 c = rw (ne-eqb _ _ (c .before .before .if1 .left), ne-eqb _ _ (c .if2 .left))
 
 pub users-after-spec : {M : Type 1} → statement M
 users-after-spec =
-    tie.close
-    (tie.spec
-    cast-with16
-    with16-requires
-    returns
-    cast-without16
-    without16-requires
-    returns-2
-    returns-3)
+    tie.close (tie.spec with16-requires returns without16-requires returns-2 returns-3)

@@ -1,69 +1,61 @@
 -- `after` is the acting session after a request on it, by the request's number. Assumes nothing.
+use borrow.Author.Needs.{needs}
+use mathlib.Core.Path.{_≡_}
 use lib.ListN.{List·getD-eq-default}
 use Rattle.guard.specs.Edits.{takeRole, openReading, openWriting, closeBoth}
 use Rattle.guard.specs.Inside.{sessionAfter}
-use Rattle.guard.proofs.Doing.{past-six}
-use borrow.Author.Needs.{needs}
+use Rattle.guard.proofs.Ranges.{past-five, in-login, in-take, in-openr, in-openw}
 use Rattle.guard.proofs.sessions.after.Statement.{statement}
 use Rattle.guard.proofs.sessions.after.Tie as tie
 
 entered-requires : tie.Need-entered-requires
-entered-requires c κs = search needs
+entered-requires c κs = let r = in-login _ (c .before .pre) (c .match .keys1) in (r .1, r .2, r .3)
 
 returns : tie.Need-returns
 unfolding sessionAfter
-returns c = rw (c .before .if1 .taken, c .entered .ensures)
+returns c = rw (c .before .match .keys1, c .entered .ensures)
 
 empty-requires : tie.Need-empty-requires
 empty-requires c κs = search needs
 
 returns-2 : tie.Need-returns-2
 unfolding sessionAfter
-returns-2 c = rw (c .before .if2 .taken, c .empty .ensures)
+returns-2 c = rw (c .before .match .keys2, c .empty .ensures)
+
+with16-requires : tie.Need-with16-requires
+with16-requires c κs = in-take _ (c .before .pre) (c .match .keys3) .1
 
 dropped-requires : tie.Need-dropped-requires
 dropped-requires c κs = search needs
 
 returns-3 : tie.Need-returns-3
 unfolding sessionAfter
-returns-3 c = rw (c .before .if3 .taken, c .dropped .ensures)
-
-cast-with16 : tie.Need-cast-with16
-cast-with16 c = search needs
-
-with16-requires : tie.Need-with16-requires
-with16-requires c κs = search needs
-
-returns-4 : tie.Need-returns-4
-unfolding sessionAfter takeRole
-returns-4 c = rw (c .before .if4 .taken, c .with16 .ensures)
-
-cast-with64 : tie.Need-cast-with64
-cast-with64 c = search needs
+returns-3 c = rw (c .before .match .keys4, c .dropped .ensures)
 
 with64-requires : tie.Need-with64-requires
-with64-requires c κs = search needs
-
-returns-5 : tie.Need-returns-5
-unfolding sessionAfter openReading
-returns-5 c = rw (c .before .if5 .taken, c .with64 .ensures)
-
-cast-with64-2 : tie.Need-cast-with64-2
-cast-with64-2 c = search needs
+with64-requires c κs = in-openr _ (c .before .pre) (c .match .keys5) .1
 
 with64-requires-2 : tie.Need-with64-requires-2
-with64-requires-2 c κs = search needs
-
-returns-6 : tie.Need-returns-6
-unfolding sessionAfter openWriting
-returns-6 c = rw (c .before .if6 .taken, c .with642 .ensures)
+with64-requires-2 c κs = in-openw _ (c .before .pre) (c .match .keys6) .1
 
 closed-requires : tie.Need-closed-requires
 closed-requires c κs = search needs
 
-returns-7 : tie.Need-returns-7
+returns-4 : tie.Need-returns-4
 unfolding sessionAfter
-returns-7 c = rw (List·getD-eq-default _ (closeBoth _ _) (past-six _ (c .before .before .before .before .before .before .before .before .before .before .before .if1 .left) (c .before .before .before .before .before .before .before .before .before .if2 .left) (c .before .before .before .before .before .if4 .left) (c .before .before .before .before .before .before .before .if3 .left) (c .before .before .before .if5 .left) (c .before .if6 .left)), c .closed .ensures)
+returns-4 c = rw (List·getD-eq-default _ (closeBoth _ _) (past-five _ (c .before .match .rest .0 .0 .0 .0 .0 .1) (c .before .match .rest .0 .0 .0 .0 .1) (c .before .match .rest .0 .0 .0 .1) (c .before .match .rest .0 .0 .1) (c .before .match .rest .0 .1) (c .before .match .rest .1)), c .closed .ensures)
+
+returns-5 : tie.Need-returns-5
+unfolding sessionAfter takeRole
+returns-5 c = rw (c .before .match .keys3, c .with16 .ensures)
+
+returns-6 : tie.Need-returns-6
+unfolding sessionAfter openReading
+returns-6 c = rw (c .before .match .keys5, c .with64 .ensures)
+
+returns-7 : tie.Need-returns-7
+unfolding sessionAfter openWriting
+returns-7 c = rw (c .before .match .keys6, c .with642 .ensures)
 
 pub after-spec : {M : Type 1} → statement M
 after-spec =
@@ -73,16 +65,13 @@ after-spec =
     returns
     empty-requires
     returns-2
+    with16-requires
     dropped-requires
     returns-3
-    cast-with16
-    with16-requires
-    returns-4
-    cast-with64
     with64-requires
-    returns-5
-    cast-with64-2
     with64-requires-2
-    returns-6
     closed-requires
+    returns-4
+    returns-5
+    returns-6
     returns-7)

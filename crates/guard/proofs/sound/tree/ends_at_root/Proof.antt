@@ -18,7 +18,7 @@ loop-holds : tie.Need-loop-holds Inv-loop μ-loop
 loop-holds c = (omega arith, omega arith, refl)
 
 returns : tie.Need-returns Inv-loop μ-loop
-returns c = sym (c .before .before .loop .inv .2 ∙ climbs-root _ (c .before .before .loop .left) _ (eq-eqb _ _ (c .if1 .taken)))
+returns c = sym (c .before .before .loop .inv .2 ∙ climbs-root _ _ (c .before .before .loop .left) _ (eq-eqb _ _ (c .if1 .taken)))
 
 mul-at : tie.Need-mul-at Inv-loop μ-loop
 mul-at c = omega arith
@@ -36,10 +36,10 @@ loop-less : tie.Need-loop-less Inv-loop μ-loop
 loop-less c = omega arith
 
 loop-again : tie.Need-loop-again Inv-loop μ-loop
-loop-again c = (omega arith, omega arith, c .before .before .before .loop .inv .2 ∙ climbs-on _ _ _ (omega arith) (ne-eqb _ _ (c .before .if1 .left)))
+loop-again c = (omega arith, omega arith, c .before .before .before .loop .inv .2 ∙ climbs-on _ _ _ _ (omega arith) (ne-eqb _ _ (c .before .if1 .left)))
 
 returns-2 : tie.Need-returns-2 Inv-loop μ-loop
-returns-2 c = let none : c .before .loop .left ≡ 0 = omega arith in sym (rw none at (c .before .loop .inv .2) ∙ climbs-end _ _)
+returns-2 c = let none : c .before .loop .left ≡ 0 = omega arith in sym (rw none at (c .before .loop .inv .2) ∙ climbs-end _ _ _)
 
 pub ends-at-root-spec : {M : Type 1} → statement M
 ends-at-root-spec =

@@ -1,0 +1,372 @@
+-- The columns that the scans look at, along the stores, and what the scans tell of the tables.
+--     keys-set, keys-other                  an entity stored, with its key; no entity stored
+--     grants-role, grants-each, grants-other      a role stored, with its sets; an entity taken out of every role; no role stored
+--     put-four, cleared-all, Sides, sides-..      the code's stores into `grants`
+--     Gathering, gathering-..               the rights gathered role by role
+--     rights-of                             the rights gathered over the roles held are those of the session
+--     way-of                                the climb by keys is "reaches"
+--     name-of, child-of                     a name among the children, a child
+-- Assumes nothing.
+use Prim.Native.Nat.{ℕ, _+_, _*_, _/_, _%_, _^_, _≤_, _<_}
+use mathlib.Core.Path.{_≡_, refl, sym, ap, _∙_}
+use mathlib.Core.Bool.{Bool, true, false, not, _||_, or-false, or-assoc}
+use mathlib.Core.List.{List, [], _∷_, map}
+use native.Mathlib.Decide.{ℕ-discrete}
+use native.Mathlib.Nat.{add-zero}
+use native.Mathlib.Omega.{arith}
+use lib.Dec.{leb, eqb}
+use lib.ListN.{length, getD, set, length-set, List·getD-map}
+use lib.Seq.{getD-set-same, getD-set-other}
+use borrow.Author.Tests.{eqb-true, eq-eqb}
+use Rattle.bitset.specs.Tests.{every, some}
+use Rattle.bitset.specs.Tests.Laws.{both, clash, is-false, not-of-false, of-not-true, every-i, every-at, some-i, some-e, some-no-i, some-cong}
+use Rattle.bitset.specs.Sets.{has, contains, without, join}
+use Rattle.bitset.specs.Sets.Laws.{has-none, has-join, has-without, has-without-other, without-none}
+use Rattle.guard.specs.Level.{roleLevel, entityLevel, isRoot}
+use Rattle.guard.specs.Tables.{noRole, noEntity, sessionAt, roleAt, entityAt, read, write, execute, own, rightsOf, hasRight, isChild}
+use Rattle.guard.specs.Chain.{reaches}
+use Rattle.guard.specs.Sound.{sound}
+use Rattle.guard.specs.Edits.{clearRights, setRights, putIn}
+use Rattle.guard.specs.Conditions.{nameTaken, hasChildren}
+use Rattle.guard.specs.Tested.{keyOf}
+use Rattle.guard.specs.Inside.{RightsOf}
+use Rattle.guard.specs.Scan.{Keys, side, Grants, Granted, Cleared, given, Gathered, climbsBy, nameBy, childBy}
+use Rattle.guard.specs.declared.Role.{Role}
+use Rattle.guard.specs.declared.Entity.{Entity}
+use Rattle.guard.specs.declared.Tables.{Tables}
+use Rattle.guard.specs.declared.Request.{Request}
+use Rattle.guard.specs.declared.scan.Rights.{Rights}
+use Rattle.guard.proofs.Laws.Rights.{contains-read, contains-write, contains-execute, contains-own}
+use Rattle.guard.proofs.Laws.Sound.{sound-e, parent-level}
+use Rattle.guard.proofs.Soundness.Climb.{climbs-cong}
+use Rattle.guard.proofs.Soundness.Keys.{key-live, key-dead, parent-of-key}
+use Rattle.guard.proofs.Soundness.Whole.{numbers}
+use Rattle.guard.proofs.Ranges.{span}
+use Rattle.guard.proofs.Sweeps.{mapped, mapped-all, mapped-length}
+
+or-l : (a b : Bool) → a ≡ true → (a || b) ≡ true
+or-l a b h = rw h
+
+or-r : (a b : Bool) → b ≡ true → (a || b) ≡ true
+or-r true b h = refl
+or-r false b h = h
+
+-- ---- keys along the stores
+module _ (t : Tables) (keys : List ℕ) (K : Keys t keys) (u : Tables) where
+  pub keys-set : length (t .entities) ≡ 64 → (e : ℕ) → e < 64 → (f : Entity) (k : ℕ) → k ≡ keyOf f → u .entities ≡ set (t .entities) e f
+      → Keys u (set keys e k)
+  keys-set long e l f k h same = record { long = simp length-set (K .long); at = λ n b. go n b (ℕ-discrete n e) }
+    where
+      at : (n : ℕ) → keyOf (getD (set (t .entities) e f) n noEntity) ≡ keyOf (entityAt u n)
+      at n = ap (λ (l : List Entity). keyOf (getD l n noEntity)) (sym same)
+
+      go : (n : ℕ) → n < 64 → Dec (n ≡ e) → getD (set keys e k) n 0 ≡ keyOf (entityAt u n)
+      go n b (yes s) =
+          rw s (getD-set-same keys e k 0 (rw (K .long) l) ∙ h ∙ ap keyOf (sym (getD-set-same (t .entities) e f noEntity (rw long l))) ∙ at e)
+      go n b (no s) =
+          getD-set-other keys e n k 0 s ∙ K .at n b ∙ ap keyOf (sym (getD-set-other (t .entities) e n f noEntity s)) ∙ at n
+
+  pub keys-other : u .entities ≡ t .entities → Keys u keys
+  keys-other h = record { long = K .long; at = λ n b. K .at n b ∙ ap (λ (l : List Entity). keyOf (getD l n noEntity)) (sym h) }
+
+-- ---- grants along the stores
+fourth : (n k : ℕ) → k < 4 → (4 * n + k) / 4 ≡ n
+fourth n k c = omega arith
+
+-- an entity taken out of a role goes from each of its sets
+side-cleared : (e : ℕ) (p : Role) (k : ℕ) → k < 4 → side (clearRights e p) k ≡ without (side p k) e
+unfolding side clearRights setRights putIn contains
+side-cleared e p k c =
+    span (λ (n : ℕ). side (clearRights e p) n ≡ without (side p n) e) 0 4 (refl, (refl, (refl, (refl, tt)))) k (omega arith) c
+
+none-cleared : (e : ℕ) → clearRights e noRole ≡ noRole
+unfolding clearRights setRights putIn contains
+none-cleared e = rw (without-none e)
+
+module _ (t : Tables) (grants : List ℕ) (G : Grants t grants) (u : Tables) where
+  pub grants-other : u .roles ≡ t .roles → Grants u grants
+  grants-other h =
+      record { long = G .long; at = λ r k b c. G .at r k b c ∙ ap (λ (l : List Role). side (getD l r noRole) k) (sym h) }
+
+  pub grants-role : length (t .roles) ≡ 16 → (r : ℕ) → r < 16 → (p : Role) (new : List ℕ) → Granted grants r p new → u .roles ≡ set (t .roles) r p
+      → Grants u new
+  grants-role long r l p new h same = record { long = h .long; at = λ n k b c. go n k b c (ℕ-discrete n r) }
+    where
+      at : (n k : ℕ) → side (getD (set (t .roles) r p) n noRole) k ≡ side (roleAt u n) k
+      at n k = ap (λ (l : List Role). side (getD l n noRole) k) (sym same)
+
+      go : (n k : ℕ) → n < 16 → k < 4 → Dec (n ≡ r) → getD new (4 * n + k) 0 ≡ side (roleAt u n) k
+      go n k b c (yes s) = rw s (h .at k c ∙ ap (λ (x : Role). side x k) (sym (getD-set-same (t .roles) r p noRole (rw long l))) ∙ at r k)
+      go n k b c (no s) =
+          h .others (4 * n + k) (λ e. s (sym (fourth n k c) ∙ e))
+          ∙ G .at n k b c
+          ∙ ap (λ (x : Role). side x k) (sym (getD-set-other (t .roles) r n p noRole s))
+          ∙ at n k
+
+  pub grants-each : (e : ℕ) (new : List ℕ) → Cleared grants e new → u .roles ≡ map (clearRights e) (t .roles) → Grants u new
+  grants-each e new h same = record { long = h .long; at = at }
+    where
+      at : (n k : ℕ) → n < 16 → k < 4 → getD new (4 * n + k) 0 ≡ side (roleAt u n) k
+      at n k b c =
+          h .each (4 * n + k) (omega arith)
+          ∙ ap (λ (s : ℕ). without s e) (G .at n k b c)
+          ∙ sym (side-cleared e (roleAt t n) k c)
+          ∙ ap (λ (p : Role). side p k) (sym (ap (getD (map (clearRights e) (t .roles)) n) (sym (none-cleared e)) ∙ List·getD-map (clearRights e) (t .roles) n noRole))
+          ∙ ap (λ (l : List Role). side (getD l n noRole) k) (sym same)
+
+-- the four sets of a role, stored one after the other
+module _ (g : List ℕ) (r : ℕ) (p : Role) (long : length g ≡ 64) (l : r < 16) where
+  abbrev g1 : List ℕ
+  g1 = set g (4 * r) (p .reads)
+
+  abbrev g2 : List ℕ
+  g2 = set g1 (4 * r + 1) (p .writes)
+
+  abbrev g3 : List ℕ
+  g3 = set g2 (4 * r + 2) (p .executes)
+
+  abbrev g4 : List ℕ
+  g4 = set g3 (4 * r + 3) (p .owns)
+
+  abbrev At : ℕ → Type 0
+  At k = getD g4 (4 * r + k) 0 ≡ side p k
+
+  past-4 : (j : ℕ) → (j ≡ 4 * r + 3 → ⊥) → getD g4 j 0 ≡ getD g3 j 0
+  past-4 j ne = getD-set-other g3 (4 * r + 3) j (p .owns) 0 ne
+
+  past-3 : (j : ℕ) → (j ≡ 4 * r + 2 → ⊥) → getD g3 j 0 ≡ getD g2 j 0
+  past-3 j ne = getD-set-other g2 (4 * r + 2) j (p .executes) 0 ne
+
+  past-2 : (j : ℕ) → (j ≡ 4 * r + 1 → ⊥) → getD g2 j 0 ≡ getD g1 j 0
+  past-2 j ne = getD-set-other g1 (4 * r + 1) j (p .writes) 0 ne
+
+  first : At 0
+  unfolding side
+  first =
+      past-4 (4 * r + 0) (λ e. omega arith)
+      ∙ past-3 (4 * r + 0) (λ e. omega arith)
+      ∙ past-2 (4 * r + 0) (λ e. omega arith)
+      ∙ rw (add-zero (4 * r)) (getD-set-same g (4 * r) (p .reads) 0 (omega arith))
+
+  second : At 1
+  unfolding side
+  second =
+      past-4 (4 * r + 1) (λ e. omega arith)
+      ∙ past-3 (4 * r + 1) (λ e. omega arith)
+      ∙ getD-set-same g1 (4 * r + 1) (p .writes) 0 (simp length-set (omega arith))
+
+  third : At 2
+  unfolding side
+  third = past-4 (4 * r + 2) (λ e. omega arith) ∙ getD-set-same g2 (4 * r + 2) (p .executes) 0 (simp length-set (omega arith))
+
+  last : At 3
+  unfolding side
+  last = getD-set-same g3 (4 * r + 3) (p .owns) 0 (simp length-set (omega arith))
+
+  pub put-four : Granted g r p g4
+  put-four =
+      record {
+        long = simp length-set long;
+        at = λ k c. span At 0 4 (first, (second, (third, (last, tt)))) k (omega arith) c;
+        others = λ j ne.
+            past-4 j (λ e. ne (omega arith))
+            ∙ past-3 j (λ e. ne (omega arith))
+            ∙ past-2 j (λ e. ne (omega arith))
+            ∙ getD-set-other g (4 * r) j (p .reads) 0 (λ e. ne (omega arith));
+      }
+
+-- an entity taken out of every set
+pub cleared-all : (old new : List ℕ) (e : ℕ) → length old ≡ 64 → new ≡ mapped (λ (s : ℕ). without s e) 64 old → Cleared old e new
+cleared-all old new e long h =
+    let all : new ≡ map (λ (s : ℕ). without s e) old = h ∙ rw (← long) (mapped-all (λ (s : ℕ). without s e) old) in
+    record {
+      long = ap length h ∙ mapped-length (λ (s : ℕ). without s e) 64 old ∙ long;
+      each = λ j l. ap (λ (s : List ℕ). getD s j 0) all ∙ ap (getD (map (λ (s : ℕ). without s e) old) j) (sym (without-none e)) ∙ List·getD-map (λ (s : ℕ). without s e) old j 0;
+    }
+
+-- the sets of the first r roles
+pub record Sides (t : Tables) (r : ℕ) (g : List ℕ) : Type 0 where
+  pub long : length g ≡ 64
+  pub at : (n k : ℕ) → n < r → k < 4 → getD g (4 * n + k) 0 ≡ side (roleAt t n) k
+
+module _ (t : Tables) where
+  no-role : (n : ℕ) → n < 0 → ⊥
+  no-role n h = omega arith
+
+  pub sides-none : (g : List ℕ) → length g ≡ 64 → Sides t 0 g
+  sides-none g h = record { long = h; at = λ n k l c. absurd (no-role n l) }
+
+  pub sides-more : (r : ℕ) (g new : List ℕ) → Sides t r g → Granted g r (roleAt t r) new → r < 16 → Sides t (r + 1) new
+  sides-more r g new h put l = record { long = put .long; at = λ n k b c. go n k b c (ℕ-discrete n r) }
+    where
+      go : (n k : ℕ) → n < r + 1 → k < 4 → Dec (n ≡ r) → getD new (4 * n + k) 0 ≡ side (roleAt t n) k
+      go n k b c (yes s) = rw s (put .at k c)
+      go n k b c (no s) = put .others (4 * n + k) (λ e. s (sym (fourth n k c) ∙ e)) ∙ h .at n k (omega (arith, s)) c
+
+  pub sides-all : (r : ℕ) (g : List ℕ) → 16 ≤ r → Sides t r g → Grants t g
+  sides-all r g l h = record { long = h .long; at = λ n k b c. h .at n k (omega arith) c }
+
+-- ---- the rights that the roles held give
+-- what is gathered so far, and what the roles that are left give
+abbrev pub Gathering : List ℕ → ℕ → ℕ → ℕ → ℕ → Type 0
+Gathering grants held k left got = (e : ℕ) → (has got e || given grants left k e) ≡ given grants held k e
+
+module _ (grants : List ℕ) (held k : ℕ) where
+  pub gathering-none : Gathering grants held k held 0
+  gathering-none e = rw (has-none e)
+
+  given-next : (left r e : ℕ) → r < 16 → has left r ≡ true
+      → given grants left k e ≡ (has (getD grants (4 * r + k) 0) e || given grants (without left r) k e)
+  unfolding given
+  given-next left r e l on = both _ _ forth back
+    where
+      at : ℕ → ℕ → Bool
+      at s n = every (has s n ∷ has (getD grants (4 * n + k) 0) e ∷ [])
+
+      forth : some 16 (at left) ≡ true → (has (getD grants (4 * r + k) 0) e || some 16 (at (without left r))) ≡ true
+      forth h =
+          let (n, b, met) = some-e 16 _ h in
+          go n b met (ℕ-discrete n r)
+        where
+          go : (n : ℕ) → n < 16 → at left n ≡ true → Dec (n ≡ r) → (has (getD grants (4 * r + k) 0) e || some 16 (at (without left r))) ≡ true
+          go n b met (yes s) = or-l _ _ (rw s at (every-at _ met 1))
+          go n b met (no s) =
+              or-r (has (getD grants (4 * r + k) 0) e) _
+              (some-i 16 _ n b (every-i _ (has-without-other left r n s ∙ every-at _ met 0, (every-at _ met 1, tt))))
+
+      back : (has (getD grants (4 * r + k) 0) e || some 16 (at (without left r))) ≡ true → some 16 (at left) ≡ true
+      back h = go (has (getD grants (4 * r + k) 0) e) refl (some 16 (at (without left r))) refl
+        where
+          go : (a : Bool) → has (getD grants (4 * r + k) 0) e ≡ a → (b : Bool) → some 16 (at (without left r)) ≡ b → some 16 (at left) ≡ true
+          go true a b s = some-i 16 _ r l (every-i _ (on, (a, tt)))
+          go false a true s =
+              let (n, b, met) = some-e 16 _ s in
+              some-i 16 _ n b (every-i _ (has-without left r n (every-at _ met 0) .0, (every-at _ met 1, tt)))
+          go false a false s = absurd (clash _ h (rw (a, s)))
+
+  pub gathering-next : (left got r : ℕ) → r < 16 → has left r ≡ true → Gathering grants held k left got
+      → Gathering grants held k (without left r) (join got (getD grants (4 * r + k) 0))
+  gathering-next left got r l on h e =
+      ap (λ (b : Bool). b || given grants (without left r) k e) (has-join got (getD grants (4 * r + k) 0) e)
+      ∙ or-assoc (has got e) (has (getD grants (4 * r + k) 0) e) (given grants (without left r) k e)
+      ∙ ap (λ (b : Bool). has got e || b) (sym (given-next left r e l on))
+      ∙ h e
+
+  pub gathering-all : (got left : ℕ) → left ≡ 0 → Gathering grants held k left got → (e : ℕ) → has got e ≡ given grants held k e
+  unfolding given every
+  gathering-all got left z h e = rw (z, some-no-i 16 _ (λ r b. none r), or-false (has got e)) at (h e)
+    where
+      none : (r : ℕ) → every (has 0 r ∷ has (getD grants (4 * r + k) 0) e ∷ []) ≡ false
+      none r = rw (has-none r)
+
+module _ (t : Tables) (ok : sound t ≡ true) (grants : List ℕ) (G : Grants t grants) (x : ℕ) where
+  module _ (right k : ℕ) (small : k < 4) (same : (p : Role) (e : ℕ) → contains (rightsOf p e) right ≡ has (side p k) e)
+      (within : (r e : ℕ) → r < 16 → e < 64 → has (side (roleAt t r) k) e ≡ true → leb (entityLevel e) (roleLevel r) ≡ true)
+    where
+      given-right : (e : ℕ) → e < 64 → given grants (sessionAt t x .roles) k e ≡ hasRight t x right e
+      unfolding given hasRight
+      given-right e l = some-cong 16 _ _ (λ r b. both _ _ (forth r b) (back r b))
+        where
+          forth : (r : ℕ) → r < 16 → every (has (sessionAt t x .roles) r ∷ has (getD grants (4 * r + k) 0) e ∷ []) ≡ true
+              → every (leb (entityLevel e) (roleLevel r) ∷ has (sessionAt t x .roles) r ∷ contains (rightsOf (roleAt t r) e) right ∷ []) ≡ true
+          forth r b h =
+              let inside = ap (λ (s : ℕ). has s e) (sym (G .at r k b small)) ∙ every-at _ h 1 in
+              every-i _ (within r e b l inside, (every-at _ h 0, (same (roleAt t r) e ∙ inside, tt)))
+
+          back : (r : ℕ) → r < 16 → every (leb (entityLevel e) (roleLevel r) ∷ has (sessionAt t x .roles) r ∷ contains (rightsOf (roleAt t r) e) right ∷ []) ≡ true
+              → every (has (sessionAt t x .roles) r ∷ has (getD grants (4 * r + k) 0) e ∷ []) ≡ true
+          back r b h =
+              every-i _ (every-at _ h 1, (ap (λ (s : ℕ). has s e) (G .at r k b small) ∙ sym (same (roleAt t r) e) ∙ every-at _ h 2, tt))
+
+  pub rights-of : (g : Rights) → Gathered grants (sessionAt t x .roles) g → RightsOf t x g
+  unfolding side
+  rights-of g h =
+      let role = sound-e t ok .role in
+      record {
+        reads = λ e l. h .reads e ∙ given-right read 0 (omega arith) contains-read (λ r f b c m. every-at _ (role r b .reads .members f c m) 1) e l;
+        writes = λ e l. h .writes e ∙ given-right write 1 (omega arith) contains-write (λ r f b c m. every-at _ (role r b .writes .members f c m) 1) e l;
+        executes = λ e l. h .executes e ∙ given-right execute 2 (omega arith) contains-execute (λ r f b c m. every-at _ (role r b .executes .members f c m) 1) e l;
+        owns = λ e l. h .owns e ∙ given-right own 3 (omega arith) contains-own (λ r f b c m. every-at _ (role r b .owns .members f c m) 1) e l;
+      }
+
+-- ---- the way up, and the children
+module _ (t : Tables) (ok : sound t ≡ true) (keys : List ℕ) (K : Keys t keys) where
+  pub way-of : (x through e : ℕ) → e < 64 → ((c : ℕ) → c < 64 → has through c ≡ hasRight t x execute c) → climbsBy keys through e ≡ reaches t x e
+  unfolding reaches
+  way-of x through e l same = climbs-cong _ _ _ _ (parent-of-key t keys K (numbers t ok)) same 16 e l
+
+  -- an entity of p's level whose key names p as its parent
+  kin : (p f : ℕ) → p < 64 → f < 64 → getD keys f 0 / 65536 ≡ p → (isRoot f ≡ true → ⊥) → isChild t p f ≡ true
+  unfolding isChild
+  kin p f k l h other = go (entityAt t f .live) refl
+    where
+      go : (b : Bool) → entityAt t f .live ≡ b → every (entityAt t f .live ∷ not (isRoot f) ∷ eqb (entityAt t f .parent) p ∷ []) ≡ true
+      go true live =
+          let key = key-live t keys K (numbers t ok) f l live in
+          every-i _ (live, (not-of-false _ (is-false _ other), (eq-eqb (entityAt t f .parent) p (omega (arith, numbers t ok f l .name)), tt)))
+      go false dead = let key = key-dead t keys K (numbers t ok) f l dead in absurd (omega arith)
+
+  -- a child of p stands in p's level, and its key is by p and its name
+  kid : (p f : ℕ) → f < 64 → isChild t p f ≡ true
+      → (p / 16 * 16 + f % 16 ≡ f) × (getD keys f 0 ≡ p * 65536 + entityAt t f .name) × (entityAt t f .name < 65536)
+  unfolding isChild
+  kid p f l h =
+      let live = every-at _ h 0 in
+      let other = of-not-true _ (every-at _ h 1) in
+      let parent : entityAt t f .parent ≡ p = eqb-true _ _ (every-at _ h 2) in
+      let (level, above) = parent-level t ok f l live other in
+      let name = numbers t ok f l .name in
+      let key = key-live t keys K (numbers t ok) f l live in
+      let up : p / 16 ≡ f / 16 = ap (λ (n : ℕ). n / 16) (sym parent) ∙ level in
+      (omega arith, key ∙ ap (λ (n : ℕ). n * 65536 + entityAt t f .name) parent, name)
+
+  pub child-of : (q : Request) → q .entity < 64 → isRoot (q .entity) ≡ false → childBy keys (q .entity) ≡ hasChildren t q
+  unfolding childBy hasChildren
+  child-of q k other = both _ _ forth back
+    where
+      forth : some 16 (λ m. eqb (getD keys (q .entity / 16 * 16 + m) 0 / 65536) (q .entity)) ≡ true → some 64 (λ f. isChild t (q .entity) f) ≡ true
+      forth h =
+          let (m, b, same) = some-e _ _ h in
+          let inside : q .entity / 16 * 16 + m < 64 = omega arith in
+          some-i 64 _ (q .entity / 16 * 16 + m) inside (kin (q .entity) _ k inside (eqb-true _ _ same) (λ root. clash (isRoot (q .entity)) (itself _ inside root (eqb-true _ _ same)) other))
+        where
+          itself : (f : ℕ) → f < 64 → isRoot f ≡ true → getD keys f 0 / 65536 ≡ q .entity → isRoot (q .entity) ≡ true
+          itself f l root same =
+              let (live, parent, name) = numbers t ok f l .root root in
+              let key = key-live t keys K (numbers t ok) f l live in
+              let e : f ≡ q .entity = omega arith in
+              rw e at root
+
+      back : some 64 (λ f. isChild t (q .entity) f) ≡ true → some 16 (λ m. eqb (getD keys (q .entity / 16 * 16 + m) 0 / 65536) (q .entity)) ≡ true
+      back h =
+          let (f, l, child) = some-e _ _ h in
+          let (place, key, name) = kid (q .entity) f l child in
+          some-i 16 _ (f % 16) (omega arith) (rw place (eq-eqb (getD keys f 0 / 65536) (q .entity) (omega arith)))
+
+  pub name-of : (q : Request) (p : ℕ) → p < 64 → 1 ≤ q .name → q .name ≤ 65535 → nameBy keys p (q .name) ≡ nameTaken t q p
+  unfolding nameBy nameTaken
+  name-of q p k least most = both _ _ forth back
+    where
+      forth : some 16 (λ m. eqb (getD keys (p / 16 * 16 + m) 0) (p * 65536 + q .name % 65536)) ≡ true
+          → some 64 (λ f. every (isChild t p f ∷ eqb (entityAt t f .name) (q .name) ∷ [])) ≡ true
+      forth h =
+          let (m, b, same) = some-e _ _ h in
+          let inside : p / 16 * 16 + m < 64 = omega arith in
+          some-i 64 _ (p / 16 * 16 + m) inside (named _ inside (eqb-true _ _ same))
+        where
+          named : (f : ℕ) → f < 64 → getD keys f 0 ≡ p * 65536 + q .name % 65536 → every (isChild t p f ∷ eqb (entityAt t f .name) (q .name) ∷ []) ≡ true
+          named f l same =
+              let child = kin p f k l (omega arith) (λ root.
+              let (live, parent, name) = numbers t ok f l .root root in
+              let key = key-live t keys K (numbers t ok) f l live in
+              omega arith) in
+              let (place, key, name) = kid p f l child in
+              every-i _ (child, (eq-eqb (entityAt t f .name) (q .name) (omega arith), tt))
+
+      back : some 64 (λ f. every (isChild t p f ∷ eqb (entityAt t f .name) (q .name) ∷ [])) ≡ true
+          → some 16 (λ m. eqb (getD keys (p / 16 * 16 + m) 0) (p * 65536 + q .name % 65536)) ≡ true
+      back h =
+          let (f, l, met) = some-e _ _ h in
+          let (place, key, name) = kid p f l (every-at _ met 0) in
+          let same : entityAt t f .name ≡ q .name = eqb-true _ _ (every-at _ met 1) in
+          some-i 16 _ (f % 16) (omega arith) (rw place (eq-eqb (getD keys f 0) (p * 65536 + q .name % 65536) (omega arith)))

@@ -1,0 +1,81 @@
+-- Logs, request by request, as a run over rows goes.
+--     run-snoc, answers-snoc, length-answers      one request more at the end of a log
+--     store-more, ones-store        the next answer, stored in its place
+--     length-requests               as many as there are rows
+--     batch-room, batch-rows        a batch has room for its answers, and each of its rows is whole
+--     all-refused                   on unsound tables every answer is 1, and the tables stay
+-- Assumes nothing.
+use Prim.Native.Nat.{ℕ, zero, suc, _+_, _*_, _/_, _≤_, _<_}
+use mathlib.Core.Path.{_≡_, refl, sym, ap, _∙_}
+use mathlib.Core.Bool.{Bool, true, false, cond}
+use mathlib.Core.List.{List, [], _∷_, _++_}
+use native.Mathlib.Numerals.{add-one}
+use native.Mathlib.Omega.{arith}
+use lib.Dec.{leb}
+use lib.ListN.{length, getD, set, drop, replicate, length-replicate, length-append, replicate-append-replicate}
+use lib.Seq.{drop-cons, set-at, append-snoc}
+use borrow.Author.Tests.{leb-true, leb-false}
+use Rattle.guard.specs.Sound.{sound}
+use Rattle.guard.specs.Step.{answer, next, run, answers}
+use Rattle.guard.specs.Batch.{requests, batchLength}
+use Rattle.guard.specs.declared.Tables.{Tables}
+use Rattle.guard.specs.declared.Request.{Request}
+use Rattle.guard.proofs.Laws.Requests.{unsound-answer}
+
+pub run-snoc : (t : Tables) (log : List Request) (q : Request) → run t (log ++ (q ∷ [])) ≡ next (run t log) q
+unfolding run
+run-snoc t [] q = refl
+run-snoc t (p ∷ log) q = run-snoc (next t p) log q
+
+pub answers-snoc : (t : Tables) (log : List Request) (q : Request) → answers t (log ++ (q ∷ [])) ≡ answers t log ++ (answer (run t log) q ∷ [])
+unfolding run answers
+answers-snoc t [] q = refl
+answers-snoc t (p ∷ log) q = ap (λ (l : List ℕ). answer t p ∷ l) (answers-snoc (next t p) log q)
+
+pub length-answers : (t : Tables) (log : List Request) → length (answers t log) ≡ length log
+unfolding answers
+length-answers t [] = refl
+length-answers t (q ∷ log) = ap suc (length-answers (next t q) log)
+
+pub length-requests : (n : ℕ) (rows : List ℕ) → length (requests n rows) ≡ n
+unfolding requests
+length-requests zero rows = refl
+length-requests (suc n) rows = length-append (requests n rows) _ ∙ rw (length-requests n rows) (add-one n)
+
+-- the next answer, stored behind those that are there
+pub store-more : (l old : List ℕ) (i v : ℕ) → length l ≡ i → i < length old → set (l ++ drop i old) i v ≡ (l ++ (v ∷ [])) ++ drop (i + 1) old
+store-more l old i v long low =
+    rw (add-one, drop-cons old i 0) (set-at l (getD old i 0) (drop (suc i) old) v i long ∙ sym (append-snoc l v (drop (suc i) old)))
+
+ones-more : (old : List ℕ) (i : ℕ) → i < length old → set {A = ℕ} (replicate i 1 ++ drop i old) i 1 ≡ replicate (i + 1) 1 ++ drop (i + 1) old
+ones-more old i low =
+    store-more (replicate i 1) old i 1 (length-replicate i 1) low
+    ∙ ap (λ (l : List ℕ). l ++ drop (i + 1) old) (replicate-append-replicate i 1 1)
+
+pub ones-store : (old new : List ℕ) (i : ℕ) → new ≡ replicate i 1 ++ drop i old → i < length old → set new i 1 ≡ replicate (i + 1) 1 ++ drop (i + 1) old
+ones-store old new i h low = rw h (ones-more old i low)
+
+-- ---- how many requests a batch has
+pub batch-room : (numbers room : ℕ) → batchLength numbers room ≤ room
+unfolding batchLength
+batch-room numbers room = go (leb (numbers / 11) room) refl
+  where
+    go : (b : Bool) → leb (numbers / 11) room ≡ b → cond (leb (numbers / 11) room) (numbers / 11) room ≤ room
+    go true h = rw h (leb-true _ _ h)
+    go false h = rw h (omega arith)
+
+pub batch-rows : (numbers room i : ℕ) → i < batchLength numbers room → 11 * i + 11 ≤ numbers
+unfolding batchLength
+batch-rows numbers room i = go (leb (numbers / 11) room) refl
+  where
+    go : (b : Bool) → leb (numbers / 11) room ≡ b → i < cond (leb (numbers / 11) room) (numbers / 11) room → 11 * i + 11 ≤ numbers
+    go true h l = let k : i < numbers / 11 = rw h at l in omega arith
+    go false h l = let k : i < room = rw h at l in let m = leb-false (numbers / 11) room h in omega arith
+
+-- ---- on unsound tables
+pub all-refused : (t : Tables) (log : List Request) → sound t ≡ false → (run t log ≡ t) × (answers t log ≡ replicate (length log) 1)
+unfolding run answers next
+all-refused t [] h = (refl, refl)
+all-refused t (q ∷ log) h =
+    let (r, a) = all-refused t log h in
+    (rw (unsound-answer t q h) r, rw (unsound-answer t q h) (ap (λ (l : List ℕ). 1 ∷ l) a))

@@ -1,0 +1,128 @@
+-- What a run looks at for one request is what deciding asks for.
+--     viewOf                        the record that the body makes, from the places looked up and what the scans tell
+--     parent-in                     the parent's place is one of the sixty-four
+--     seen-of                       it holds the records that the request concerns, and the answers to what it asks
+-- Assumes nothing.
+use Prim.Native.Nat.{ℕ, _≤_, _<_}
+use mathlib.Core.Path.{_≡_, refl, sym, ap, _∙_}
+use mathlib.Core.Bool.{Bool, true, false, cond}
+use mathlib.Core.List.{List}
+use lib.Dec.{eqb}
+use borrow.Author.Tests.{eq-eqb, ne-eqb}
+use Rattle.bitset.specs.Tests.{either}
+use Rattle.bitset.specs.Sets.{has}
+use Rattle.guard.specs.Level.{isRoot}
+use Rattle.guard.specs.Tables.{userAt, sessionAt, roleAt, entityAt, execute, hasRight}
+use Rattle.guard.specs.Chain.{reaches}
+use Rattle.guard.specs.Sound.{sound}
+use Rattle.guard.specs.Conditions.{nameTaken, hasChildren, recordedParent}
+use Rattle.guard.specs.Kind as kind
+use Rattle.guard.specs.Inside.{Placed, asksWay, asksName, asksRights, RightsOf, Seen}
+use Rattle.guard.specs.Scan.{Keys, Grants, Gathered, reachedBy, nameBy, childBy, kinBy}
+use Rattle.guard.specs.declared.Tables.{Tables}
+use Rattle.guard.specs.declared.Request.{Request}
+use Rattle.guard.specs.declared.look.Places.{Places}
+use Rattle.guard.specs.declared.scan.Rights.{Rights}
+use Rattle.guard.specs.declared.view.View.{View}
+use Rattle.guard.proofs.Soundness.Whole.{numbers}
+use Rattle.guard.proofs.Columns.{rights-of, way-of, child-of, name-of}
+
+abbrev pub viewOf : Tables → Places → ℕ → Rights → Bool → Bool → View
+viewOf t p o g reached child =
+    record {
+      fits = p .fits;
+      session = sessionAt t (p .seat);
+      user = userAt t (p .user);
+      live = roleAt t (p .role) .live;
+      users = roleAt t (p .role) .users;
+      entity = entityAt t (p .entity);
+      parent = entityAt t o;
+      rights = g;
+      reached = reached;
+      child = child;
+    }
+
+cond-less : (b : Bool) (m n : ℕ) → m < 64 → n < 64 → cond b m n < 64
+cond-less true m n h k = h
+cond-less false m n h k = k
+
+-- what each kind asks of the children
+module _ (keys : List ℕ) (call e o name : ℕ) where
+  kin-create : call ≡ kind.create → kinBy keys call e o name ≡ nameBy keys o name
+  unfolding kinBy asksName either
+  kin-create c = rw c
+
+  kin-rename : call ≡ kind.rename → kinBy keys call e o name ≡ nameBy keys o name
+  unfolding kinBy asksName either
+  kin-rename c = rw c
+
+  kin-delete : call ≡ kind.delete → kinBy keys call e o name ≡ childBy keys e
+  unfolding kinBy
+  kin-delete c = rw c
+
+module _ (t : Tables) (ok : sound t ≡ true) (q : Request) (p : Places) (P : Placed q p)
+    (o : ℕ) (above : o ≡ cond (eqb (q .call) kind.create) (p .parent) (entityAt t (p .entity) .parent))
+  where
+    pub parent-in : o < 64
+    parent-in = rw above (cond-less (eqb (q .call) kind.create) _ _ (P .parent .small) (numbers t ok (p .entity) (P .entity .small) .parent))
+
+    module _ (keys grants : List ℕ) (K : Keys t keys) (G : Grants t grants) (g : Rights) (held : ℕ)
+        (asking : held ≡ cond (asksRights (q .call)) (sessionAt t (p .seat) .roles) 0) (gathered : Gathered grants held g)
+        (reached child : Bool) (way : reached ≡ reachedBy keys (q .call) (p .entity) (g .executes))
+        (kin : child ≡ kinBy keys (q .call) (p .entity) o (q .name))
+      where
+        named : q .call ≡ kind.create → o ≡ p .parent
+        named c = above ∙ rw (eq-eqb (q .call) 7 c)
+
+        recorded : eqb (q .call) kind.create ≡ false → o ≡ entityAt t (p .entity) .parent
+        recorded c = above ∙ rw c
+
+        rights : asksRights (q .call) ≡ true → q .seat < 16 → RightsOf t (q .seat) g
+        rights a s =
+            let same : p .seat ≡ q .seat = P .seat .same s in
+            let roles : held ≡ sessionAt t (q .seat) .roles = asking ∙ rw (a, same) in
+            rights-of t ok grants G (q .seat) g (rw roles at gathered)
+
+        reached-so : asksWay (q .call) ≡ true → q .seat < 16 → q .entity < 64 → reached ≡ reaches t (q .seat) (q .entity)
+        unfolding reachedBy asksRights either
+        reached-so a s e =
+            way ∙ rw (a, P .entity .same e) (way-of t ok keys K (q .seat) (g .executes) (q .entity) e (rights (rw a) s .executes))
+
+        create-name : q .call ≡ kind.create → q .parent < 64 → 1 ≤ q .name → q .name ≤ 65535 → child ≡ nameTaken t q (q .parent)
+        create-name c l least most =
+            kin
+            ∙ kin-create keys (q .call) (p .entity) o (q .name) c
+            ∙ ap (λ (n : ℕ). nameBy keys n (q .name)) (named c ∙ P .parent .same l)
+            ∙ name-of t ok keys K q (q .parent) l least most
+
+        rename-name : q .call ≡ kind.rename → q .entity < 64 → 1 ≤ q .name → q .name ≤ 65535 → child ≡ nameTaken t q (recordedParent t q)
+        rename-name c l least most =
+            let same : o ≡ entityAt t (q .entity) .parent = recorded (rw c) ∙ ap (λ (n : ℕ). entityAt t n .parent) (P .entity .same l) in
+            kin
+            ∙ kin-rename keys (q .call) (p .entity) o (q .name) c
+            ∙ ap (λ (n : ℕ). nameBy keys n (q .name)) same
+            ∙ name-of t ok keys K q (entityAt t (q .entity) .parent) (numbers t ok (q .entity) l .parent) least most
+
+        delete-child : q .call ≡ kind.delete → q .entity < 64 → isRoot (q .entity) ≡ false → child ≡ hasChildren t q
+        delete-child c l other =
+            kin
+            ∙ kin-delete keys (q .call) (p .entity) o (q .name) c
+            ∙ ap (childBy keys) (P .entity .same l)
+            ∙ child-of t ok keys K q l other
+
+        pub seen-of : Seen t q (viewOf t p o g reached child)
+        seen-of =
+            record {
+              session = λ h. ap (sessionAt t) (P .seat .same h);
+              user = λ h. ap (userAt t) (P .user .same h);
+              live = λ h. ap (λ (n : ℕ). roleAt t n .live) (P .role .same h);
+              users = λ h. ap (λ (n : ℕ). roleAt t n .users) (P .role .same h);
+              entity = λ h. ap (entityAt t) (P .entity .same h);
+              inside = λ h. numbers t ok (q .entity) h .parent;
+              parent = λ c h. ap (entityAt t) (named c ∙ P .parent .same h);
+              rights = rights;
+              reached = reached-so;
+              created = create-name;
+              renamed = rename-name;
+              deleted = delete-child;
+            }

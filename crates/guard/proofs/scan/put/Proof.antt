@@ -1,0 +1,62 @@
+-- `put` stores the four sets of a role. Assumes nothing.
+use borrow.Author.Needs.{needs}
+use Rattle.guard.proofs.Columns.{put-four}
+use Rattle.guard.proofs.scan.put.Statement.{statement}
+use Rattle.guard.proofs.scan.put.Tie as tie
+
+mul-b : tie.Need-mul-b
+mul-b c = search needs
+
+mul-grants : tie.Need-mul-grants
+mul-grants c = search needs
+
+element-write-grants : tie.Need-element-write-grants
+element-write-grants c = search needs
+
+add-grants : tie.Need-add-grants
+add-grants c = search needs
+
+mul-grants-2 : tie.Need-mul-grants-2
+mul-grants-2 c = search needs
+
+element-write-grants-2 : tie.Need-element-write-grants-2
+element-write-grants-2 c = search needs
+
+add-grants-2 : tie.Need-add-grants-2
+add-grants-2 c = search needs
+
+mul-grants-3 : tie.Need-mul-grants-3
+mul-grants-3 c = search needs
+
+element-write-grants-3 : tie.Need-element-write-grants-3
+element-write-grants-3 c = search needs
+
+add-grants-3 : tie.Need-add-grants-3
+add-grants-3 c = search needs
+
+mul-grants-4 : tie.Need-mul-grants-4
+mul-grants-4 c = search needs
+
+element-write-grants-4 : tie.Need-element-write-grants-4
+element-write-grants-4 c = search needs
+
+returns : tie.Need-returns
+returns c = put-four _ _ _ (c .pre .1) (c .pre .0)
+
+pub put-spec : {M : Type 1} → statement M
+put-spec =
+    tie.close
+    (tie.spec
+    mul-b
+    mul-grants
+    element-write-grants
+    add-grants
+    mul-grants-2
+    element-write-grants-2
+    add-grants-2
+    mul-grants-3
+    element-write-grants-3
+    add-grants-3
+    mul-grants-4
+    element-write-grants-4
+    returns)

@@ -1,0 +1,71 @@
+// Requests as rows of numbers, in the order of the record's fields, and their answers as bytes.
+use crate::Request;
+ghost use Prim.Native.Nat.{_+_, _*_, _≤_};
+ghost use mathlib.Core.Path.{_≡_};
+ghost use mathlib.Core.List.{[], _∷_, _++_};
+ghost use lib.ListN.{length, drop, replicate};
+ghost use Rattle.guard.specs.Batch.{rowLength, requestAt, batchLength};
+
+// How many numbers a row has.
+pub const ROW: usize = 11;
+
+// As many requests as stand whole in so many numbers and have room for their answers.
+pub fn count(numbers: usize, room: usize) -> usize
+    ensures { λ n. ⌜ n ≡ batchLength numbers room ⌝ }
+{
+    let n = numbers / ROW;
+    if n <= room { n } else { room }
+}
+
+// The request of row `i`.
+pub fn request(rows: &[u32], i: usize) -> Request
+    requires { ⌜ rowLength * i + rowLength ≤ length (now rows) ⌝ }
+    ensures { λ q. ⌜ q ≡ requestAt (now (rows .entry)) i ⌝ }
+{
+    let b = ROW * i;
+    Request {
+        call: rows[b],
+        seat: rows[b + 1],
+        user: rows[b + 2],
+        role: rows[b + 3],
+        entity: rows[b + 4],
+        parent: rows[b + 5],
+        kind: rows[b + 6],
+        name: rows[b + 7],
+        level: rows[b + 8],
+        cats: rows[b + 9],
+        rights: rows[b + 10],
+    }
+}
+
+// A request as a row.
+pub fn row(q: Request) -> [u32; ROW]
+    ensures { λ r. ⌜ r ≡ q .call ∷ q .seat ∷ q .user ∷ q .role ∷ q .entity ∷ q .parent ∷ q .kind ∷ q .name ∷ q .level ∷ q .cats ∷ q .rights ∷ [] ⌝ }
+{
+    [
+        q.call,
+        q.seat,
+        q.user,
+        q.role,
+        q.entity,
+        q.parent,
+        q.kind,
+        q.name,
+        q.level,
+        q.cats,
+        q.rights,
+    ]
+}
+
+// On tables that are not sound every request is answered 1.
+pub fn refuse(answers: &mut [u8], count: usize) -> usize
+    requires { ⌜ count ≤ length (now answers) ⌝ }
+    ensures { λ n. ⌜ (n ≡ count) × (now (answers .exit) ≡ replicate count 1 ++ drop count (now (answers .entry))) ⌝ }
+{
+    let mut i = 0usize;
+    while i < count {
+        answers[i] = 1;
+        i += 1;
+    }
+    i
+}

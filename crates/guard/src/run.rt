@@ -1,0 +1,119 @@
+// The body of every request: requests one after the other, with one test of soundness for all of them.
+use crate::Tables;
+use crate::change;
+use crate::change::Change;
+use crate::entities;
+use crate::judge;
+use crate::look;
+use crate::roles;
+use crate::rows;
+use crate::scan;
+use crate::sessions;
+use crate::sound::tree;
+use crate::view::View;
+ghost use Rattle.guard.specs.Batch.{RunsBatch};
+
+impl Tables {
+    // The requests in `rows`, eleven numbers each in the order of `Request`'s fields, as many as stand whole there and have room
+    // in `answers`; each one's answer is stored there. Every request hands back sound tables, so soundness is tested once; where there is no
+    // request, nothing is.
+    pub fn run(mut self, rows: &[u32], answers: &mut [u8]) -> Tables
+        ensures { λ u. ⌜ RunsBatch self (now (rows .entry)) (now (answers .entry)) (now (answers .exit)) u ⌝ }
+    {
+        let count = rows::count(rows.len(), answers.len());
+        if count == 0 {
+            return self;
+        }
+        let mut keys = self.keys();
+        if !self.sound_by(&keys) {
+            rows::refuse(answers, count);
+            return self;
+        }
+        let mut grants = self.grants();
+        let mut i = 0usize;
+        while i < count {
+            // The records that the request concerns.
+            let q = rows::request(rows, i);
+            let at = look::look_up(q);
+            let x = at.seat;
+            let k = at.user;
+            let r = at.role;
+            let e = at.entity;
+            let session = self.sessions[x];
+            let user = self.users[k];
+            let role = self.roles[r];
+            let entity = self.entities[e];
+            let o = look::parent_of(q.call, at.parent, entity.parent);
+            let parent = self.entities[o];
+            // What the scans find.
+            let rights = scan::gather(&grants, look::asking(q.call, session.roles));
+            let reached = scan::reached(&keys, q.call, e, rights.executes);
+            let child = scan::kin(&keys, q.call, e, o, q.name);
+            // The decision.
+            let v = View {
+                fits: at.fits,
+                session,
+                user,
+                live: role.live,
+                users: role.users,
+                entity,
+                parent,
+                rights,
+                reached,
+                child,
+            };
+            let n = judge::judge(q, v);
+            answers[i] = n;
+            i += 1;
+            // The stores.
+            if n == 0 {
+                let changed = change::change_of(q.call);
+                match changed {
+                    Change::Session => {
+                        let s2 = sessions::after(q, session);
+                        self.sessions[x] = s2;
+                    }
+                    Change::Create => {
+                        let f2 = entities::made(q);
+                        self.entities[e] = f2;
+                        keys[e] = tree::key(f2);
+                        let p2 = roles::owning(q.entity, role);
+                        self.roles[r] = p2;
+                        scan::put(&mut grants, r, p2);
+                    }
+                    Change::Delete => {
+                        let f2 = entities::empty();
+                        self.entities[e] = f2;
+                        keys[e] = tree::key(f2);
+                        let all = self.roles;
+                        let all2 = roles::without_entity(all, q.entity);
+                        self.roles = all2;
+                        scan::clear(&mut grants, e);
+                        let seats = self.sessions;
+                        let seats2 = sessions::without_entity(seats, q.entity);
+                        self.sessions = seats2;
+                    }
+                    Change::Rename => {
+                        let f2 = entities::renamed(q.name, entity);
+                        self.entities[e] = f2;
+                        keys[e] = tree::key(f2);
+                    }
+                    Change::Role => {
+                        let p2 = roles::after(q, role);
+                        self.roles[r] = p2;
+                        scan::put(&mut grants, r, p2);
+                    }
+                    Change::Unmake => {
+                        let p2 = roles::empty();
+                        self.roles[r] = p2;
+                        scan::put(&mut grants, r, p2);
+                        let seats = self.sessions;
+                        let seats2 = sessions::without_role(seats, q.role);
+                        self.sessions = seats2;
+                    }
+                }
+            }
+        }
+        self
+    }
+}
