@@ -9,7 +9,7 @@ use std::path::Path;
 use reference::{call, is_keeper, is_root, Entity, Request, Tables, UserRecord, USERS};
 
 use crate::random::Random;
-use crate::{INPUTS, START};
+use crate::{INPUTS, ONLY_MALFORMED, START};
 
 /// The lines below the names line, up to the last one that is read.
 const LINES: usize = 65_534;
@@ -45,7 +45,8 @@ pub fn write(folder: &Path) -> Result<(), String> {
     put(START, format!("{NAMES}\n").as_bytes())?;
     put(INPUTS[0], &input(101, [88, 10, 2]))?;
     put(INPUTS[1], &input(202, [9, 88, 3]))?;
-    put(INPUTS[2], &input(303, [7, 5, 88]))
+    put(INPUTS[2], &input(303, [7, 5, 88]))?;
+    put(ONLY_MALFORMED, &only_malformed(404))
 }
 
 /// An input with so many percent of lines done, refused and unreadable.
@@ -72,6 +73,23 @@ fn input(seed: u64, shares: [u32; 3]) -> Vec<u8> {
             return text;
         }
     }
+}
+
+/// An input of lines that can't be read. A `user` line can be, before the first
+/// request, so there is none.
+fn only_malformed(seed: u64) -> Vec<u8> {
+    let mut day = Day::new(seed);
+    let mut text = format!("{NAMES}\n").into_bytes();
+    let mut lines = 0;
+    while lines < LINES {
+        let line = day.unreadable();
+        if !line.starts_with(b"user ") {
+            text.extend_from_slice(&line);
+            text.push(b'\n');
+            lines += 1;
+        }
+    }
+    text
 }
 
 struct Day {

@@ -16,8 +16,11 @@ mod shares;
 use std::path::Path;
 use std::process::ExitCode;
 
-/// The inputs by their names, with the answers each is mostly made of.
-pub const INPUTS: [&str; 3] = ["done", "refused", "malformed"];
+/// The inputs by their names, which say of which answers each is mostly made.
+pub const INPUTS: [&str; 4] = ["done", "refused", "malformed", ONLY_MALFORMED];
+
+/// The input in which no line can be read, so that no request ever comes.
+pub const ONLY_MALFORMED: &str = "only-malformed";
 
 /// The input that holds the names line alone: what is left is the start of a
 /// process.

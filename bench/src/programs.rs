@@ -5,7 +5,7 @@ use std::path::{Path, PathBuf};
 use std::process::{Command, Stdio};
 use std::time::{Duration, Instant};
 
-use crate::{INPUTS, START};
+use crate::{INPUTS, ONLY_MALFORMED, START};
 
 struct Program<'a> {
     name: &'a str,
@@ -187,10 +187,10 @@ pub fn instructions(folder: &Path, programs: &[&str]) -> Result<(), String> {
 }
 
 fn title(name: &str) -> String {
-    if name == START {
-        String::from("the start alone")
-    } else {
-        format!("mostly {name}")
+    match name {
+        START => String::from("the start alone"),
+        ONLY_MALFORMED => String::from("nothing but malformed"),
+        _ => format!("mostly {name}"),
     }
 }
 
