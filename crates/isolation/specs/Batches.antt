@@ -1,20 +1,18 @@
--- The isolation rule over the code: for what `Tables::run` of the guard hands back. Its contract is `o ≡ batch t requests
--- count` (guard/src/batch.rt), so each premise below is what a host has who called it.
+-- The isolation rule over the code: for what `Tables::run` of the guard hands back. Its contract is `RunsBatch`
+-- (guard/src/batch.rt), so each premise below is what a host has who called it.
 -- Assumes nothing.
 use Prim.Native.Nat.{ℕ, _≤_}
 use mathlib.Core.Path.{_≡_, refl, sym, ap, _∙_}
 use mathlib.Core.Bool.{Bool, true, false, cond}
 use mathlib.Core.List.{List, [], _∷_, _++_}
-use lib.ListN.{take}
-use borrow.Author.Tests.{le-leb}
+use lib.ListN.{length}
 use Rattle.bitset.specs.Tests.{every}
 use Rattle.guard.specs.Sound.{sound}
-use Rattle.guard.specs.Step.{run, answer, next, answers}
+use Rattle.guard.specs.Step.{answer, next, answers}
 use Rattle.guard.specs.Upper.{upper, isUpper, namesUpper, upperRequests, upperAnswers}
-use Rattle.guard.specs.Batch.{batchSize, batch}
+use Rattle.guard.specs.Batch.{batch, RunsBatch}
 use Rattle.guard.specs.declared.Tables.{Tables}
 use Rattle.guard.specs.declared.Request.{Request}
-use Rattle.guard.specs.declared.Ran.{Ran}
 use Rattle.isolation.specs.Theorem.{isolation}
 
 -- of the answers beside a log, those to upper requests that name only upper seats, roles and entities
@@ -35,26 +33,20 @@ compared-answers L t (q ∷ log) rest = go (every (isUpper L q ∷ namesUpper L 
     go true h = ap (λ (l : List ℕ). answer t q ∷ l) h
     go false h = h
 
--- what a batch of at most sixty-four requests hands back
-ran : (t : Tables) (requests : List Request) (n : ℕ) → n ≤ batchSize → (o : Ran) → o ≡ batch t requests n → o .tables ≡ run t (take n requests)
-unfolding batch
-ran t requests n h o e = rw (e, le-leb n batchSize h)
-
-told : (L : ℕ) (t : Tables) (requests : List Request) (n : ℕ) → n ≤ batchSize → (o : Ran) → o ≡ batch t requests n
-    → compared L (take n requests) (o .answers) ≡ upperAnswers L t (take n requests)
-unfolding batch
-told L t requests n h o e = rw (e, le-leb n batchSize h) (compared-answers L t (take n requests) _)
+-- what a batch hands back
+told : (L : ℕ) {t u : Tables} {rows old new : List ℕ} → RunsBatch t rows old new u
+    → compared L (batch rows (length old)) new ≡ upperAnswers L t (batch rows (length old))
+told L {t = t} {rows = rows} {old = old} ran = rw (ran .answered) (compared-answers L t (batch rows (length old)) _)
 
 pub batches-isolate :
     (L : ℕ) → 1 ≤ L → L ≤ 3
     → (t u : Tables) → sound t ≡ true → sound u ≡ true → upper L t ≡ upper L u
-    -- two calls of `run`, of m and n requests
-    → (a b : List Request) (m n : ℕ) → m ≤ batchSize → n ≤ batchSize
-    → (o p : Ran) → o ≡ batch t a m → p ≡ batch u b n
-    → upperRequests L (take m a) ≡ upperRequests L (take n b)
-    → (upper L (o .tables) ≡ upper L (p .tables)) × (compared L (take m a) (o .answers) ≡ compared L (take n b) (p .answers))
-batches-isolate L low high t u st su same a b m n hm hn o p eo ep requests =
-    let (parts, answered) = isolation L low high t u st su same (take m a) (take n b) requests in (
-      ap (upper L) (ran t a m hm o eo) ∙ parts ∙ sym (ap (upper L) (ran u b n hn p ep)),
-      told L t a m hm o eo ∙ answered ∙ sym (told L u b n hn p ep),
+    -- two calls of `run`, on rows a and b; p and q are what they have for answers at first, p2 and q2 at last
+    → (a b p q p2 q2 : List ℕ) (t2 u2 : Tables) → RunsBatch t a p p2 t2 → RunsBatch u b q q2 u2
+    → upperRequests L (batch a (length p)) ≡ upperRequests L (batch b (length q))
+    → (upper L t2 ≡ upper L u2) × (compared L (batch a (length p)) p2 ≡ compared L (batch b (length q)) q2)
+batches-isolate L low high t u st su same a b p q p2 q2 t2 u2 ran did requests =
+    let (parts, answered) = isolation L low high t u st su same (batch a (length p)) (batch b (length q)) requests in (
+      ap (upper L) (ran .tables) ∙ parts ∙ sym (ap (upper L) (did .tables)),
+      told L ran ∙ answered ∙ sym (told L did),
     )

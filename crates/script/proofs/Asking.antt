@@ -1,7 +1,6 @@
 -- What a line asks, by its row.
 --     read-bad, read-unknown, read-halves      a line that can't be read; an unknown word; the two halves of the fields
 --     asks-by, asks-fault                      what the first half is
---     entry-ask, entry-user, entry-bad         the line's place in a batch
 -- Assumes nothing.
 use Prim.Native.Nat.{ℕ, _≤_, _<_}
 use mathlib.Core.Path.{_≡_, refl, ap, sym, _∙_}
@@ -11,15 +10,13 @@ use lib.Dec.{leb, ltb, eqb}
 use lib.ListN.{length, getD, length-map}
 use borrow.Author.Tests.{le-leb, lt-leb, ltb-true, ltb-false}
 use Rattle.bitset.specs.Tests.{every}
-use Rattle.guard.specs.declared.Request.{Request}
 use Rattle.script.specs.Text.{values}
 use Rattle.script.specs.Names.{names, under}
 use Rattle.script.specs.Line.{used, Numbers, these, asks, lineOf, readLine}
 use Rattle.script.specs.Slices.{Ordered}
-use Rattle.script.specs.Entry.{nothing, entry}
 use Rattle.script.specs.Rows.{fine, IsRow, takeFrom, ahead, members}
 use Rattle.script.specs.declared.line.Line.{Line}
-use Rattle.script.specs.declared.line.Line.the-variants.{Ask, SetUser, Bad}
+use Rattle.script.specs.declared.line.Line.the-variants.{Bad}
 use Rattle.script.specs.declared.fields.Half.{Half}
 use Rattle.script.specs.declared.fields.Half.the-variants.{Fault as Broken}
 use Rattle.script.specs.declared.row.Row.{Row}
@@ -107,17 +104,3 @@ asks-by w x y rest e = rw e
 pub asks-fault : (w : ℕ) (x : Half) (rest : Numbers) → x ≡ Broken → Bad ≡ asks w (ahead x rest)
 unfolding asks ahead
 asks-fault w x rest e = rw e
-
--- ---- as a request of a batch
-module _ {x y : Line} (h : x ≡ y) where
-  pub entry-ask : {q : Request} → x ≡ Ask q → q ≡ entry y
-  unfolding entry
-  entry-ask e = rw (← h, e)
-
-  pub entry-user : {q : Request} {a b c d : ℕ} → x ≡ SetUser a b c d → q ≡ nothing → q ≡ entry y
-  unfolding entry
-  entry-user e k = rw (← h, e) k
-
-  pub entry-bad : {q : Request} → x ≡ Bad → q ≡ nothing → q ≡ entry y
-  unfolding entry
-  entry-bad e k = rw (← h, e) k

@@ -17,13 +17,13 @@ pub mod Asking
 pub mod Orders
 pub mod Lines
 pub mod Short
-pub mod Answers
 pub mod Replies
 pub mod Rest
 pub mod Pieces
 pub mod Runs
 pub mod Steps
 pub mod Moves
+pub mod RequestRows
 pub mod Batches
 pub mod Loading
 pub mod Outputs

@@ -1,36 +1,35 @@
 -- The output of a batch, and the step over it.
---     room-left, line-few, said-small     what the writer of a line asks and takes
+--     room-left, line-few     what the writer of a line asks and takes
 --     asked-none, asked-on, asked-below     how many answers are written
 --     texts-none, texts-more, texts-all     what is written: nothing, one line more, all
---     batch-tables, batch-answers, answers-low     what the guard hands back for a batch
---     batch-done             the step
+--     ran-tables, ran-answers     what the guard hands back for a batch
+--     fits-in, room-for, batch-done    the step
 -- Assumes nothing.
-use Prim.Native.Nat.{ℕ, zero, suc, _+_, _-_, _*_, _≤_, _<_}
-use mathlib.Core.Path.{_≡_, refl, ap, sym, _∙_}
+use Prim.Native.Nat.{ℕ, _+_, _-_, _*_, _/_, _≤_, _<_}
+use mathlib.Core.Path.{_≡_, refl, ap, ap₂, sym, _∙_}
 use mathlib.Core.Bool.{Bool, true, false, cond}
 use mathlib.Core.List.{List, [], _∷_, _++_, append-assoc}
-use lib.ListN.{length, take, drop, getD, replicate, length-drop, length-take}
+use lib.ListN.{length, take, drop, getD, length-drop, length-take}
 use lib.Seq.{sets, take-suc, drop-drop, sets-eq, length-take-le}
 use native.Mathlib.Numerals.{add-one}
 use native.Mathlib.Nat.{zero-add}
 use native.Mathlib.Omega.{arith}
 use borrow.Author.Tests.{le-leb}
 use borrow.Rule.Slice.PartMut.{putMid}
-use Rattle.guard.specs.Step.{answer, next, run, answers}
-use Rattle.guard.specs.Batch.{batch}
+use Rattle.guard.specs.Step.{run, answers}
+use Rattle.guard.specs.Batch.{rowLength, requests, batchLength, batch, RunsBatch}
 use Rattle.guard.specs.declared.Tables.{Tables}
 use Rattle.guard.specs.declared.Request.{Request}
-use Rattle.guard.specs.declared.Ran.{Ran as Batch}
 use Rattle.guard.proofs.Batches.{length-answers}
 use Rattle.script.specs.Report.{lineText, lastLine}
 use Rattle.script.specs.Slices.{after, written, Put}
-use Rattle.script.specs.Run.{atLines, benchOf, Told, put, fromLine, rest, Fits, Goes, Stepped}
-use Rattle.script.specs.Batches.{shutBench, one, asked, said, texts, Most, Batched}
+use Rattle.script.specs.Run.{atLines, bench, benchOf, Told, put, fromLine, rest, Fits, Goes, Stepped}
+use Rattle.script.specs.Batches.{batchLines, one, asked, said, texts, Most, Batched}
 use Rattle.script.specs.declared.runner.Runner.{Runner}
 use Rattle.script.specs.declared.batch.Gathered.{Gathered}
 use Rattle.script.proofs.Texts.{put-nil, put-then, line-length}
 use Rattle.script.proofs.Parts.{to-end}
-use Rattle.script.proofs.Answers.{answer-bound}
+use Rattle.script.proofs.RequestRows.{requests-count, requests-take}
 use Rattle.script.proofs.Rest.{rest-lines}
 use Rattle.script.proofs.Runs.{ran, worked, stepped, tail-back}
 use Rattle.script.proofs.Batches.{asked-snoc, asked-few, texts-snoc, texts-given, texts-length}
@@ -45,11 +44,6 @@ room-left w out = ap length (to-end w out) ∙ length-drop w out
 
 pub line-few : {l new : List ℕ} {r : ℕ} (k a : ℕ) → Put l 0 (lineText k a) new r → r ≤ 12
 line-few k a p = omega (arith, p .next, line-length k a)
-
-pub said-small : (m : Bool) (g a : ℕ) → a ≡ said m g → g ≤ 17 → a < 100
-unfolding said
-said-small true g a e h = omega arith
-said-small false g a e h = omega arith
 
 put-end : {out ys line : List ℕ} {w k : ℕ} → w ≤ length out → length line ≤ length out - w
     → Put (take (length out - w) (drop w out)) 0 line ys k → Put out w line (putMid w (length out - w) out ys) (w + k)
@@ -97,78 +91,86 @@ pub texts-all : {old out : List ℕ} {w : ℕ} (n : ℕ) (marks : List Bool) (gi
 texts-all n marks given i lines h l p = let e : lines ≡ i = omega arith in rw e p
 
 -- ---- what the guard hands back
-module _ (t : Tables) (requests : List Request) (n : ℕ) {o : Batch} (h : o ≡ batch t requests n) (l : n ≤ 256) where
-  pub batch-tables : o .tables ≡ run t (take n requests)
-  unfolding batch
-  batch-tables = ap (λ (x : Batch). x .tables) h ∙ (rw (le-leb n 256 l))
+shorter : (n room : ℕ) → n ≤ room → batchLength (rowLength * n) room ≡ n
+unfolding batchLength
+shorter n room h = let e : (11 * n) / 11 ≡ n = omega arith in rw (e, le-leb n room h)
 
-  pub batch-answers : o .answers ≡ answers t (take n requests) ++ replicate (256 - n) 0
-  unfolding batch
-  batch-answers = ap (λ (x : Batch). x .answers) h ∙ (rw (le-leb n 256 l))
+module _ {t u : Tables} (rows : List ℕ) {old new : List ℕ} (n : ℕ) (did : RunsBatch t (take (rowLength * n) rows) old new u) (within : rowLength * n ≤ length rows) (room : n ≤ length old) where
+  so-many : batchLength (length (take (rowLength * n) rows)) (length old) ≡ n
+  so-many = ap (λ (k : ℕ). batchLength k (length old)) (length-take-le (rowLength * n) rows within) ∙ shorter n (length old) room
 
-zeros-low : (k i : ℕ) → getD (replicate k 0) i 0 ≤ 17
-zeros-low zero i = omega arith
-zeros-low (suc k) zero = omega arith
-zeros-low (suc k) (suc i) = zeros-low k i
+  the-log : batch (take (rowLength * n) rows) (length old) ≡ requests n rows
+  the-log = ap (λ (k : ℕ). requests k (take (rowLength * n) rows)) so-many ∙ requests-take n rows
 
-logged-low : (t : Tables) (log : List Request) (k i : ℕ) → getD (answers t log ++ replicate k 0) i 0 ≤ 17
-unfolding answers
-logged-low t [] k i = zeros-low k i
-logged-low t (q ∷ log) k zero = answer-bound t q
-logged-low t (q ∷ log) k (suc i) = logged-low (next t q) log k i
+  pub ran-tables : u ≡ run t (requests n rows)
+  ran-tables = did .tables ∙ ap (run t) the-log
 
-pub answers-low : (t : Tables) (requests : List Request) (n : ℕ) {o : Batch} → o ≡ batch t requests n → n ≤ 256 → (i : ℕ) → getD (o .answers) i 0 ≤ 17
-answers-low t requests n h l i = rw (batch-answers t requests n h l) (logged-low t (take n requests) (256 - n) i)
+  pub ran-answers : new ≡ answers t (requests n rows) ++ drop n old
+  ran-answers = did .answered ∙ ap₂ (λ (l : List Request) (k : ℕ). answers t l ++ drop k old) the-log so-many
 
 -- ---- the step over a batch
-abbrev pub onBy : Runner → Tables → ℕ → Runner
-onBy r t n = record { tables = t; shut = r .shut; at = r .at; phase = r .phase; done = r .done + n; skip = r .skip }
+pub fits-in : {at s rows : List ℕ} {shut : Bool} {marks : List Bool} {g : Gathered} {done room m : ℕ} → Most done room m → Batched at shut s m rows marks g → g .count ≤ batchLines
+fits-in {marks = marks} {g = g} most took = omega (arith, took .count, took .few, most .fits, asked-few (take (g .lines) marks), length-take (g .lines) marks)
 
-module _ (r : Runner) (piece old new : List ℕ) (end : Bool) (g : Gathered) (o : Batch) (m n : ℕ) (p : r .phase ≡ atLines) (b : r .shut ≡ true)
-    (k : r .skip ≡ false) (most : Most (r .done) (length old) m) (took : Batched (r .at) piece m g) (some : g .lines ≡ 0 → ⊥)
-    (did : o ≡ batch (r .tables) (g .requests) (g .count)) (puts : Put old 0 (texts (r .done + 1) (take (g .lines) (g .marks)) (o .answers)) new n) where
-  abbrev marks : List Bool
-  marks = take (g .lines) (g .marks)
+abbrev pub onBy : Runner → Tables → Bool → ℕ → Runner
+onBy r t shut n = record { tables = t; shut = shut; at = r .at; phase = r .phase; done = r .done + n; skip = r .skip }
+
+-- what the writer of the answers asks
+pub room-for : {at s rows : List ℕ} {shut : Bool} {marks : List Bool} (told : List ℕ) {g : Gathered} {done room m : ℕ} → Most done room m → Batched at shut s m rows marks g
+    → (g .lines ≡ 0 → ⊥) → length told ≡ batchLines → (g .lines ≤ length marks) × (g .lines ≤ length told) × (12 * g .lines ≤ room) × (done + 1 + g .lines ≤ lastLine + 1)
+room-for told most took some d = (took .marked, omega (arith, took .few, most .fits), omega (arith, took .few, most .space), omega (arith, some, took .few, most .last))
+
+module _ (r : Runner) (piece old new : List ℕ) (end : Bool) (g : Gathered) (u : Tables) (rows : List ℕ) (marks : List Bool) (given told : List ℕ) (m n : ℕ)
+    (p : r .phase ≡ atLines) (k : r .skip ≡ false) (most : Most (r .done) (length old) m) (took : Batched (r .at) (r .shut) piece m rows marks g)
+    (some : g .lines ≡ 0 → ⊥) (deep : length given ≡ batchLines) (did : RunsBatch (r .tables) (take (rowLength * g .count) rows) given told u)
+    (puts : Put old 0 (texts (r .done + 1) (take (g .lines) marks) told) new n) where
+  abbrev asks : List Bool
+  asks = take (g .lines) marks
 
   abbrev log : List Request
-  log = take (g .count) (g .requests)
+  log = requests (g .count) rows
+
+  abbrev then : Runner
+  then = onBy r u (g .shut) (g .lines)
+
+  few : g .count ≤ batchLines
+  few = fits-in most took
 
   last : r .done + g .lines ≤ lastLine
   last = omega (arith, took .few, most .last)
 
-  here : benchOf r ≡ shutBench (r .tables)
-  here = rw b
+  there : benchOf then ≡ bench (run (r .tables) log) (g .shut)
+  there = rw (ran-tables rows (g .count) did (took .stored) (omega (arith, few)))
 
-  there : benchOf (onBy r (o .tables) (g .lines)) ≡ shutBench (run (r .tables) log)
-  there = rw (b, batch-tables (r .tables) (g .requests) (g .count) did (took .fits))
+  enough : asked asks ≤ length (answers (r .tables) log)
+  enough = omega (arith, took .count, length-answers (r .tables) log, requests-count (g .count) rows)
 
-  enough : asked marks ≤ length (answers (r .tables) log)
-  enough = omega (arith, took .count, took .fits, length-answers (r .tables) log, length-take-le (g .count) (g .requests) (took .held))
+  words : texts (r .done + 1) asks told ≡ texts (r .done + 1) asks (answers (r .tables) log)
+  words =
+      rw (ran-answers rows (g .count) did (took .stored) (omega (arith, few)))
+      (texts-given (r .done + 1) asks (answers (r .tables) log) (drop (g .count) given) enough)
 
-  words : texts (r .done + 1) marks (o .answers) ≡ texts (r .done + 1) marks (answers (r .tables) log)
-  words = rw (batch-answers (r .tables) (g .requests) (g .count) did (took .fits)) (texts-given (r .done + 1) marks (answers (r .tables) log) (replicate (256 - g .count) 0) enough)
+  later : (header : List (List ℕ)) (more : List ℕ) → rest header then (drop (g .used) piece ++ more)
+      ≡ fromLine header (benchOf then) (r .done + g .lines) (drop (g .used) piece ++ more)
+  later header more = rest-lines header then (drop (g .used) piece ++ more) p ∙ (rw k)
 
-  later : (header : List (List ℕ)) (more : List ℕ) → rest header (onBy r (o .tables) (g .lines)) (drop (g .used) piece ++ more)
-      ≡ fromLine header (benchOf (onBy r (o .tables) (g .lines))) (r .done + g .lines) (drop (g .used) piece ++ more)
-  later header more = rest-lines header (onBy r (o .tables) (g .lines)) (drop (g .used) piece ++ more) p ∙ (rw k)
-
-  goes : Goes end r piece (texts (r .done + 1) marks (o .answers)) (onBy r (o .tables) (g .lines)) (drop (g .used) piece)
+  goes : Goes end r piece (texts (r .done + 1) asks told) then (drop (g .used) piece)
   goes header f =
       record {
         known = header;
         fits = record { opens = λ h. absurd (past h); knows = λ h. f .knows p };
         same = λ more e.
-            rest-lines header r (piece ++ more) p ∙ (rw (k, here)) ∙ took .goes header (f .knows p) (r .tables) (r .done) last more ∙ (rw (← words, ← there))
-            ∙ ap (put (texts (r .done + 1) marks (o .answers))) (sym (later header more));
+            rest-lines header r (piece ++ more) p ∙ (rw k) ∙ took .goes header (f .knows p) (r .tables) (r .done) last more ∙ (rw (← words, ← there))
+            ∙ ap (put (texts (r .done + 1) asks told)) (sym (later header more));
       }
     where
       past : r .phase < 2 → ⊥
       past h = omega arith
 
-  fit : length (texts (r .done + 1) marks (o .answers)) ≤ length old
-  fit = omega (arith, texts-length (r .done + 1) marks (o .answers), length-take (g .lines) (g .marks), took .few, most .space)
+  fit : length (texts (r .done + 1) asks told) ≤ length old
+  fit = omega (arith, texts-length (r .done + 1) asks told, length-take (g .lines) marks, took .few, most .space)
 
-  pub batch-done : Stepped r piece end old new (ran (onBy r (o .tables) (g .lines)) (g .used) n)
+  pub batch-done : Stepped r piece end old new (ran then (g .used) n)
   batch-done =
-      stepped (worked r (onBy r (o .tables) (g .lines)) piece end old new (texts (r .done + 1) marks (o .answers)) (g .used) n puts fit (took .within) goes)
+      stepped (worked r then piece end old new (texts (r .done + 1) asks told) (g .used) n puts fit (took .within) goes)
       (omega arith) (took .moves (omega (arith, some)))

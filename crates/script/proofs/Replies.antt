@@ -4,7 +4,7 @@
 --     set-shut, set-outside, set-inside     the three answers to the word `user`
 --     ask-said                   the answer to a request
 --     nobody-built               the tables that a run opens with
---     said-low, said-next, said-text     of every answer: it is low, and the runner and the text after it
+--     said-next, said-text     the runner and the text after an answer
 -- Assumes nothing.
 use Prim.Native.Nat.{ℕ, _+_, _≤_, _<_}
 use mathlib.Core.Path.{_≡_, refl, ap}
@@ -27,12 +27,11 @@ use Rattle.guard.specs.declared.Request.{Request}
 use Rattle.guard.specs.declared.Outcome.{Outcome}
 use Rattle.script.specs.Report.{Bench, Answered, unread, withUser, userInRanges, answerLine, lineText}
 use Rattle.script.specs.Slices.{Put}
-use Rattle.script.specs.Run.{benchOf, saidBy, afterLine, textOf}
+use Rattle.script.specs.Run.{bench, benchOf, saidBy, afterLine, textOf}
 use Rattle.script.specs.declared.line.Line.{Line}
 use Rattle.script.specs.declared.line.Line.the-variants.{Ask, SetUser}
 use Rattle.script.specs.declared.runner.Runner.{Runner}
 use Rattle.script.specs.declared.reply.Reply.{Reply}
-use Rattle.script.proofs.Answers.{reply-bound}
 
 abbrev pub outside : ℕ → ℕ → ℕ → ℕ → Bool
 outside user level cats ceiling = leb 16 user || (ltb 3 level || (ltb 255 cats || ltb 3 ceiling))
@@ -42,9 +41,6 @@ pub record Inside (user level cats ceiling : ℕ) : Type 0 where
   pub level-in : level ≤ 3
   pub cats-in : cats ≤ 255
   pub ceiling-in : ceiling ≤ 3
-
-abbrev bench : Tables → Bool → Bench
-bench t shut = record { tables = t; shut = shut }
 
 abbrev built : ℕ → Outcome
 built n = record { tables = fresh (replicate userCount noUser); answer = n }
@@ -98,9 +94,6 @@ pub ask-said : (t : Tables) (shut : Bool) (q : Request) (o : Outcome) → o ≡ 
     → _≡_ {A = Answered} (record { bench = bench (o .tables) true; answer = o .answer }) (answerLine (bench t shut) (Ask q))
 unfolding answerLine step
 ask-said t shut q o h = rw h
-
-pub said-low : (b : Bench) (a : Reply) (asked : Line) → saidBy a ≡ answerLine b asked → a .answer < 100
-said-low b a asked h = omega (arith, reply-bound b asked, ap (λ (s : Answered). s .answer) h)
 
 module _ (r : Runner) (a : Reply) (asked : Line) (h : saidBy a ≡ answerLine (benchOf r) asked) where
   pub said-next : _≡_ {A = Runner}

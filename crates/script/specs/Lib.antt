@@ -6,6 +6,5 @@ pub mod Report
 pub mod Slices
 pub mod Keys
 pub mod Rows
-pub mod Entry
 pub mod Run
 pub mod Batches

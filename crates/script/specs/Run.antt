@@ -7,6 +7,7 @@ use mathlib.Core.Bool.{Bool, true, false, cond}
 use mathlib.Core.List.{List, [], _∷_, _++_}
 use lib.Dec.{eqb, leb, ltb}
 use lib.ListN.{length, take, drop, replicate}
+use Rattle.guard.specs.declared.Tables.{Tables}
 use Rattle.script.specs.Text.{lines, values}
 use Rattle.script.specs.Names.{isNames}
 use Rattle.script.specs.Line.{readLine}
@@ -31,11 +32,14 @@ atLines = 2
 abbrev pub atEnd : ℕ
 atEnd = 3
 
+abbrev pub bench : Tables → Bool → Bench
+bench t shut = record { tables = t; shut = shut }
+
 abbrev pub benchOf : Runner → Bench
-benchOf r = record { tables = r .tables; shut = r .shut }
+benchOf r = bench (r .tables) (r .shut)
 
 abbrev pub saidBy : Reply → Answered
-saidBy a = record { bench = record { tables = a .tables; shut = a .shut }; answer = a .answer }
+saidBy a = record { bench = bench (a .tables) (a .shut); answer = a .answer }
 
 -- ---- what is printed, and the bench at the end of it
 pub record Told : Type 0 where

@@ -1,22 +1,33 @@
 // Many lines of values at once: what whole lines ask becomes one batch of requests, the guard runs it with one test of
 // soundness, and the answers are written one behind the other, 17 for a line that asks none.
 use crate::line;
+use crate::line::Line;
 use crate::text;
 use guard::Request;
-ghost use Prim.Native.Nat.{ℕ, _+_, _*_, _≤_, _<_};
+ghost use Prim.Native.Nat.{_+_, _*_, _≤_};
 ghost use mathlib.Core.Path.{_≡_};
-ghost use lib.ListN.{length, take, getD};
-ghost use Rattle.script.specs.Slices.{Put};
-ghost use Rattle.script.specs.Batches.{one, said, texts, Most, Batched};
+ghost use lib.ListN.{length, take};
+ghost use Rattle.script.specs.Report.{lastLine};
+ghost use Rattle.script.specs.Slices.{written, Put};
+ghost use Rattle.guard.specs.Batch.{rowLength};
+ghost use Rattle.script.specs.Batches.{one, said, texts, isRequest, isAllowed, rowOf, numbersOf, Most, Batched};
 
-// The requests of some lines, and of each line whether it asks one; how many requests and lines these are, and how many
-// bytes of input they took.
+// How many lines a batch takes.
+pub const LINES: usize = 256;
+
+// How many numbers stand for a request.
+pub const ROW: usize = 11;
+
+// .. and for all of them.
+pub const NUMBERS: usize = ROW * LINES;
+
+// How many requests some lines ask, how many lines these are, how many bytes of input they took, and whether `user` is shut
+// out after them.
 pub struct Gathered {
-    pub requests: [Request; 256],
-    pub marks: [bool; 256],
     pub count: usize,
     pub lines: usize,
     pub used: usize,
+    pub shut: bool,
 }
 
 fn least(a: usize, b: usize) -> usize
@@ -38,47 +49,94 @@ pub fn most(done: u32, room: usize) -> usize
     if 65535 <= done {
         return 0;
     }
-    least(least(room / 12, 256), (65535 - done) as usize)
+    least(least(room / 12, LINES), (65535 - done) as usize)
 }
 
-// Whole lines from the front of `s`, at most so many. A line that asks nothing of the guard is a request of none of the
-// sixteen kinds: the next one is stored over it.
-pub fn gather(s: &[u8], at: [u8; 12], most: usize) -> Gathered
-    requires { ⌜ most ≤ 256 ⌝ }
-    ensures { λ g. ⌜ Batched at (now (s .entry)) most g ⌝ }
+// A request as a row of numbers from `at` on.
+fn put_row(q: Request, rows: &mut [u32], at: usize) -> usize
+    requires { ⌜ at + rowLength ≤ length (now rows) ⌝ }
+    ensures { λ r. ⌜ Put (now (rows .entry)) at (rowOf q) (now (rows .exit)) r ⌝ }
 {
-    let none = line::nothing();
-    let mut requests = [none; 256];
-    let mut marks = [false; 256];
+    rows[at] = q.call;
+    rows[at + 1] = q.seat;
+    rows[at + 2] = q.user;
+    rows[at + 3] = q.role;
+    rows[at + 4] = q.entity;
+    rows[at + 5] = q.parent;
+    rows[at + 6] = q.kind;
+    rows[at + 7] = q.name;
+    rows[at + 8] = q.level;
+    rows[at + 9] = q.cats;
+    rows[at + 10] = q.rights;
+    at + ROW
+}
+
+// What a line asks, behind `count` requests; whether it asks one.
+fn load(l: Line, rows: &mut [u32], count: usize) -> bool
+    requires { ⌜ rowLength * count + rowLength ≤ length (now rows) ⌝ }
+    ensures { λ r. ⌜ (r ≡ isRequest l) × (now (rows .exit) ≡ written (now (rows .entry)) (rowLength * count) (numbersOf l)) ⌝ }
+{
+    match l {
+        Line::Ask(q) => {
+            put_row(q, rows, ROW * count);
+            true
+        }
+        Line::SetUser(_, _, _, _) => false,
+        Line::Bad => false,
+    }
+}
+
+// Whether a line is a `user` line that is allowed. Such a line sets a record between two batches.
+fn is_allowed(l: Line, shut: bool) -> bool
+    ensures { λ r. ⌜ r ≡ isAllowed shut l ⌝ }
+{
+    match l {
+        Line::Ask(_) => false,
+        Line::SetUser(_, _, _, _) => !shut,
+        Line::Bad => false,
+    }
+}
+
+// Whole lines from the front of `s`, at most so many, up to a `user` line that is allowed.
+pub fn gather(
+    s: &[u8],
+    at: [u8; 12],
+    most: usize,
+    shut: bool,
+    rows: &mut [u32],
+    marks: &mut [bool],
+) -> Gathered
+    requires { ⌜ (most ≤ length (now marks)) × (rowLength * most ≤ length (now rows)) ⌝ }
+    ensures { λ g. ⌜ Batched at shut (now (s .entry)) most (now (rows .exit)) (now (marks .exit)) g ⌝ }
+{
+    let mut shut = shut;
     let mut count = 0;
     let mut lines = 0;
     let mut used = 0;
     while lines < most {
         let rest = &s[used..];
         let x = line::next(rest, at);
-        if rest.len() <= x.len {
+        let l = x.asked;
+        if (rest.len() <= x.len) | is_allowed(l, shut) {
             return Gathered {
-                requests,
-                marks,
                 count,
                 lines,
                 used,
+                shut,
             };
         }
-        let q = x.request;
-        let asks = q.call < 16;
-        requests[count] = q;
+        let asks = load(l, rows, count);
         marks[lines] = asks;
         count = count + one_if(asks);
+        shut = shut | asks;
         lines += 1;
         used = used + x.len + 1;
     }
     Gathered {
-        requests,
-        marks,
         count,
         lines,
         used,
+        shut,
     }
 }
 
@@ -90,15 +148,9 @@ fn answer_of(asks: bool, a: u8) -> u8
 }
 
 // The answers to the first `lines` lines, the first of which has number `n`.
-pub fn put_answers(
-    marks: [bool; 256],
-    answers: [u8; 256],
-    lines: usize,
-    n: u32,
-    out: &mut [u8],
-) -> usize
-    requires { ⌜ (lines ≤ 256) × (12 * lines ≤ length (now out)) × (n + lines < 100000) × ((i : ℕ) → getD answers i 0 ≤ 17) ⌝ }
-    ensures { λ r. ⌜ Put (now (out .entry)) 0 (texts n (take lines marks) answers) (now (out .exit)) r ⌝ }
+pub fn put_answers(marks: &[bool], answers: &[u8], lines: usize, n: u32, out: &mut [u8]) -> usize
+    requires { ⌜ (lines ≤ length (now marks)) × (lines ≤ length (now answers)) × (12 * lines ≤ length (now out)) × (n + lines ≤ lastLine + 1) ⌝ }
+    ensures { λ r. ⌜ Put (now (out .entry)) 0 (texts n (take lines (now (marks .entry))) (now (answers .entry))) (now (out .exit)) r ⌝ }
 {
     let mut wrote = 0;
     let mut i = 0;

@@ -6,7 +6,6 @@ ghost use lib.ListN.{length};
 ghost use Rattle.script.specs.Line.{readLine};
 ghost use Rattle.script.specs.Slices.{before, Ordered};
 ghost use Rattle.script.specs.Rows.{blank, IsRow};
-ghost use Rattle.script.specs.Entry.{entry, nothing as noRequest};
 use crate::fields;
 use crate::fields::Half;
 use crate::row;
@@ -27,9 +26,9 @@ pub enum Line {
     Bad,
 }
 
-// The first line of some input, as a request of a batch, and its length.
+// What the first line of some input asks, and its length.
 pub struct Front {
-    pub request: Request,
+    pub asked: Line,
     pub len: usize,
 }
 
@@ -60,51 +59,13 @@ fn asked(row: Row, vals: &[u32; 16]) -> Line
     fields::second(word, six, vals, row.given, uses)
 }
 
-// What the line at the front of `s` asks, under a good header.
-pub fn read(s: &[u8], at: [u8; 12]) -> Line
-    ensures { λ r. ⌜ ((h : List (List ℕ)) → Ordered h at → r ≡ readLine h (before 10 (now (s .entry)))) ⌝ }
-{
-    let mut vals = empty();
-    let row = row::read_row(s, &at, &mut vals);
-    asked(row, &vals)
-}
-
-// The request of a line that asks nothing of the tables: one of none of the sixteen kinds.
-pub fn nothing() -> Request
-    ensures { λ r. ⌜ r ≡ noRequest ⌝ }
-{
-    Request {
-        call: 16,
-        seat: 0,
-        user: 0,
-        role: 0,
-        entity: 0,
-        parent: 0,
-        kind: 0,
-        name: 0,
-        level: 0,
-        cats: 0,
-        rights: 0,
-    }
-}
-
-// The line at the front of `s`, up to byte 10 or the end.
+// The line at the front of `s`, up to byte 10 or the end, under a good header.
 pub fn next(s: &[u8], at: [u8; 12]) -> Front
-    ensures { λ r. ⌜ (r .len ≡ length (before 10 (now (s .entry)))) × ((h : List (List ℕ)) → Ordered h at → r .request ≡ entry (readLine h (before 10 (now (s .entry))))) ⌝ }
+    ensures { λ r. ⌜ (r .len ≡ length (before 10 (now (s .entry)))) × ((h : List (List ℕ)) → Ordered h at → r .asked ≡ readLine h (before 10 (now (s .entry)))) ⌝ }
 {
     let mut vals = empty();
     let row = row::read_row(s, &at, &mut vals);
     let len = row.len;
     let l = asked(row, &vals);
-    match l {
-        Line::Ask(request) => Front { request, len },
-        Line::SetUser(_, _, _, _) => {
-            let request = nothing();
-            Front { request, len }
-        }
-        Line::Bad => {
-            let request = nothing();
-            Front { request, len }
-        }
-    }
+    Front { asked: l, len }
 }

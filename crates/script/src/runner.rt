@@ -15,6 +15,7 @@ ghost use mathlib.Core.Bool.{true, false};
 ghost use lib.ListN.{length};
 ghost use Rattle.script.specs.Report.{lastLine};
 ghost use Rattle.script.specs.Slices.{before};
+ghost use Rattle.script.specs.Batches.{Lent};
 ghost use Rattle.script.specs.Run.{atNames, atLines, unbegun, isOver, Spoken, Named, Stepped, Finished};
 
 // Where a run stands: the bench (its tables, and whether a readable line with a word other than `user` has come), the
@@ -48,7 +49,8 @@ fn answer_values(mut r: Runner, s: &[u8], out: &mut [u8]) -> Said
     ensures { λ x. ⌜ Spoken r (now (s .entry)) (now (out .entry)) (now (out .exit)) x ⌝ }
 {
     let at = r.at;
-    let asked = line::read(s, at);
+    let front = line::next(s, at);
+    let asked = front.asked;
     let t = r.tables;
     let a = reply::answer_line(t, r.shut, asked);
     let n = r.done + 1;
@@ -215,25 +217,31 @@ fn values_step(mut r: Runner, piece: &[u8], end: bool, out: &mut [u8]) -> Ran
 }
 
 // Whole lines of values, as many as a batch takes; where there is none, the one line that is left.
-fn batch_step(mut r: Runner, piece: &[u8], end: bool, out: &mut [u8]) -> Ran
-    requires { ⌜ (r .phase ≡ atLines) × (r .shut ≡ true) × (r .skip ≡ false) ⌝ }
+fn batch_step(
+    mut r: Runner,
+    piece: &[u8],
+    end: bool,
+    out: &mut [u8],
+    rows: &mut [u32],
+    marks: &mut [bool],
+    answers: &mut [u8],
+) -> Ran
+    requires { ⌜ (r .phase ≡ atLines) × (r .skip ≡ false) × Lent (now rows) (now marks) (now answers) ⌝ }
     ensures { λ x. ⌜ Stepped r (now (piece .entry)) end (now (out .entry)) (now (out .exit)) x ⌝ }
 {
     let at = r.at;
     let most = batch::most(r.done, out.len());
-    let g = batch::gather(piece, at, most);
+    let g = batch::gather(piece, at, most, r.shut, rows, marks);
     let lines = g.lines;
     if lines == 0 {
         return values_step(r, piece, end, out);
     }
-    let requests = g.requests;
+    let n = batch::ROW * g.count;
     let t = r.tables;
-    let o = t.run(requests, g.count);
-    let marks = g.marks;
-    let answers = o.answers;
+    let next = t.run(&rows[..n], answers);
     let wrote = batch::put_answers(marks, answers, lines, r.done + 1, out);
-    let next = o.tables;
     r.tables = next;
+    r.shut = g.shut;
     r.done = r.done + lines as u32;
     Ran {
         runner: r,
@@ -243,34 +251,56 @@ fn batch_step(mut r: Runner, piece: &[u8], end: bool, out: &mut [u8]) -> Ran
 }
 
 // A line of a piece, or a batch of lines.
-fn one(r: Runner, piece: &[u8], end: bool, out: &mut [u8]) -> Ran
-    requires { ⌜ atNames ≤ r .phase ⌝ }
+fn one(
+    r: Runner,
+    piece: &[u8],
+    end: bool,
+    out: &mut [u8],
+    rows: &mut [u32],
+    marks: &mut [bool],
+    answers: &mut [u8],
+) -> Ran
+    requires { ⌜ (atNames ≤ r .phase) × Lent (now rows) (now marks) (now answers) ⌝ }
     ensures { λ x. ⌜ Stepped r (now (piece .entry)) end (now (out .entry)) (now (out .exit)) x ⌝ }
 {
     if r.phase == 1 {
         return names_step(r, piece, end, out);
     }
     if r.phase == 2 {
-        if r.shut {
-            if !r.skip {
-                return batch_step(r, piece, end, out);
-            }
+        if r.skip {
+            return values_step(r, piece, end, out);
         }
-        return values_step(r, piece, end, out);
+        return batch_step(r, piece, end, out, rows, marks, answers);
     }
     idle(r)
 }
 
 // A piece, the heading being written.
-fn work(r: Runner, piece: &[u8], end: bool, out: &mut [u8]) -> Ran
-    requires { ⌜ atNames ≤ r .phase ⌝ }
+fn through(
+    r: Runner,
+    piece: &[u8],
+    end: bool,
+    out: &mut [u8],
+    rows: &mut [u32],
+    marks: &mut [bool],
+    answers: &mut [u8],
+) -> Ran
+    requires { ⌜ (atNames ≤ r .phase) × Lent (now rows) (now marks) (now answers) ⌝ }
     ensures { λ x. ⌜ Finished r (now (piece .entry)) end (now (out .entry)) (now (out .exit)) x ⌝ }
 {
     let mut held = r;
     let mut at = 0;
     let mut wrote = 0;
     loop {
-        let ran = one(held, &piece[at..], end, &mut out[wrote..]);
+        let ran = one(
+            held,
+            &piece[at..],
+            end,
+            &mut out[wrote..],
+            rows,
+            marks,
+            answers,
+        );
         let next = ran.runner;
         held = next;
         at = at + ran.used;
@@ -283,6 +313,17 @@ fn work(r: Runner, piece: &[u8], end: bool, out: &mut [u8]) -> Ran
             };
         }
     }
+}
+
+// The same, with room for a batch: its requests, of each line whether it asks one, and the answers.
+fn work(r: Runner, piece: &[u8], end: bool, out: &mut [u8]) -> Ran
+    requires { ⌜ atNames ≤ r .phase ⌝ }
+    ensures { λ x. ⌜ Finished r (now (piece .entry)) end (now (out .entry)) (now (out .exit)) x ⌝ }
+{
+    let mut rows = [0u32; batch::NUMBERS];
+    let mut marks = [false; batch::LINES];
+    let mut answers = [0u8; batch::LINES];
+    through(r, piece, end, out, &mut rows, &mut marks, &mut answers)
 }
 
 // Works through a piece, as far as whole lines go and the room for their answers. `end` says that no input follows it.

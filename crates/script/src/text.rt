@@ -255,7 +255,7 @@ fn put_decimal(n: u32, out: &mut [u8], at: usize) -> usize
 
 // One line of output: number, space, answer, byte 10.
 pub fn put_line(n: u32, a: u8, out: &mut [u8]) -> usize
-    requires { ⌜ (12 ≤ length (now out)) × (n < 100000) × (a < 100) ⌝ }
+    requires { ⌜ 12 ≤ length (now out) ⌝ }
     ensures { λ r. ⌜ Put (now (out .entry)) 0 (lineText n a) (now (out .exit)) r ⌝ }
 {
     let i = put_decimal(n, out, 0);

@@ -1,25 +1,22 @@
 -- `gather`: the loop over lines keeps Taken (Loading). Assumes nothing.
 use Prim.Native.Nat.{_-_, _≤_}
-use mathlib.Core.Path.{_≡_, refl}
-use lib.ListN.{length}
+use mathlib.Core.Path.{_≡_, sym, _∙_}
 use native.Mathlib.Omega.{arith}
-use borrow.Author.Needs.{needs}
-use Rattle.script.proofs.Loading.{Taken, taken-none, taken-next, taken-all, count-few}
+use lib.ListN.{length}
+use Rattle.script.proofs.Loading.{Taken, taken-none, taken-next, taken-all, count-few, goes-on}
 use Rattle.script.proofs.Batches.{one-least}
+use borrow.Author.Needs.{needs}
 use Rattle.script.proofs.batch.gather.Statement.{statement}
 use Rattle.script.proofs.batch.gather.Tie as tie
 
 abbrev Inv-loop : tie.InvT-loop
-Inv-loop s at most requests₀ marks₀ count₀ lines₀ used₀ requests marks count lines used = (length requests ≡ 256) × (length marks ≡ 256) × (lines ≤ most) × Taken at s requests marks count lines used
+Inv-loop s at most shut rows₀ marks₀ shut₀ count₀ lines₀ used₀ rows marks shut' count lines used = (length rows ≡ length rows₀) × (length marks ≡ length marks₀) × (lines ≤ most) × Taken at s shut rows marks count lines used shut'
 
 abbrev μ-loop : tie.MeasureT-loop
-μ-loop s at most requests₀ marks₀ count₀ lines₀ used₀ requests marks count lines used = most - lines
-
-nothing-requires : tie.Need-nothing-requires Inv-loop μ-loop
-nothing-requires c κs = search needs
+μ-loop s at most shut rows₀ marks₀ shut₀ count₀ lines₀ used₀ rows marks shut' count lines used = most - lines
 
 loop-holds : tie.Need-loop-holds Inv-loop μ-loop
-loop-holds c = (search needs, search needs, search needs, taken-none _ _ _ _)
+loop-holds c = (search needs, search needs, search needs, taken-none _ _ _ _ _)
 
 sub-rest : tie.Need-sub-rest Inv-loop μ-loop
 sub-rest c = search needs
@@ -33,43 +30,57 @@ part-rest-end c = search needs
 next-requires : tie.Need-next-requires Inv-loop μ-loop
 next-requires c κs = search needs
 
+is-allowed-requires : tie.Need-is-allowed-requires Inv-loop μ-loop
+is-allowed-requires c κs = search needs
+
+same-length : tie.Need-same-length Inv-loop μ-loop
+same-length c = search needs
+
+same-length-2 : tie.Need-same-length-2 Inv-loop μ-loop
+same-length-2 c = search needs
+
 returns : tie.Need-returns Inv-loop μ-loop
-returns c = taken-all _ (c .before .before .before .before .before .loop .inv .3) (c .before .before .before .before .before .loop .inv .0) (c .before .before .before .before .before .loop .inv .2) (c .before .before .before .before .before .before .before .before .pre)
+returns c = taken-all _ (c .before .before .before .before .before .before .loop .inv .3) (c .before .before .before .before .before .before .loop .inv .2) (omega arith) (omega arith)
 
-mul-requests : tie.Need-mul-requests Inv-loop μ-loop
-mul-requests c = let few = count-few (c .before .before .before .before .before .before .before .loop .inv .3) in search needs
+load-requires : tie.Need-load-requires Inv-loop μ-loop
+load-requires c κs = let few = count-few (c .before .before .before .before .before .before .before .loop .inv .3) in omega (arith, few, c .before .before .before .before .before .before .before .loop .inv .0, c .before .before .before .before .before .before .before .before .before .before .before .pre .1)
 
-array-set-from-requests : tie.Need-array-set-from-requests Inv-loop μ-loop
-array-set-from-requests c = let few = count-few (c .before .before .before .before .before .before .before .loop .inv .3) in search needs
-
-array-write-marks : tie.Need-array-write-marks Inv-loop μ-loop
-array-write-marks c = search needs
+slice-write-marks : tie.Need-slice-write-marks Inv-loop μ-loop
+slice-write-marks c = search needs
 
 one-if-requires : tie.Need-one-if-requires Inv-loop μ-loop
 one-if-requires c κs = search needs
 
 add-count : tie.Need-add-count Inv-loop μ-loop
-add-count c = let few = count-few (c .before .before .before .before .before .before .before .before .loop .inv .3) in let one = one-least _ (c .one-if .ensures) in search needs
+add-count c = let few = count-few (c .before .before .before .before .before .before .before .before .before .before .before .loop .inv .3) in let one = one-least _ (c .one-if .ensures) in search needs
 
 add-lines : tie.Need-add-lines Inv-loop μ-loop
 add-lines c = search needs
 
 add-used : tie.Need-add-used Inv-loop μ-loop
-add-used c = search needs
+add-used c = let on = goes-on (c .before .before .before .before .before .before .before .before .before .before .before .before .before .before .before .before .args .s .now) (c .before .before .before .before .before .before .before .before .before .before .before .before .loop .used) (c .before .before .before .before .before .before .before .before .before .next .result .len) _ (c .before .before .before .before .before .before .if1 .left) in omega (arith, on .1, c .before .before .before .before .before .before .before .before .before .before .before .before .before .before .before .before .good .0)
 
 add-used-2 : tie.Need-add-used-2 Inv-loop μ-loop
-add-used-2 c = search needs
+add-used-2 c = let on = goes-on (c .before .before .before .before .before .before .before .before .before .before .before .before .before .before .before .before .args .s .now) (c .before .before .before .before .before .before .before .before .before .before .before .before .loop .used) (c .before .before .before .before .before .before .before .before .before .next .result .len) _ (c .before .before .before .before .before .before .if1 .left) in omega (arith, on .1, c .before .before .before .before .before .before .before .before .before .before .before .before .before .before .before .before .good .0)
 
 loop-less : tie.Need-loop-less Inv-loop μ-loop
 loop-less c = search needs
 
 loop-again : tie.Need-loop-again Inv-loop μ-loop
 loop-again c =
-    let few = count-few (c .before .before .before .before .before .before .before .before .before .loop .inv .3) in
-    (search needs, search needs, search needs, taken-next (c .before .before .before .before .before .before .before .before .before .loop .inv .3) (omega (arith, few)) (omega arith) (c .before .before .before .before .before .before .next .ensures .0) (c .before .before .before .before .before .before .next .ensures .1) (c .before .before .before .before .if1 .left) refl (c .before .one-if .ensures))
+    let held = c .before .before .before .before .before .before .before .before .before .before .before .before .loop .inv .3 in
+    let few = count-few held in
+    let on = goes-on (c .before .before .before .before .before .before .before .before .before .before .before .before .before .before .before .before .args .s .now) (c .before .before .before .before .before .before .before .before .before .before .before .before .loop .used) (c .before .before .before .before .before .before .before .before .before .next .result .len) _ (c .before .before .before .before .before .before .if1 .left) in
+    (search needs, search needs, search needs, taken-next held (omega (arith, few)) (omega arith) (c .before .before .before .before .before .before .before .before .before .next .ensures .0) (c .before .before .before .before .before .before .before .before .before .next .ensures .1) (on .0) (sym (c .before .before .before .before .before .before .before .is-allowed .ensures) ∙ on .2) (c .before .before .before .before .load .ensures .0) (c .before .before .before .before .load .ensures .1) (c .before .one-if .ensures))
+
+same-length-3 : tie.Need-same-length-3 Inv-loop μ-loop
+same-length-3 c = search needs
+
+same-length-4 : tie.Need-same-length-4 Inv-loop μ-loop
+same-length-4 c = search needs
 
 returns-2 : tie.Need-returns-2 Inv-loop μ-loop
-returns-2 c = taken-all _ (c .before .loop .inv .3) (c .before .loop .inv .0) (c .before .loop .inv .2) (c .before .before .before .before .pre)
+returns-2 c = taken-all _ (c .before .loop .inv .3) (c .before .loop .inv .2) (omega arith) (omega arith)
 
 pub gather-spec : {M : Type 1} → statement M
 gather-spec =
@@ -77,16 +88,17 @@ gather-spec =
     (tie.spec
     Inv-loop
     μ-loop
-    nothing-requires
     loop-holds
     sub-rest
     part-rest-start
     part-rest-end
     next-requires
+    is-allowed-requires
+    same-length
+    same-length-2
     returns
-    mul-requests
-    array-set-from-requests
-    array-write-marks
+    load-requires
+    slice-write-marks
     one-if-requires
     add-count
     add-lines
@@ -94,4 +106,6 @@ gather-spec =
     add-used-2
     loop-less
     loop-again
+    same-length-3
+    same-length-4
     returns-2)

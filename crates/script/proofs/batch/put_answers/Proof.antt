@@ -1,31 +1,30 @@
 -- `put_answers` writes one line after another. Assumes nothing.
 use Prim.Native.Nat.{_+_, _-_, _*_, _≤_}
-use mathlib.Core.Path.{_≡_, refl}
+use mathlib.Core.Path.{_≡_}
 use lib.ListN.{length, take}
 use native.Mathlib.Omega.{arith}
-use borrow.Author.Needs.{needs}
 use Rattle.script.specs.Slices.{Put}
 use Rattle.script.specs.Batches.{asked, texts}
-use Rattle.guard.proofs.Soundness.Loops.{long}
 use Rattle.script.proofs.Batches.{one-least}
-use Rattle.script.proofs.Outputs.{room-left, line-few, said-small, asked-none, asked-on, asked-below, texts-none, texts-more, texts-all}
+use Rattle.script.proofs.Outputs.{room-left, line-few, asked-none, asked-on, asked-below, texts-none, texts-more, texts-all}
+use borrow.Author.Needs.{needs}
 use Rattle.script.proofs.batch.put_answers.Statement.{statement}
 use Rattle.script.proofs.batch.put_answers.Tie as tie
 
 abbrev Inv-loop : tie.InvT-loop
-Inv-loop lines n out₀ marks answers wrote₀ i₀ j₀ k₀ out wrote i j k = (i ≤ lines) × (k ≡ n + i) × (wrote ≤ 12 * i) × (length out ≡ length out₀) × (j ≡ asked (take i marks)) × Put out₀ 0 (texts n (take i marks) answers) out wrote
+Inv-loop marks answers lines n out₀ wrote₀ i₀ j₀ k₀ out wrote i j k = (i ≤ lines) × (k ≡ n + i) × (wrote ≤ 12 * i) × (length out ≡ length out₀) × (j ≡ asked (take i marks)) × Put out₀ 0 (texts n (take i marks) answers) out wrote
 
 abbrev μ-loop : tie.MeasureT-loop
-μ-loop lines n out₀ marks answers wrote₀ i₀ j₀ k₀ out wrote i j k = lines - i
+μ-loop marks answers lines n out₀ wrote₀ i₀ j₀ k₀ out wrote i j k = lines - i
 
 loop-holds : tie.Need-loop-holds Inv-loop μ-loop
 loop-holds c = (search needs, search needs, search needs, search needs, asked-none, texts-none _ _)
 
-array-read-asks : tie.Need-array-read-asks Inv-loop μ-loop
-array-read-asks c = search needs
+shared-slice-read-asks : tie.Need-shared-slice-read-asks Inv-loop μ-loop
+shared-slice-read-asks c = search needs
 
-array-read-answer-of : tie.Need-array-read-answer-of Inv-loop μ-loop
-array-read-answer-of c = let below = asked-below (c .before .before .before .args .t1) (c .before .loop .i) (c .before .loop .inv .4) in search needs
+shared-slice-read-answer-of : tie.Need-shared-slice-read-answer-of Inv-loop μ-loop
+shared-slice-read-answer-of c = let below = asked-below _ (c .before .before .before .loop .i) (c .before .before .before .loop .inv .4) in search needs
 
 answer-of-requires : tie.Need-answer-of-requires Inv-loop μ-loop
 answer-of-requires c κs = search needs
@@ -40,7 +39,7 @@ part-put-line-end : tie.Need-part-put-line-end Inv-loop μ-loop
 part-put-line-end c = search needs
 
 put-line-requires : tie.Need-put-line-requires Inv-loop μ-loop
-put-line-requires c κs = (omega (arith, room-left (c .before .before .before .loop .wrote) (c .before .before .before .loop .out)), search needs, said-small _ _ _ (c .before .answer-of .ensures) (c .before .before .before .before .before .pre .3 _))
+put-line-requires c κs = omega (arith, room-left (c .before .before .before .before .before .loop .wrote) (c .before .before .before .before .before .loop .out))
 
 add-wrote : tie.Need-add-wrote Inv-loop μ-loop
 add-wrote c = let few = line-few _ _ (c .before .before .put-line .ensures) in search needs
@@ -49,10 +48,7 @@ one-if-requires : tie.Need-one-if-requires Inv-loop μ-loop
 one-if-requires c κs = search needs
 
 add-j : tie.Need-add-j Inv-loop μ-loop
-add-j c =
-    let below = asked-below (c .before .before .before .before .before .before .before .before .before .args .t1) (c .before .before .before .before .before .before .before .loop .i) (c .before .before .before .before .before .before .before .loop .inv .4) in
-    let more = one-least _ (c .one-if .ensures) in
-    search needs
+add-j c = let below = asked-below _ (c .before .before .before .before .before .before .before .before .before .loop .i) (c .before .before .before .before .before .before .before .before .before .loop .inv .4) in let more = one-least _ (c .one-if .ensures) in search needs
 
 add-k : tie.Need-add-k Inv-loop μ-loop
 add-k c = search needs
@@ -64,7 +60,11 @@ loop-less : tie.Need-loop-less Inv-loop μ-loop
 loop-less c = search needs
 
 loop-again : tie.Need-loop-again Inv-loop μ-loop
-loop-again c = let few = line-few _ _ (c .before .before .before .put-line .ensures) in let many : length (c .before .before .before .before .before .before .before .before .before .args .t1) ≡ 256 = search (long, c .before .before .before .before .before .before .before .before .before .good .0) in (search needs, search needs, omega arith, search needs, asked-on _ (c .before .before .before .before .before .before .before .before .before .args .t2) _ _ _ (c .before .before .before .before .before .before .before .loop .inv .4) (c .before .before .before .before .before .before .loop-test .taken) (omega arith) (c .one-if .ensures), texts-more _ _ _ _ _ (c .before .before .before .before .before .before .before .loop .inv .4) (c .before .before .before .before .before .before .loop-test .taken) (omega arith) _ _ _ (c .before .before .before .before .before .before .before .loop .inv .5) (c .before .before .before .before .before .answer-of .ensures) (c .before .before .before .before .before .before .before .loop .inv .1) (omega arith) (omega arith) (c .before .before .before .put-line .ensures))
+loop-again c =
+    let held = c .before .before .before .before .before .before .before .before .before .loop .inv in
+    let turn = c .before .before .before .before .before .before .before .before .loop-test .taken in
+    let few = line-few _ _ (c .before .before .before .put-line .ensures) in
+    (search needs, search needs, omega arith, search needs, asked-on _ (c .before .before .before .before .before .before .before .before .before .before .before .before .before .args .answers .now) _ _ _ (held .4) turn (omega arith) (c .one-if .ensures), texts-more _ _ _ _ _ (held .4) turn (omega arith) _ _ _ (held .5) (c .before .before .before .before .before .answer-of .ensures) (held .1) (omega arith) (omega arith) (c .before .before .before .put-line .ensures))
 
 same-length : tie.Need-same-length Inv-loop μ-loop
 same-length c = search needs
@@ -79,8 +79,8 @@ put-answers-spec =
     Inv-loop
     μ-loop
     loop-holds
-    array-read-asks
-    array-read-answer-of
+    shared-slice-read-asks
+    shared-slice-read-answer-of
     answer-of-requires
     sub-put-line
     part-put-line-start

@@ -1,13 +1,13 @@
 -- `answer_values` reads a line of values, answers it and writes the answer. Assumes nothing.
 use mathlib.Core.Path.{ap, _∙_}
 use Rattle.script.specs.Line.{readLine}
-use Rattle.script.proofs.Replies.{said-low, said-next, said-text}
+use Rattle.script.proofs.Replies.{said-next, said-text}
 use borrow.Author.Needs.{needs}
 use Rattle.script.proofs.runner.answer_values.Statement.{statement}
 use Rattle.script.proofs.runner.answer_values.Tie as tie
 
-read-requires : tie.Need-read-requires
-read-requires c κs = search needs
+next-requires : tie.Need-next-requires
+next-requires c κs = search needs
 
 answer-line-requires : tie.Need-answer-line-requires
 answer-line-requires c κs = search needs
@@ -16,7 +16,7 @@ add-n : tie.Need-add-n
 add-n c = search needs
 
 put-line-requires : tie.Need-put-line-requires
-put-line-requires c κs = (search needs, search needs, said-low _ _ _ (c .before .before .answer-line .ensures))
+put-line-requires c κs = search needs
 
 same-length : tie.Need-same-length
 same-length c = search needs
@@ -24,8 +24,8 @@ same-length c = search needs
 returns : tie.Need-returns
 returns c =
     record {
-      asked = c .before .before .before .before .before .before .before .before .read .result;
-      read = λ header o. c .before .before .before .before .before .before .before .before .read .ensures header o ∙ ap (readLine header) (c .before .before .before .before .before .before .before .before .before .before .before .before .pre .2);
+      asked = c .before .before .before .before .before .before .before .before .next .result .asked;
+      read = λ header o. c .before .before .before .before .before .before .before .before .next .ensures .1 header o ∙ ap (readLine header) (c .before .before .before .before .before .before .before .before .before .before .before .before .pre .2);
       next = said-next _ _ _ (c .before .before .before .before .before .before .answer-line .ensures);
       puts = said-text _ _ _ (c .before .before .before .before .before .before .answer-line .ensures) (c .before .before .before .put-line .ensures);
     }
@@ -33,4 +33,4 @@ returns c =
 pub answer-values-spec : {M : Type 1} → statement M
 answer-values-spec =
     tie.close
-    (tie.spec read-requires answer-line-requires add-n put-line-requires same-length returns)
+    (tie.spec next-requires answer-line-requires add-n put-line-requires same-length returns)

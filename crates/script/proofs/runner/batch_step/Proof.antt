@@ -1,6 +1,8 @@
 -- `batch_step`: whole lines of values as one batch. Assumes nothing.
 use native.Mathlib.Omega.{arith}
-use Rattle.script.proofs.Outputs.{answers-low, batch-done}
+use mathlib.Core.Path.{sym, _∙_}
+use lib.Seq.{length-take-le}
+use Rattle.script.proofs.Outputs.{fits-in, room-for, batch-done}
 use borrow.Author.Needs.{needs}
 use Rattle.script.proofs.runner.batch_step.Statement.{statement}
 use Rattle.script.proofs.runner.batch_step.Tie as tie
@@ -17,8 +19,23 @@ values-step-requires c κs = search needs
 same-length : tie.Need-same-length
 same-length c = search needs
 
+same-length-2 : tie.Need-same-length-2
+same-length-2 c = search needs
+
+same-length-3 : tie.Need-same-length-3
+same-length-3 c = search needs
+
 returns : tie.Need-returns
 returns c = search needs
+
+mul-n : tie.Need-mul-n
+mul-n c = let few = fits-in (c .before .before .before .before .before .before .before .before .before .most .ensures) (c .before .before .before .before .before .before .gather .ensures) in search needs
+
+slice-reshare-prefix-run : tie.Need-slice-reshare-prefix-run
+slice-reshare-prefix-run c = c .before .before .before .before .before .before .before .gather .ensures .stored
+
+slice-aggregate-run : tie.Need-slice-aggregate-run
+slice-aggregate-run c = sym (length-take-le _ _ (c .before .before .before .before .before .before .before .before .gather .ensures .stored))
 
 run-requires : tie.Need-run-requires
 run-requires c κs = search needs
@@ -27,23 +44,28 @@ add-put-answers : tie.Need-add-put-answers
 add-put-answers c = search needs
 
 put-answers-requires : tie.Need-put-answers-requires
-put-answers-requires c κs =
-    let most = c .before .before .before .before .before .before .before .before .before .most .ensures in
-    let took = c .before .before .before .before .before .before .before .before .gather .ensures in
-    (omega (arith, took .few, most .fits), omega (arith, took .few, most .space), omega (arith, took .few, most .last), answers-low _ _ _ (c .before .before .before .before .run .ensures) (took .fits))
+put-answers-requires c κs = room-for (c .before .before .before .before .before .before .run .last .1 .1 .0) (c .before .before .before .before .before .before .before .before .before .before .before .before .before .before .before .before .before .before .before .most .ensures) (c .before .before .before .before .before .before .before .before .before .before .before .before .before .before .before .before .gather .ensures) (c .before .before .before .before .before .before .before .before .before .before .before .if1 .left) (c .before .before .before .before .before .before .run .kept .1 .1 .0 ∙ c .before .before .before .before .before .before .before .before .before .before .before .before .before .before .before .before .before .before .before .before .before .before .before .before .before .before .pre .2 .answersRoom)
 
 cast-r : tie.Need-cast-r
-cast-r c = search needs
+cast-r c = let took = c .before .before .before .before .before .before .before .before .before .before .before .before .before .before .before .before .before .before .before .gather .ensures in let most = c .before .before .before .before .before .before .before .before .before .before .before .before .before .before .before .before .before .before .before .before .before .before .most .ensures in search needs
 
 add-r : tie.Need-add-r
-add-r c = search needs
+add-r c = let took = c .before .before .before .before .before .before .before .before .before .before .before .before .before .before .before .before .before .before .before .before .gather .ensures in let most = c .before .before .before .before .before .before .before .before .before .before .before .before .before .before .before .before .before .before .before .before .before .before .before .most .ensures in search needs
 
-same-length-2 : tie.Need-same-length-2
-same-length-2 c = search needs
+same-length-4 : tie.Need-same-length-4
+same-length-4 c = search needs
+
+same-length-5 : tie.Need-same-length-5
+same-length-5 c = search needs
+
+same-length-6 : tie.Need-same-length-6
+same-length-6 c = search needs
+
+same-length-7 : tie.Need-same-length-7
+same-length-7 c = search needs
 
 returns-2 : tie.Need-returns-2
-returns-2 c =
-    batch-done _ _ _ _ _ _ _ _ _ (c .before .before .before .before .before .before .before .before .before .before .before .before .before .before .before .before .before .before .pre .0) (c .before .before .before .before .before .before .before .before .before .before .before .before .before .before .before .before .before .before .pre .1) (c .before .before .before .before .before .before .before .before .before .before .before .before .before .before .before .before .before .before .pre .2) (c .before .before .before .before .before .before .before .before .before .before .before .before .before .before .most .ensures) (c .before .before .before .before .before .before .before .before .before .before .before .before .before .gather .ensures) (c .before .before .before .before .before .before .before .before .before .before .before .before .if1 .left) (c .before .before .before .before .before .before .before .before .before .run .ensures) (c .before .before .before .before .put-answers .ensures)
+returns-2 c = batch-done _ _ _ _ _ _ _ _ _ _ _ _ _ (c .before .before .before .before .before .before .before .before .before .before .before .before .before .before .before .before .before .before .before .before .before .before .before .before .before .before .before .before .before .before .pre .0) (c .before .before .before .before .before .before .before .before .before .before .before .before .before .before .before .before .before .before .before .before .before .before .before .before .before .before .before .before .before .before .pre .1) (c .before .before .before .before .before .before .before .before .before .before .before .before .before .before .before .before .before .before .before .before .before .before .before .most .ensures) (c .before .before .before .before .before .before .before .before .before .before .before .before .before .before .before .before .before .before .before .before .gather .ensures) (c .before .before .before .before .before .before .before .before .before .before .before .before .before .before .before .if1 .left) (c .before .before .before .before .before .before .before .before .before .before .before .before .before .before .before .before .before .before .before .before .before .before .before .before .before .before .before .before .before .before .pre .2 .answersRoom) (c .before .before .before .before .before .before .before .before .before .before .run .ensures) (c .before .before .before .put-answers .ensures)
 
 pub batch-step-spec : {M : Type 1} → statement M
 batch-step-spec =
@@ -53,11 +75,19 @@ batch-step-spec =
     gather-requires
     values-step-requires
     same-length
+    same-length-2
+    same-length-3
     returns
+    mul-n
+    slice-reshare-prefix-run
+    slice-aggregate-run
     run-requires
     add-put-answers
     put-answers-requires
     cast-r
     add-r
-    same-length-2
+    same-length-4
+    same-length-5
+    same-length-6
+    same-length-7
     returns-2)

@@ -1,8 +1,7 @@
--- `one`: the step of the runner's phase, a batch where `user` is shut out. Assumes nothing.
+-- `one`: the step of the runner's phase. Assumes nothing.
 use native.Mathlib.Omega.{arith}
 use Rattle.script.proofs.Steps.{over-stops, idle-step}
 use borrow.Author.Needs.{needs}
-use borrow.Author.Tests.{not-true}
 use Rattle.script.proofs.runner.one.Statement.{statement}
 use Rattle.script.proofs.runner.one.Tie as tie
 
@@ -15,8 +14,8 @@ same-length c = search needs
 returns : tie.Need-returns
 returns c = search needs
 
-batch-step-requires : tie.Need-batch-step-requires
-batch-step-requires c κs = (c .before .before .before .before .if2 .taken, c .before .before .before .if3 .taken, not-true _ (c .before .if4 .taken))
+values-step-requires : tie.Need-values-step-requires
+values-step-requires c κs = search needs
 
 same-length-2 : tie.Need-same-length-2
 same-length-2 c = search needs
@@ -24,11 +23,20 @@ same-length-2 c = search needs
 returns-2 : tie.Need-returns-2
 returns-2 c = search needs
 
-values-step-requires : tie.Need-values-step-requires
-values-step-requires c κs = search needs
+batch-step-requires : tie.Need-batch-step-requires
+batch-step-requires c κs = search needs
 
 same-length-3 : tie.Need-same-length-3
 same-length-3 c = search needs
+
+same-length-4 : tie.Need-same-length-4
+same-length-4 c = search needs
+
+same-length-5 : tie.Need-same-length-5
+same-length-5 c = search needs
+
+same-length-6 : tie.Need-same-length-6
+same-length-6 c = search needs
 
 returns-3 : tie.Need-returns-3
 returns-3 c = search needs
@@ -46,11 +54,14 @@ one-spec =
     names-step-requires
     same-length
     returns
-    batch-step-requires
+    values-step-requires
     same-length-2
     returns-2
-    values-step-requires
+    batch-step-requires
     same-length-3
+    same-length-4
+    same-length-5
+    same-length-6
     returns-3
     idle-requires
     returns-4)
