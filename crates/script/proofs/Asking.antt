@@ -14,7 +14,7 @@ use Rattle.script.specs.Text.{values}
 use Rattle.script.specs.Names.{names, under}
 use Rattle.script.specs.Line.{used, Numbers, these, asks, lineOf, readLine}
 use Rattle.script.specs.Slices.{Ordered}
-use Rattle.script.specs.Rows.{fine, IsRow, takeFrom, ahead, members}
+use Rattle.script.specs.Rows.{noWord, fine, IsRow, takeFrom, ahead, members}
 use Rattle.script.specs.declared.line.Line.{Line}
 use Rattle.script.specs.declared.line.Line.the-variants.{Bad}
 use Rattle.script.specs.declared.fields.Half.{Half}
@@ -86,14 +86,14 @@ module _ {h : List (List ℕ)} {at l vals : List ℕ} {r : Row} (o : Ordered h a
           form = λ i m. row-form o (values l) i m (parts .1);
         }
 
-    pub read-unknown : 16 < getD vals 0 0 → Bad ≡ readLine h l
+    pub read-unknown : noWord ≤ getD vals 0 0 → Bad ≡ readLine h l
     read-unknown m = line-unknown _ _ _ held m ∙ read-good
 
-    read-known : (u : ℕ) → getD vals 0 0 ≤ 16 → members u 1 11 ≡ used (getD vals 0 0)
+    read-known : (u : ℕ) → getD vals 0 0 < noWord → members u 1 11 ≡ used (getD vals 0 0)
         → asks (getD vals 0 0) (takeFrom u (r .given) vals 1 11 (these [])) ≡ readLine h l
     read-known u m e = line-known _ _ _ u held m e ∙ read-good
 
-    pub read-halves : (u : ℕ) (x : Half) → getD vals 0 0 ≤ 16 → members u 1 11 ≡ used (getD vals 0 0)
+    pub read-halves : (u : ℕ) (x : Half) → getD vals 0 0 < noWord → members u 1 11 ≡ used (getD vals 0 0)
         → ((rest : Numbers) → takeFrom u (r .given) vals 1 6 rest ≡ ahead x rest)
         → asks (getD vals 0 0) (ahead x (takeFrom u (r .given) vals 7 5 (these []))) ≡ readLine h l
     read-halves u x m e f = ap (asks (getD vals 0 0)) (sym (f _) ∙ sym (take-split u (r .given) vals 1 6 5 (these []))) ∙ read-known u m e

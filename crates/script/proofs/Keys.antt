@@ -20,7 +20,7 @@ use borrow.Author.Tests.{le-leb, lt-leb, eq-eqb, ne-eqb, eqb-true, leb-true, leb
 use Rattle.bitset.specs.Tests.Laws.{both}
 use Rattle.script.specs.Text.{bytes, same}
 use Rattle.script.specs.Names.{names, column}
-use Rattle.script.specs.Line.{words}
+use Rattle.script.specs.Line.{requestWords, words}
 use Rattle.script.specs.Keys.{packed, keyOf, spot}
 
 -- ---- the loop that makes a key: k is the first i bytes
@@ -206,7 +206,8 @@ name-keys = record { keys = refl; fit = refl }
 
 abbrev pub wordKeys : List ℕ
 wordKeys =
-    0x16c6f67696e
+    0x175736572
+    ∷ 0x16c6f67696e
     ∷ 0x16c6f676f7574
     ∷ 0x174616b65
     ∷ 0x164726f70
@@ -222,9 +223,8 @@ wordKeys =
     ∷ 0x1756e6c697374
     ∷ 0x16d616b65
     ∷ 0x1756e6d616b65
-    ∷ 0x175736572
     ∷ []
 
 pub word-keys : Keyed words wordKeys
-unfolding words bytes keyOf packed
+unfolding words requestWords bytes keyOf packed
 word-keys = record { keys = refl; fit = refl }

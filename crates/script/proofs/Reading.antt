@@ -12,14 +12,14 @@ use native.Mathlib.Nat.{add-zero}
 use native.Mathlib.Omega.{arith}
 use lib.Dec.{ltb, eqb}
 use lib.ListN.{length, getD}
-use borrow.Author.Tests.{ne-eqb, le-leb, lt-leb, lt-ltb, eqb-true}
+use borrow.Author.Tests.{ne-eqb, lt-ltb, le-ltb, eqb-true}
 use Rattle.bitset.specs.Sets.{has}
 use Rattle.bitset.specs.Tests.{all}
 use Rattle.bitset.specs.Tests.Laws.{all-e}
 use Rattle.script.specs.Text.{bytes, same}
 use Rattle.script.specs.Names.{column}
-use Rattle.script.specs.Line.{valueOf, words, used, Numbers, these, taken, takeAll, asks, lineOf}
-use Rattle.script.specs.Rows.{coded, codeAt, blank, takenAs, joins, takeFrom, members}
+use Rattle.script.specs.Line.{valueOf, requestWords, words, used, Numbers, these, taken, takeAll, asks, lineOf}
+use Rattle.script.specs.Rows.{coded, codeAt, noWord, blank, takenAs, joins, takeFrom, members}
 use Rattle.script.specs.declared.line.Value.{Value}
 use Rattle.script.specs.declared.line.Value.the-variants.{Digits, Dash, Other}
 use Rattle.script.specs.declared.line.Line.the-variants.{Bad}
@@ -103,34 +103,34 @@ module _ {us : List (List ℕ)} {vals : List ℕ} {given : ℕ} (c : Held us val
       (blank-later k l)
       (rw code-later at (c .form (suc k) (omega arith)))
 
-dash-word : column (bytes "-") words ≡ 17
-unfolding column words same bytes
+dash-word : column (bytes "-") words ≡ noWord
+unfolding column words requestWords same bytes
 dash-word = refl
 
 first-word : (w : List ℕ) {n : ℕ} → n ≡ cond (ltb (codeAt 0 w) 100000) (codeAt 0 w) (getD blank 0 0) → n ≡ column w words
 unfolding codeAt blank
 first-word w e = e ∙ go (same w (bytes "-")) refl
   where
-    go : (b : Bool) → same w (bytes "-") ≡ b → cond (ltb (cond b 100000 (column w words)) 100000) (cond b 100000 (column w words)) 17 ≡ column w words
+    go : (b : Bool) → same w (bytes "-") ≡ b → cond (ltb (cond b 100000 (column w words)) 100000) (cond b 100000 (column w words)) noWord ≡ column w words
     go true h = sym (ap (λ (v : List ℕ). column v words) (same-eq w (bytes "-") h) ∙ dash-word)
     go false h = rw (lt-ltb (column w words) 100000 (omega (arith, column-most w words, words-length)))
 
 -- ---- lines
-pub line-unknown : (us : List (List ℕ)) (vals : List ℕ) (g : ℕ) → Held us vals g → 16 < getD vals 0 0 → Bad ≡ lineOf us
+pub line-unknown : (us : List (List ℕ)) (vals : List ℕ) (g : ℕ) → Held us vals g → noWord ≤ getD vals 0 0 → Bad ≡ lineOf us
 unfolding lineOf
 line-unknown [] vals g c h = absurd (no-values (c .twelve))
 line-unknown (w ∷ ws) vals g c h =
     let e : getD vals 0 0 ≡ column w words = first-word w (c .number 0 (omega arith)) in
-    rw (lt-leb (column w words) 16 (rw (← e) h))
+    rw (words-length, le-ltb (column w words) noWord (rw (← e) h))
 
 one-more : (k : ℕ) → 1 + k ≡ suc k
 one-more k = omega arith
 
-pub line-known : (us : List (List ℕ)) (vals : List ℕ) (g u : ℕ) → Held us vals g → getD vals 0 0 ≤ 16 → members u 1 11 ≡ used (getD vals 0 0)
+pub line-known : (us : List (List ℕ)) (vals : List ℕ) (g u : ℕ) → Held us vals g → getD vals 0 0 < noWord → members u 1 11 ≡ used (getD vals 0 0)
     → asks (getD vals 0 0) (takeFrom u g vals 1 11 (these [])) ≡ lineOf us
 unfolding lineOf
 line-known [] vals g u c h m = absurd (no-values (c .twelve))
 line-known (w ∷ ws) vals g u c h m =
     let e : getD vals 0 0 ≡ column w words = first-word w (c .number 0 (omega arith)) in
     let f : takeAll (members u 1 11) ws ≡ takeFrom u g vals 1 11 (these []) = takeAll-from u g vals 1 11 ws (omega (arith, c .twelve)) (λ k l. rw one-more (later c k l)) in
-    rw (← e, le-leb (getD vals 0 0) 16 h, ← m, f)
+    rw (words-length, ← e, lt-ltb (getD vals 0 0) noWord h, ← m, f)

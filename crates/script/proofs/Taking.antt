@@ -17,7 +17,7 @@ use Rattle.bitset.specs.Sets.{has}
 use Rattle.bitset.specs.Tests.{all}
 use Rattle.bitset.specs.Tests.Laws.{all-e}
 use Rattle.guard.proofs.Compute.{computing}
-use Rattle.script.specs.Line.{Numbers, these, unreadable, joined, asks, used, isUsed, ordinal, fields}
+use Rattle.script.specs.Line.{userWord, callOf, Numbers, these, unreadable, joined, asks, used, isUsed, ordinal, fields}
 use Rattle.script.specs.Rows.{takenAs, joins, takeFrom, front, ahead, members}
 use Rattle.script.specs.declared.line.Line.the-variants.{Ask, SetUser, Bad}
 use Rattle.script.specs.declared.fields.Taken.{Taken}
@@ -108,14 +108,14 @@ module _ (w : ℕ) (six : Six) (x : Numbers) where
   asks-bad h = rw h
 
   module _ (name level cats rights ceiling : ℕ) (h : x ≡ these (name ∷ level ∷ cats ∷ rights ∷ ceiling ∷ [])) where
-    pub asks-user : w ≡ 16 → SetUser (six .user) level cats ceiling ≡ asks w (ahead (Whole six) x)
+    pub asks-user : w ≡ userWord → SetUser (six .user) level cats ceiling ≡ asks w (ahead (Whole six) x)
     unfolding asks ahead front joined
     asks-user e = rw (h, e)
 
-    pub asks-request : (w ≡ 16 → ⊥)
+    pub asks-request : (w ≡ userWord → ⊥)
         → Ask
         (record {
-          call = w;
+          call = callOf w;
           seat = six .seat;
           user = six .user;
           role = six .role;
@@ -129,11 +129,11 @@ module _ (w : ℕ) (six : Six) (x : Numbers) where
         })
         ≡ asks w (ahead (Whole six) x)
     unfolding asks ahead front joined
-    asks-request e = rw (h, ne-eqb w 16 e)
+    asks-request e = rw (h, ne-eqb w userWord e)
 
 -- ---- which fields a word uses: the sets of the seventeen words, and the definition, by computing
 unfoldable pub table : List ℕ
-table = 774 ∷ 2 ∷ 10 ∷ 10 ∷ 18 ∷ 18 ∷ 18 ∷ 1018 ∷ 18 ∷ 146 ∷ 1050 ∷ 1050 ∷ 14 ∷ 14 ∷ 10 ∷ 10 ∷ 2820 ∷ []
+table = 2820 ∷ 774 ∷ 2 ∷ 10 ∷ 10 ∷ 18 ∷ 18 ∷ 18 ∷ 1018 ∷ 18 ∷ 146 ∷ 1050 ∷ 1050 ∷ 14 ∷ 14 ∷ 10 ∷ 10 ∷ []
 
 alike : List Bool → List Bool → Bool
 alike [] [] = true

@@ -6,9 +6,9 @@ use mathlib.Core.Path.{_≡_, refl, ap, sym, _∙_}
 use mathlib.Core.Bool.{Bool, true, false, cond}
 use mathlib.Core.List.{List, [], _∷_}
 use native.Mathlib.Omega.{arith}
-use lib.Dec.{leb}
+use lib.Dec.{ltb}
 use lib.ListN.{length, getD}
-use borrow.Author.Tests.{leb-true}
+use borrow.Author.Tests.{ltb-true}
 use Rattle.script.specs.Text.{bytes, same}
 use Rattle.script.specs.Names.{column}
 use Rattle.script.specs.Line.{valueOf, words, used, Numbers, unreadable, joined, taken, takeAll, asks, lineOf}
@@ -73,14 +73,14 @@ pub line-none : (us : List (List ℕ)) (i : ℕ) → length us ≡ 12 → i < 12
 unfolding lineOf asks
 line-none [] i t l h = absurd (no-values t)
 line-none (w ∷ ws) zero t l h = absurd (code-word-small w h)
-line-none (w ∷ ws) (suc k) t l h = go (leb (column w words) 16) refl
+line-none (w ∷ ws) (suc k) t l h = go (ltb (column w words) (length words)) refl
   where
     none : valueOf (getD ws k []) ≡ Other
     none = other-value (getD ws k []) (valueOf (getD ws k [])) refl (rw code-later at h)
 
-    go : (b : Bool) → leb (column w words) 16 ≡ b → Bad ≡ cond b (asks (column w words) (takeAll (used (column w words)) ws)) Bad
+    go : (b : Bool) → ltb (column w words) (length words) ≡ b → Bad ≡ cond b (asks (column w words) (takeAll (used (column w words)) ws)) Bad
     go true e =
-        let n : length (used (column w words)) ≡ 11 = sym (ap length (table-used (column w words) (omega (arith, leb-true (column w words) 16 e)))) ∙ members-length _ 1 11 in
+        let n : length (used (column w words)) ≡ 11 = sym (ap length (table-used (column w words) (omega (arith, ltb-true (column w words) (length words) e, words-length)))) ∙ members-length _ 1 11 in
         bad (takeAll-other (used (column w words)) ws k (omega arith) (omega arith) none)
       where
         bad : {x : Numbers} → x ≡ unreadable → Bad ≡ asks (column w words) x

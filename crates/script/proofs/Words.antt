@@ -18,8 +18,9 @@ use Rattle.bitset.specs.Tests.{all}
 use Rattle.bitset.specs.Tests.Laws.{all-e}
 use Rattle.script.specs.Text.{bytes, same}
 use Rattle.script.specs.Names.{column}
-use Rattle.script.specs.Line.{words}
+use Rattle.script.specs.Line.{requestWords, words}
 use Rattle.script.specs.Slices.{leading}
+use Rattle.script.specs.Rows.{noWord}
 use Rattle.script.specs.Keys.{packed, keyOf, spot, wordOf, Begins}
 use Rattle.script.proofs.Keys.{Bytes, Misses, by-key, spot-none, wordKeys, word-keys}
 use Rattle.script.proofs.Headers.{column-found}
@@ -96,11 +97,11 @@ bytes-take n s l b i = go (decLt i n)
 
 -- ---- a word and a space behind it
 plain : all 17 (λ i. clean (getD words i []) && not (same (getD words i []) (bytes "-"))) ≡ true
-unfolding all words bytes same
+unfolding all words requestWords bytes same
 plain = refl
 
-pub words-length : length words ≡ 17
-unfolding words
+pub words-length : length words ≡ noWord
+unfolding words requestWords
 words-length = refl
 
 pub record Word (t p : List ℕ) (w : ℕ) : Type 0 where

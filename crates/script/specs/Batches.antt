@@ -9,7 +9,7 @@ use Rattle.guard.specs.Step.{run, answers}
 use Rattle.guard.specs.Batch.{rowLength, requests}
 use Rattle.guard.specs.declared.Tables.{Tables}
 use Rattle.guard.specs.declared.Request.{Request}
-use Rattle.script.specs.Report.{lineText, lastLine}
+use Rattle.script.specs.Report.{unreadAnswer, lineText, lineRoom, lastLine}
 use Rattle.script.specs.Slices.{Ordered}
 use Rattle.script.specs.Run.{bench, put, fromLine}
 use Rattle.script.specs.declared.line.Line.{Line}
@@ -55,7 +55,7 @@ asked (m ∷ ms) = one m + asked ms
 -- from number n on, given the answers to their requests: 17 where a line asks none
 unfoldable pub said : Bool → ℕ → ℕ
 said true a = a
-said false a = 17
+said false a = unreadAnswer
 
 unfoldable pub texts : ℕ → List Bool → List ℕ → List ℕ
 texts n [] given = []
@@ -71,7 +71,7 @@ pub record Lent (rows : List ℕ) (marks : List Bool) (answers : List ℕ) : Typ
 -- how many lines a batch may take: with room for their answers, and none after the last line that is read
 pub record Most (done room m : ℕ) : Type 0 where
   pub fits : m ≤ batchLines
-  pub space : 12 * m ≤ room
+  pub space : lineRoom * m ≤ room
   pub last : m ≤ lastLine - done
 
 -- whole lines at the front of s, `shut` telling whether `user` is shut out before them. Whatever input follows, what was left

@@ -1,8 +1,8 @@
 -- One line of values.
-use Prim.Native.Nat.{ℕ}
+use Prim.Native.Nat.{ℕ, _-_}
 use mathlib.Core.Bool.{Bool, true, false, cond, _||_}
 use mathlib.Core.List.{List, [], _∷_, _++_, map}
-use lib.Dec.{leb, eqb}
+use lib.Dec.{leb, ltb, eqb}
 use lib.ListN.{length, getD}
 use Rattle.bitset.specs.Tests.{every}
 use Rattle.guard.specs.Requests.{Field, call, seat, user, role, entity, parent, kind, name, label, rights, Rule, unknown, rules}
@@ -12,7 +12,7 @@ use Rattle.script.specs.declared.line.Value.the-variants.{Digits, Dash, 
 use Rattle.script.specs.declared.line.Line.{Line}
 use Rattle.script.specs.declared.line.Line.the-variants.{Ask, SetUser, Bad}
 use Rattle.script.specs.Text.{bytes, same, values, allDigits, number}
-use Rattle.script.specs.Names.{column, under}
+use Rattle.script.specs.Names.{nameCount, column, under}
 
 -- ---- values
 -- Values are 1 to 5 decimal digits, `-` for a field the request does not use
@@ -21,9 +21,9 @@ valueOf bs =
     cond (same bs (bytes "-")) Dash
     (cond (every (leb 1 (length bs) ∷ leb (length bs) 5 ∷ allDigits bs ∷ [])) (Digits (number 0 bs)) Other)
 
--- .. and the request's word under `call`. The place of a word is the request's number; `user` stands behind the sixteen.
-unfoldable pub words : List (List ℕ)
-words =
+-- .. and the request's word under `call`: the sixteen, in the order of their numbers
+unfoldable pub requestWords : List (List ℕ)
+requestWords =
     bytes "login"
     ∷ bytes "logout"
     ∷ bytes "take"
@@ -40,11 +40,18 @@ words =
     ∷ bytes "unlist"
     ∷ bytes "make"
     ∷ bytes "unmake"
-    ∷ bytes "user"
     ∷ []
 
+-- .. and in front of them the word `user`
+unfoldable pub words : List (List ℕ)
+words = bytes "user" ∷ requestWords
+
 abbrev pub userWord : ℕ
-userWord = 16
+userWord = 0
+
+-- the number of the request whose word has the place w
+abbrev pub callOf : ℕ → ℕ
+callOf w = w - 1
 
 -- ---- which fields a word uses
 -- a field's place among all, to compare two
@@ -74,7 +81,7 @@ unfoldable pub used : ℕ → List Bool
 used word =
     cond (eqb word userWord)
     (false ∷ true ∷ false ∷ false ∷ false ∷ false ∷ false ∷ true ∷ true ∷ false ∷ true ∷ [])
-    (map (isUsed (getD rules word unknown .uses)) fields ++ (false ∷ []))
+    (map (isUsed (getD rules (callOf word) unknown .uses)) fields ++ (false ∷ []))
 
 -- ---- reading
 -- the numbers of a line, 0 where a field is not used; or a line that can't be read
@@ -106,7 +113,7 @@ asks word (these ns) =
     cond (eqb word userWord) (SetUser (getD ns 1 0) (getD ns 7 0) (getD ns 8 0) (getD ns 10 0))
     (Ask
     (record {
-      call = word;
+      call = callOf word;
       seat = getD ns 0 0;
       user = getD ns 1 0;
       role = getD ns 2 0;
@@ -125,11 +132,14 @@ unfoldable pub lineOf : List (List ℕ) → Line
 lineOf [] = Bad
 lineOf (w ∷ vs) =
     let word = column w words in
-    cond (leb word userWord) (asks word (takeAll (used word) vs)) Bad
+    cond (ltb word (length words)) (asks word (takeAll (used word) vs)) Bad
+
+abbrev pub longestLine : ℕ
+longestLine = 255
 
 -- Other faults in a line (over 255 bytes before byte 10, empty, wrong number of values, a value of another form, a dash or
 -- number in the wrong place, unknown word, ..) give 17. An empty line has one value, of no form.
 unfoldable pub readLine : List (List ℕ) → List ℕ → Line
 readLine header l =
     let vs = values l in
-    cond (every (leb (length l) 255 ∷ eqb (length vs) 12 ∷ [])) (lineOf (under header vs)) Bad
+    cond (every (leb (length l) longestLine ∷ eqb (length vs) nameCount ∷ [])) (lineOf (under header vs)) Bad

@@ -7,6 +7,9 @@ use lib.ListN.{length, getD}
 use Rattle.bitset.specs.Tests.{every}
 use Rattle.script.specs.Text.{bytes, same}
 
+abbrev pub nameCount : ℕ
+nameCount = 12
+
 -- The twelve names are those in the sample
 unfoldable pub names : List (List ℕ)
 names =
@@ -35,7 +38,7 @@ among (q ∷ ps) p = same p q || among ps p
 
 -- each once, in any order: twelve, and each of the names among them
 unfoldable pub isNames : List (List ℕ) → Bool
-isNames header = every (eqb (length header) 12 ∷ map (among header) names)
+isNames header = every (eqb (length header) nameCount ∷ map (among header) names)
 
 -- then lines of values in that order: the value under each name, in the sample's order
 unfoldable pub under : List (List ℕ) → List (List ℕ) → List (List ℕ)

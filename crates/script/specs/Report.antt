@@ -27,8 +27,11 @@ pub record Answered : Type 0 where
   pub answer : ℕ
 
 -- 17 (program only) a line that can't be read; it .. change[s] nothing.
+abbrev pub unreadAnswer : ℕ
+unreadAnswer = 17
+
 abbrev pub unread : Bench → Answered
-unread b = record { bench = b; answer = 17 }
+unread b = record { bench = b; answer = unreadAnswer }
 
 -- The word `user` sets a user's clearance and ceiling; .. the last for a user holds, and users not set are 0 throughout.
 unfoldable pub withUser : Tables → ℕ → ℕ → ℕ → ℕ → Tables
@@ -62,6 +65,10 @@ heading = bytes "line answer" ++ (10 ∷ [])
 unfoldable pub lineText : ℕ → ℕ → List ℕ
 lineText n a = decimal n ++ (32 ∷ (decimal a ++ (10 ∷ [])))
 
+-- two numbers of at most five digits, a space and byte 10
+abbrev pub lineRoom : ℕ
+lineRoom = 12
+
 -- the lines of values from number n on, under the names of the header
 unfoldable pub answered : List (List ℕ) → Bench → ℕ → List (List ℕ) → List ℕ
 answered header b n [] = []
@@ -78,8 +85,8 @@ opening = record { tables = fresh (replicate userCount noUser); shut = false }
 
 -- A bad or missing first line prints `1 17` below the output's names and ends.
 unfoldable pub below : List (List ℕ) → List ℕ
-below [] = lineText 1 17
-below (h ∷ ls) = cond (isNames (values h)) (answered (values h) opening 2 ls) (lineText 1 17)
+below [] = lineText 1 unreadAnswer
+below (h ∷ ls) = cond (isNames (values h)) (answered (values h) opening 2 ls) (lineText 1 unreadAnswer)
 
 unfoldable pub report : List ℕ → List ℕ
 report input = heading ++ below (take lastLine (lines input))

@@ -8,7 +8,7 @@ use lib.Dec.{eqb, leb, ltb}
 use lib.ListN.{length, getD, set, drop, replicate}
 use Rattle.bitset.specs.Sets.{has, with}
 use Rattle.script.specs.Text.{bytes, same, values}
-use Rattle.script.specs.Names.{column}
+use Rattle.script.specs.Names.{nameCount, column}
 use Rattle.script.specs.Line.{valueOf, words, Numbers, unreadable, joined}
 use Rattle.script.specs.Slices.{leading}
 use Rattle.script.specs.declared.line.Value.{Value}
@@ -50,9 +50,13 @@ nameAt at j = getD at j 0 % 16
 unfoldable pub codeIn : List ℕ → List (List ℕ) → ℕ → ℕ
 codeIn at vs j = codeAt (nameAt at j) (getD vs j [])
 
+-- what is no word has the place behind the last: how many words there are
+abbrev pub noWord : ℕ
+noWord = 17
+
 -- the row of no values: no word, and 0 under each other name
 unfoldable pub blank : List ℕ
-blank = set (replicate 16 0) 0 17
+blank = set (replicate 16 0) 0 noWord
 
 -- of the first j values the numbers, each under its name; the set of their names; and whether each has a form
 unfoldable pub gathered : List ℕ → List (List ℕ) → ℕ → List ℕ
@@ -70,9 +74,9 @@ fine at vs (suc j) = fine at vs j && leb (codeIn at vs j) 100000
 -- the row of a line l: good where it has twelve values, each of a form
 pub record IsRow (at l vals : List ℕ) (r : Row) : Type 0 where
   pub long : r .len ≡ length l
-  pub twelve : r .good ≡ (eqb (length (values l)) 12 && fine at (values l) 12)
-  pub holds : r .good ≡ true → vals ≡ gathered at (values l) 12
-  pub marks : r .good ≡ true → r .given ≡ marked at (values l) 12
+  pub twelve : r .good ≡ (eqb (length (values l)) nameCount && fine at (values l) nameCount)
+  pub holds : r .good ≡ true → vals ≡ gathered at (values l) nameCount
+  pub marks : r .good ≡ true → r .given ≡ marked at (values l) nameCount
 
 -- ---- fields
 -- what a field is taken as, by whether the word uses it and whether its value is a number

@@ -9,9 +9,9 @@ use lib.Dec.{eqb, leb, ltb}
 use lib.ListN.{length, take, drop, replicate}
 use Rattle.guard.specs.declared.Tables.{Tables}
 use Rattle.script.specs.Text.{lines, values}
-use Rattle.script.specs.Names.{isNames}
-use Rattle.script.specs.Line.{readLine}
-use Rattle.script.specs.Report.{Bench, Answered, answerLine, heading, lineText, answered, lastLine, opening, below}
+use Rattle.script.specs.Names.{nameCount, isNames}
+use Rattle.script.specs.Line.{longestLine, readLine}
+use Rattle.script.specs.Report.{Bench, Answered, unreadAnswer, answerLine, heading, lineText, lineRoom, answered, lastLine, opening, below}
 use Rattle.script.specs.Slices.{after, Put, Ordered}
 use Rattle.script.specs.declared.line.Line.{Line}
 use Rattle.script.specs.declared.runner.Runner.{Runner}
@@ -123,7 +123,7 @@ over r = record { tables = r .tables; shut = r .shut; at = r .at; phase = atEnd;
 
 pub data Named (r : Runner) (l old : List ℕ) : List ℕ → Said → Type 0 where
   good : (at : List ℕ) → Ordered (values l) at → Named r l old old (record { runner = withNames r at; wrote = 0 })
-  bad : {new : List ℕ} {n : ℕ} → isNames (values l) ≡ false → Put old 0 (lineText 1 17) new n → Named r l old new (record { runner = over r; wrote = n })
+  bad : {new : List ℕ} {n : ℕ} → isNames (values l) ≡ false → Put old 0 (lineText 1 unreadAnswer) new n → Named r l old new (record { runner = over r; wrote = n })
 
 -- ---- a call on a piece
 -- whatever input follows, what was left to tell is w and then what is left to tell now
@@ -149,7 +149,7 @@ pub data Open (r : Runner) (left : List ℕ) : Type 0 where
 
 -- no more can be done: nothing is left to be done, or there is no room, or no whole line is left and more input is to come
 abbrev pub Stopped : Runner → List ℕ → Bool → ℕ → Type 0
-Stopped r left end room = Open r left → 12 ≤ room → (end ≡ false) × (length left ≤ 255) × (atNames ≤ r .phase)
+Stopped r left end room = Open r left → lineRoom ≤ room → (end ≡ false) × (length left ≤ longestLine) × (atNames ≤ r .phase)
 
 -- where a call on a piece ends
 pub record Finished (r : Runner) (piece : List ℕ) (end : Bool) (old new : List ℕ) (x : Ran) : Type 0 where
@@ -176,7 +176,7 @@ unbegun =
     record {
       tables = opening .tables;
       shut = false;
-      at = replicate 12 0;
+      at = replicate nameCount 0;
       phase = atHeading;
       done = 0;
       skip = false;

@@ -7,7 +7,7 @@ use mathlib.Core.List.{List, [], _∷_}
 use lib.Dec.{eqb}
 use lib.ListN.{length, getD}
 use lib.Seq.{sets}
-use Rattle.script.specs.Names.{names, column, isNames}
+use Rattle.script.specs.Names.{nameCount, names, column, isNames}
 
 -- what stands before the first byte d, and what stands after it
 unfoldable pub before : ℕ → List ℕ → List ℕ
@@ -33,4 +33,4 @@ pub record Put (old : List ℕ) (i : ℕ) (vs : List ℕ) (new : List ℕ) (r : 
 -- `at` tells for each place of the header which name stands there
 pub record Ordered (header : List (List ℕ)) (at : List ℕ) : Type 0 where
   pub good : isNames header ≡ true
-  pub place : (j : ℕ) → j < 12 → getD at j 0 ≡ column (getD header j []) names
+  pub place : (j : ℕ) → j < nameCount → getD at j 0 ≡ column (getD header j []) names

@@ -1,5 +1,6 @@
 // Many lines of values at once: what whole lines ask becomes one batch of requests, the guard runs it with one test of
 // soundness, and the answers are written one behind the other, 17 for a line that asks none.
+use crate::limits;
 use crate::line;
 use crate::line::Line;
 use crate::text;
@@ -7,19 +8,10 @@ use guard::Request;
 ghost use Prim.Native.Nat.{_+_, _*_, _≤_};
 ghost use mathlib.Core.Path.{_≡_};
 ghost use lib.ListN.{length, take};
-ghost use Rattle.script.specs.Report.{lastLine};
+ghost use Rattle.script.specs.Report.{lineRoom, lastLine};
 ghost use Rattle.script.specs.Slices.{written, Put};
 ghost use Rattle.guard.specs.Batch.{rowLength};
 ghost use Rattle.script.specs.Batches.{one, said, texts, isRequest, isAllowed, rowOf, numbersOf, Most, Batched};
-
-// How many lines a batch takes.
-pub const LINES: usize = 256;
-
-// How many numbers stand for a request.
-pub const ROW: usize = 11;
-
-// .. and for all of them.
-pub const NUMBERS: usize = ROW * LINES;
 
 // How many requests some lines ask, how many lines these are, how many bytes of input they took, and whether `user` is shut
 // out after them.
@@ -46,10 +38,13 @@ fn one_if(b: bool) -> usize
 pub fn most(done: u32, room: usize) -> usize
     ensures { λ m. ⌜ Most done room m ⌝ }
 {
-    if 65535 <= done {
+    if limits::LAST_LINE <= done {
         return 0;
     }
-    least(least(room / 12, LINES), (65535 - done) as usize)
+    least(
+        least(room / limits::LINE_ROOM, limits::BATCH),
+        (limits::LAST_LINE - done) as usize,
+    )
 }
 
 // A request as a row of numbers from `at` on.
@@ -68,7 +63,7 @@ fn put_row(q: Request, rows: &mut [u32], at: usize) -> usize
     rows[at + 8] = q.level;
     rows[at + 9] = q.cats;
     rows[at + 10] = q.rights;
-    at + ROW
+    at + limits::ROW
 }
 
 // What a line asks, behind `count` requests; whether it asks one.
@@ -78,7 +73,7 @@ fn load(l: Line, rows: &mut [u32], count: usize) -> bool
 {
     match l {
         Line::Ask(q) => {
-            put_row(q, rows, ROW * count);
+            put_row(q, rows, limits::ROW * count);
             true
         }
         Line::SetUser(_, _, _, _) => false,
@@ -100,7 +95,7 @@ fn is_allowed(l: Line, shut: bool) -> bool
 // Whole lines from the front of `s`, at most so many, up to a `user` line that is allowed.
 pub fn gather(
     s: &[u8],
-    at: [u8; 12],
+    at: [u8; limits::NAMES],
     most: usize,
     shut: bool,
     rows: &mut [u32],
@@ -144,12 +139,12 @@ pub fn gather(
 fn answer_of(asks: bool, a: u8) -> u8
     ensures { λ r. ⌜ r ≡ said asks a ⌝ }
 {
-    if asks { a } else { 17 }
+    if asks { a } else { limits::UNREAD }
 }
 
 // The answers to the first `lines` lines, the first of which has number `n`.
 pub fn put_answers(marks: &[bool], answers: &[u8], lines: usize, n: u32, out: &mut [u8]) -> usize
-    requires { ⌜ (lines ≤ length (now marks)) × (lines ≤ length (now answers)) × (12 * lines ≤ length (now out)) × (n + lines ≤ lastLine + 1) ⌝ }
+    requires { ⌜ (lines ≤ length (now marks)) × (lines ≤ length (now answers)) × (lineRoom * lines ≤ length (now out)) × (n + lines ≤ lastLine + 1) ⌝ }
     ensures { λ r. ⌜ Put (now (out .entry)) 0 (texts n (take lines (now (marks .entry))) (now (answers .entry))) (now (out .exit)) r ⌝ }
 {
     let mut wrote = 0;

@@ -4,7 +4,8 @@ ghost use mathlib.Core.Path.{_≡_};
 ghost use mathlib.Core.List.{[]};
 ghost use Rattle.bitset.specs.Sets.{has};
 ghost use Rattle.script.specs.Line.{Numbers, these, used, asks};
-ghost use Rattle.script.specs.Rows.{takenAs, takeFrom, ahead, members};
+ghost use Rattle.script.specs.Rows.{noWord, takenAs, takeFrom, ahead, members};
+use crate::limits;
 use crate::line::Line;
 use guard::Request;
 
@@ -32,7 +33,8 @@ pub enum Half {
 
 // For each word the fields that it uses: bit i is the i-th name, `call` being 0, so from the right none, seat, user, role,
 // entity, parent, kind, name, level, cats, rights, ceiling.
-const USES: [u16; 17] = [
+const USES: [u16; limits::WORDS] = [
+    0b101100000100, // user
     0b001100000110, // login
     0b000000000010, // logout
     0b000000001010, // take
@@ -49,11 +51,10 @@ const USES: [u16; 17] = [
     0b000000001110, // unlist
     0b000000001010, // make
     0b000000001010, // unmake
-    0b101100000100, // user
 ];
 
 pub fn uses(word: u32) -> u16
-    requires { ⌜ word < 17 ⌝ }
+    requires { ⌜ word < noWord ⌝ }
     ensures { λ r. ⌜ members r 1 11 ≡ used word ⌝ }
 {
     USES[word as usize]
@@ -125,11 +126,11 @@ pub fn second(word: u32, six: Six, vals: &[u32; 16], given: u16, uses: u16) -> L
     let Taken::Number(ceiling) = field(vals[11], given, uses, 11) else {
         return Line::Bad;
     };
-    if word == 16 {
+    if word == limits::USER {
         return Line::SetUser(six.user, level, cats, ceiling);
     }
     Line::Ask(Request {
-        call: word,
+        call: word - 1,
         seat: six.seat,
         user: six.user,
         role: six.role,

@@ -4,20 +4,20 @@ ghost use mathlib.Core.Bool.{true};
 ghost use Rattle.script.specs.Text.{values};
 ghost use Rattle.script.specs.Names.{isNames};
 ghost use Rattle.script.specs.Slices.{Ordered};
+use crate::limits;
 use crate::text;
 
 // The order of columns that a line of names gives: `at` has for each place which name stands there.
 pub struct Order {
     pub good: bool,
-    pub at: [u8; 12],
+    pub at: [u8; limits::NAMES],
 }
 
-// `seen` is the set of the names so far, 12 for what is none; all twelve are 4095. Twelve values with each name among them
-// have each name once.
+// `seen` is the set of the names so far, and of what is none. Twelve values with each name among them have each name once.
 pub fn header(s: &[u8]) -> Order
     ensures { λ r. ⌜ (r .good ≡ isNames (values (now (s .entry)))) × (r .good ≡ true → Ordered (values (now (s .entry))) (r .at)) ⌝ }
 {
-    let mut at = [0u8; 12];
+    let mut at = [0u8; limits::NAMES];
     let mut seen = 0u16;
     let mut from = 0;
     let mut j = 0;
@@ -29,13 +29,13 @@ pub fn header(s: &[u8]) -> Order
         seen = bitset::with16(seen, name as u32);
         j += 1;
         if rest.len() <= e {
-            let all = bitset::contains16(seen, 4095);
+            let all = bitset::contains16(seen, limits::ALL_NAMES);
             return Order {
-                good: (j == 12) & all,
+                good: (j == limits::NAMES) & all,
                 at,
             };
         }
-        if 12 <= j {
+        if limits::NAMES <= j {
             return Order { good: false, at };
         }
         from = from + e + 1;

@@ -3,6 +3,7 @@ mod batch;
 pub mod buffer;
 mod fields;
 mod header;
+mod limits;
 mod line;
 mod reply;
 mod row;

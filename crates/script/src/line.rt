@@ -8,6 +8,7 @@ ghost use Rattle.script.specs.Slices.{before, Ordered};
 ghost use Rattle.script.specs.Rows.{blank, IsRow};
 use crate::fields;
 use crate::fields::Half;
+use crate::limits;
 use crate::row;
 use crate::row::Row;
 use guard::Request;
@@ -37,7 +38,7 @@ fn empty() -> [u32; 16]
     ensures { λ r. ⌜ r ≡ blank ⌝ }
 {
     let mut vals = [0u32; 16];
-    vals[0] = 17;
+    vals[0] = limits::NO_WORD;
     vals
 }
 
@@ -45,11 +46,11 @@ fn empty() -> [u32; 16]
 fn asked(row: Row, vals: &[u32; 16]) -> Line
     ensures { λ r. ⌜ ((h : List (List ℕ)) (at l : List ℕ) → Ordered h at → IsRow at l (now (vals .entry)) row → r ≡ readLine h l) ⌝ }
 {
-    if !row.good | (255 < row.len) {
+    if !row.good | (limits::LONGEST < row.len) {
         return Line::Bad;
     }
     let word = vals[0];
-    if 16 < word {
+    if limits::NO_WORD <= word {
         return Line::Bad;
     }
     let uses = fields::uses(word);
@@ -60,7 +61,7 @@ fn asked(row: Row, vals: &[u32; 16]) -> Line
 }
 
 // The line at the front of `s`, up to byte 10 or the end, under a good header.
-pub fn next(s: &[u8], at: [u8; 12]) -> Front
+pub fn next(s: &[u8], at: [u8; limits::NAMES]) -> Front
     ensures { λ r. ⌜ (r .len ≡ length (before 10 (now (s .entry)))) × ((h : List (List ℕ)) → Ordered h at → r .asked ≡ readLine h (before 10 (now (s .entry)))) ⌝ }
 {
     let mut vals = empty();

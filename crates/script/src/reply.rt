@@ -1,4 +1,5 @@
 // The answer to a line of values, and the bench after it.
+use crate::limits;
 use crate::line::Line;
 use guard::Label;
 use guard::Tables;
@@ -22,7 +23,7 @@ fn set_user(mut t: Tables, shut: bool, user: u32, level: u32, cats: u32, ceiling
         return Reply {
             tables: t,
             shut,
-            answer: 17,
+            answer: limits::UNREAD,
         };
     }
     if (16 <= user) | ((3 < level) | ((255 < cats) | (3 < ceiling))) {
@@ -67,7 +68,7 @@ pub fn answer_line(t: Tables, shut: bool, l: Line) -> Reply
         Line::Bad => Reply {
             tables: t,
             shut,
-            answer: 17,
+            answer: limits::UNREAD,
         },
     }
 }

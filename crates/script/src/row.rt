@@ -7,6 +7,7 @@ ghost use lib.ListN.{length, getD};
 ghost use Rattle.script.specs.Text.{bytes, same};
 ghost use Rattle.script.specs.Slices.{before};
 ghost use Rattle.script.specs.Rows.{blank, IsFound, IsRow};
+use crate::limits;
 use crate::line::Value;
 use crate::text;
 
@@ -121,7 +122,7 @@ fn code_at(s: &[u8], from: usize, i: u32) -> Found
         if from + 6 < s.len() {
             let k = text::word_key(s, from);
             let w = text::word_of(k.key);
-            if w < 17 {
+            if w < limits::NO_WORD {
                 return Found {
                     code: w,
                     form: 0,
@@ -168,7 +169,7 @@ fn code_at(s: &[u8], from: usize, i: u32) -> Found
 
 // The row of the line at the front of `s`, in one pass. A dash leaves the row as it is. The names of a good header are below
 // 12; the remainder keeps any other number in the row.
-pub fn read_row(s: &[u8], at: &[u8; 12], vals: &mut [u32; 16]) -> Row
+pub fn read_row(s: &[u8], at: &[u8; limits::NAMES], vals: &mut [u32; 16]) -> Row
     requires { ⌜ now vals ≡ blank ⌝ }
     ensures { λ r. ⌜ IsRow (now (at .entry)) (before 10 (now (s .entry))) (now (vals .exit)) r ⌝ }
 {
@@ -184,7 +185,7 @@ pub fn read_row(s: &[u8], at: &[u8; 12], vals: &mut [u32; 16]) -> Row
                 continue;
             }
         }
-        if 12 <= j {
+        if limits::NAMES <= j {
             return Row {
                 good: false,
                 given,
@@ -200,7 +201,7 @@ pub fn read_row(s: &[u8], at: &[u8; 12], vals: &mut [u32; 16]) -> Row
             given = bitset::with16(given, i);
             if !f.more {
                 return Row {
-                    good: j == 12,
+                    good: j == limits::NAMES,
                     given,
                     len: end,
                 };
@@ -217,7 +218,7 @@ pub fn read_row(s: &[u8], at: &[u8; 12], vals: &mut [u32; 16]) -> Row
         }
         if !f.more {
             return Row {
-                good: j == 12,
+                good: j == limits::NAMES,
                 given,
                 len: end,
             };

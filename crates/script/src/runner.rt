@@ -3,6 +3,7 @@
 // has passed 255 bytes without byte 10 is answered 17 at once, and passed over to its end.
 use crate::batch;
 use crate::header;
+use crate::limits;
 use crate::line;
 use crate::reply;
 use crate::text;
@@ -13,7 +14,7 @@ ghost use Prim.Native.Nat.{_+_, _≤_, _<_};
 ghost use mathlib.Core.Path.{_≡_};
 ghost use mathlib.Core.Bool.{true, false};
 ghost use lib.ListN.{length};
-ghost use Rattle.script.specs.Report.{lastLine};
+ghost use Rattle.script.specs.Report.{lineRoom, lastLine};
 ghost use Rattle.script.specs.Slices.{before};
 ghost use Rattle.script.specs.Batches.{Lent};
 ghost use Rattle.script.specs.Run.{atNames, atLines, unbegun, isOver, Spoken, Named, Stepped, Finished};
@@ -24,7 +25,7 @@ ghost use Rattle.script.specs.Run.{atNames, atLines, unbegun, isOver, Sp
 pub struct Runner {
     tables: Tables,
     shut: bool,
-    at: [u8; 12],
+    at: [u8; limits::NAMES],
     phase: u8,
     done: u32,
     skip: bool,
@@ -45,7 +46,7 @@ pub struct Ran {
 
 // Answers one line of values.
 fn answer_values(mut r: Runner, s: &[u8], out: &mut [u8]) -> Said
-    requires { ⌜ (12 ≤ length (now out)) × (r .done < lastLine) × (before 10 (now s) ≡ now s) ⌝ }
+    requires { ⌜ (lineRoom ≤ length (now out)) × (r .done < lastLine) × (before 10 (now s) ≡ now s) ⌝ }
     ensures { λ x. ⌜ Spoken r (now (s .entry)) (now (out .entry)) (now (out .exit)) x ⌝ }
 {
     let at = r.at;
@@ -64,7 +65,7 @@ fn answer_values(mut r: Runner, s: &[u8], out: &mut [u8]) -> Said
 
 // Reads the names line.
 fn take_names(mut r: Runner, s: &[u8], out: &mut [u8]) -> Said
-    requires { ⌜ 12 ≤ length (now out) ⌝ }
+    requires { ⌜ lineRoom ≤ length (now out) ⌝ }
     ensures { λ x. ⌜ Named r (now (s .entry)) (now (out .entry)) (now (out .exit)) x ⌝ }
 {
     let order = header::header(s);
@@ -79,7 +80,7 @@ fn take_names(mut r: Runner, s: &[u8], out: &mut [u8]) -> Said
             wrote: 0,
         };
     }
-    let wrote = text::put_line(1, 17, out);
+    let wrote = text::put_line(1, limits::UNREAD, out);
     r.phase = 3;
     Said { runner: r, wrote }
 }
@@ -99,7 +100,7 @@ impl Runner {
         Runner {
             tables,
             shut: false,
-            at: [0u8; 12],
+            at: [0u8; limits::NAMES],
             phase: 0,
             done: 0,
             skip: false,
@@ -111,7 +112,7 @@ impl Runner {
         ensures { λ b. ⌜ b ≡ isOver self ⌝ }
     {
         if self.phase == 2 {
-            return 65535 <= self.done;
+            return limits::LAST_LINE <= self.done;
         }
         2 < self.phase
     }
@@ -133,7 +134,7 @@ fn names_step(r: Runner, piece: &[u8], end: bool, out: &mut [u8]) -> Ran
     requires { ⌜ r .phase ≡ atNames ⌝ }
     ensures { λ x. ⌜ Stepped r (now (piece .entry)) end (now (out .entry)) (now (out .exit)) x ⌝ }
 {
-    if out.len() < 12 {
+    if out.len() < limits::LINE_ROOM {
         return idle(r);
     }
     let e = text::find(piece, 10);
@@ -146,7 +147,7 @@ fn names_step(r: Runner, piece: &[u8], end: bool, out: &mut [u8]) -> Ran
             wrote: said.wrote,
         };
     }
-    if end | (255 < e) {
+    if end | (limits::LONGEST < e) {
         let said = take_names(r, piece, out);
         let next = said.runner;
         return Ran {
@@ -163,7 +164,7 @@ fn values_step(mut r: Runner, piece: &[u8], end: bool, out: &mut [u8]) -> Ran
     requires { ⌜ r .phase ≡ atLines ⌝ }
     ensures { λ x. ⌜ Stepped r (now (piece .entry)) end (now (out .entry)) (now (out .exit)) x ⌝ }
 {
-    if 65535 <= r.done {
+    if limits::LAST_LINE <= r.done {
         return idle(r);
     }
     let e = text::find(piece, 10);
@@ -182,7 +183,7 @@ fn values_step(mut r: Runner, piece: &[u8], end: bool, out: &mut [u8]) -> Ran
             wrote: 0,
         };
     }
-    if out.len() < 12 {
+    if out.len() < limits::LINE_ROOM {
         return idle(r);
     }
     if e < piece.len() {
@@ -194,7 +195,7 @@ fn values_step(mut r: Runner, piece: &[u8], end: bool, out: &mut [u8]) -> Ran
             wrote: said.wrote,
         };
     }
-    if 255 < e {
+    if limits::LONGEST < e {
         let said = answer_values(r, piece, out);
         let mut next = said.runner;
         next.skip = true;
@@ -236,7 +237,7 @@ fn batch_step(
     if lines == 0 {
         return values_step(r, piece, end, out);
     }
-    let n = batch::ROW * g.count;
+    let n = limits::ROW * g.count;
     let t = r.tables;
     let next = t.run(&rows[..n], answers);
     let wrote = batch::put_answers(marks, answers, lines, r.done + 1, out);
@@ -320,9 +321,9 @@ fn work(r: Runner, piece: &[u8], end: bool, out: &mut [u8]) -> Ran
     requires { ⌜ atNames ≤ r .phase ⌝ }
     ensures { λ x. ⌜ Finished r (now (piece .entry)) end (now (out .entry)) (now (out .exit)) x ⌝ }
 {
-    let mut rows = [0u32; batch::NUMBERS];
-    let mut marks = [false; batch::LINES];
-    let mut answers = [0u8; batch::LINES];
+    let mut rows = [0u32; limits::BATCH_NUMBERS];
+    let mut marks = [false; limits::BATCH];
+    let mut answers = [0u8; limits::BATCH];
     through(r, piece, end, out, &mut rows, &mut marks, &mut answers)
 }
 
@@ -331,7 +332,7 @@ pub fn run(mut r: Runner, piece: &[u8], end: bool, out: &mut [u8]) -> Ran
     ensures { λ x. ⌜ Finished r (now (piece .entry)) end (now (out .entry)) (now (out .exit)) x ⌝ }
 {
     if r.phase == 0 {
-        if out.len() < 12 {
+        if out.len() < limits::LINE_ROOM {
             return idle(r);
         }
         let heading = text::put_heading(out);

@@ -6,9 +6,10 @@ ghost use lib.ListN.{length, getD, take, drop};
 ghost use Rattle.script.specs.Text.{place, decimal};
 ghost use Rattle.script.specs.Names.{names, column};
 ghost use Rattle.script.specs.Line.{valueOf, words};
-ghost use Rattle.script.specs.Report.{heading, lineText};
+ghost use Rattle.script.specs.Report.{heading, lineText, lineRoom};
 ghost use Rattle.script.specs.Slices.{before, leading, Put};
 ghost use Rattle.script.specs.Keys.{keyOf, wordOf, Begins};
+use crate::limits;
 use crate::line::Value;
 
 // Where the first byte `d` stands, or the length.
@@ -100,7 +101,7 @@ fn key(s: &[u8]) -> u64
     k
 }
 
-// Which of the twelve names it is, 12 for none.
+// Which of the names it is.
 pub fn name_at(s: &[u8]) -> u8
     ensures { λ r. ⌜ r ≡ column (now (s .entry)) names ⌝ }
 {
@@ -118,37 +119,37 @@ pub fn name_at(s: &[u8]) -> u8
         0x1_63617473 => 9, // cats
         0x1_726967687473 => 10, // rights
         0x1_6365696c696e67 => 11, // ceiling
-        _ => 12,
+        _ => limits::NO_NAME,
     }
 }
 
-// Which of the seventeen words has the key, 17 for none.
+// Which of the words has the key: `user`, or one more than the request's number.
 pub fn word_of(k: u64) -> u32
     ensures { λ r. ⌜ r ≡ wordOf k ⌝ }
 {
     match k {
-        0x1_6c6f67696e => 0, // login
-        0x1_6c6f676f7574 => 1, // logout
-        0x1_74616b65 => 2, // take
-        0x1_64726f70 => 3, // drop
-        0x1_6f70656e72 => 4, // openr
-        0x1_6f70656e77 => 5, // openw
-        0x1_636c6f7365 => 6, // close
-        0x1_637265617465 => 7, // create
-        0x1_64656c657465 => 8, // delete
-        0x1_72656e616d65 => 9, // rename
-        0x1_6772616e74 => 10, // grant
-        0x1_7265766f6b65 => 11, // revoke
-        0x1_6c697374 => 12, // list
-        0x1_756e6c697374 => 13, // unlist
-        0x1_6d616b65 => 14, // make
-        0x1_756e6d616b65 => 15, // unmake
-        0x1_75736572 => 16, // user
-        _ => 17,
+        0x1_75736572 => limits::USER, // user
+        0x1_6c6f67696e => 1, // login
+        0x1_6c6f676f7574 => 2, // logout
+        0x1_74616b65 => 3, // take
+        0x1_64726f70 => 4, // drop
+        0x1_6f70656e72 => 5, // openr
+        0x1_6f70656e77 => 6, // openw
+        0x1_636c6f7365 => 7, // close
+        0x1_637265617465 => 8, // create
+        0x1_64656c657465 => 9, // delete
+        0x1_72656e616d65 => 10, // rename
+        0x1_6772616e74 => 11, // grant
+        0x1_7265766f6b65 => 12, // revoke
+        0x1_6c697374 => 13, // list
+        0x1_756e6c697374 => 14, // unlist
+        0x1_6d616b65 => 15, // make
+        0x1_756e6d616b65 => 16, // unmake
+        _ => limits::NO_WORD,
     }
 }
 
-// Which of the seventeen words it is, 17 for none.
+// Which of the words it is.
 pub fn word_at(s: &[u8]) -> u32
     ensures { λ r. ⌜ r ≡ column (now (s .entry)) words ⌝ }
 {
@@ -255,7 +256,7 @@ fn put_decimal(n: u32, out: &mut [u8], at: usize) -> usize
 
 // One line of output: number, space, answer, byte 10.
 pub fn put_line(n: u32, a: u8, out: &mut [u8]) -> usize
-    requires { ⌜ 12 ≤ length (now out) ⌝ }
+    requires { ⌜ lineRoom ≤ length (now out) ⌝ }
     ensures { λ r. ⌜ Put (now (out .entry)) 0 (lineText n a) (now (out .exit)) r ⌝ }
 {
     let i = put_decimal(n, out, 0);

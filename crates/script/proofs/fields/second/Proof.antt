@@ -134,6 +134,9 @@ returns-6 : tie.Need-returns-6
 unfolding front joined
 returns-6 c = asks-user _ _ _ _ _ _ _ _ (got5 (c .before) .so (these [])) (c .if1 .taken)
 
+sub-t14 : tie.Need-sub-t14
+sub-t14 c = search needs
+
 returns-7 : tie.Need-returns-7
 unfolding front joined
 returns-7 c = asks-request _ _ _ _ _ _ _ _ (got5 (c .before) .so (these [])) (c .if1 .left)
@@ -168,4 +171,5 @@ second-spec =
     enum-told-5
     returns-5
     returns-6
+    sub-t14
     returns-7)

@@ -1,0 +1,38 @@
+// The numbers of the request program.
+
+// The names in the line of names.
+pub const NAMES: usize = 12;
+
+// What is none of them, and the set of all of them.
+pub const NO_NAME: u8 = 12;
+
+pub const ALL_NAMES: u16 = 4095;
+
+// The words: `user`, which stands in front, and one for each kind of request of the guard.
+pub const KINDS: usize = 16;
+
+pub const WORDS: usize = 1 + KINDS;
+
+pub const USER: u32 = 0;
+
+// What is none of them.
+pub const NO_WORD: u32 = 17;
+
+// The bytes that a line may have before its byte 10.
+pub const LONGEST: usize = 255;
+
+// The last line that is read, the line of names being 1.
+pub const LAST_LINE: u32 = 65535;
+
+// The answer to a line that can't be read.
+pub const UNREAD: u8 = 17;
+
+// Room for a line of output: two numbers of five digits, a space and byte 10.
+pub const LINE_ROOM: usize = 12;
+
+// The lines that a batch takes, the numbers that stand for a request, and those for a batch of requests.
+pub const BATCH: usize = 256;
+
+pub const ROW: usize = 11;
+
+pub const BATCH_NUMBERS: usize = BATCH * ROW;
