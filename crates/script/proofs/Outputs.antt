@@ -1,5 +1,5 @@
 -- The output of a batch, and the step over it.
---     room-left, line-few     what the writer of a line asks and takes
+--     room-left, along, line-few     what the writer of a line asks and takes
 --     asked-none, asked-on, asked-below     how many answers are written
 --     texts-none, texts-more, texts-all     what is written: nothing, one line more, all
 --     ran-tables, ran-answers     what the guard hands back for a batch
@@ -41,6 +41,9 @@ texts-none n given = put-nil
 
 pub room-left : (w : ℕ) (out : List ℕ) → length (take (length out - w) (drop w out)) ≡ length out - w
 room-left w out = ap length (to-end w out) ∙ length-drop w out
+
+pub along : {k : ℕ} (n i : ℕ) → k ≡ n + i → n + (i + 1) ≡ k + 1
+along n i e = omega arith
 
 pub line-few : {l new : List ℕ} {r : ℕ} (k a : ℕ) → Put l 0 (lineText k a) new r → r ≤ 12
 line-few k a p = omega (arith, p .next, line-length k a)

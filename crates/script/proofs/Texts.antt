@@ -3,7 +3,7 @@
 -- find-stop, find-more, find-end: the loop that looks for a byte, by what is left of the slice.
 -- none-other, long-other, one-dash, dash-other: the forms of a value. Read: the loop over its digits, with read-start, read-low,
 -- read-high, read-more, read-end.
--- put-nil, put-cons, put-then: stores. place-hit, place-miss: one digit.
+-- put-nil, put-cons, put-then: stores. place-hit, place-miss: one digit. numbered, line-of: a number with its digits.
 -- line-length, heading-length: how long what is printed is at most.
 -- Assumes nothing.
 use Prim.Native.Nat.{ℕ, suc, _+_, _-_, _*_, _/_, _%_, _^_, _≤_, _<_}
@@ -22,7 +22,8 @@ use Rattle.script.specs.declared.line.Value.the-variants.{Digits, Dash, 
 use Rattle.script.specs.Text.{bytes, same, allDigits, number, place, decimal}
 use Rattle.script.specs.Line.{valueOf}
 use Rattle.script.specs.Report.{heading, lineText}
-use Rattle.script.specs.Slices.{before, written, Put}
+use Rattle.script.specs.Slices.{before, written, Numbered, Put}
+use Rattle.script.specs.declared.print.Numeral.{Numeral}
 
 -- ---- where a byte stands
 module _ (d : ℕ) (s : List ℕ) (i : ℕ) (h : length (before d s) ≡ i + length (before d (drop i s))) where
@@ -158,6 +159,21 @@ place-hit {l} {new} {i} {k} {p} {n} h q = rw (le-leb p n h) q
 pub place-miss : {l : List ℕ} {i p n : ℕ} → n < p → Put l i (place p n) l i
 unfolding place
 place-miss {l} {i} {p} {n} h = rw (lt-leb p n h) put-nil
+
+-- ---- numbers one after the other
+pub numbered : {n : ℕ} {x : Numeral} → Numbered n x → Numbered (x .n) x
+numbered {n} {x} h =
+    record {
+      whole = refl;
+      fifth = rw (h .whole) (h .fifth);
+      fourth = rw (h .whole) (h .fourth);
+      third = rw (h .whole) (h .third);
+      second = rw (h .whole) (h .second);
+      first = rw (h .whole) (h .first);
+    }
+
+pub line-of : {n k : ℕ} (a : ℕ) {r : ℕ} {l new : List ℕ} → k ≡ n → Put l 0 (lineText k a) new r → Put l 0 (lineText n a) new r
+line-of a e p = rw e at p
 
 -- ---- how long a line is
 place-length : (p n : ℕ) → length (place p n) ≤ 1

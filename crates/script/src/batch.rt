@@ -3,7 +3,7 @@
 use crate::limits;
 use crate::line;
 use crate::line::Line;
-use crate::text;
+use crate::print;
 use guard::Request;
 ghost use Prim.Native.Nat.{_+_, _*_, _≤_};
 ghost use mathlib.Core.Path.{_≡_};
@@ -110,7 +110,7 @@ pub fn gather(
     let mut used = 0;
     while lines < most {
         let rest = &s[used..];
-        let x = line::next(rest, at);
+        let x = line::next(rest, &at);
         let l = x.asked;
         if (rest.len() <= x.len) | is_allowed(l, shut) {
             return Gathered {
@@ -150,14 +150,14 @@ pub fn put_answers(marks: &[bool], answers: &[u8], lines: usize, n: u32, out: &m
     let mut wrote = 0;
     let mut i = 0;
     let mut j = 0;
-    let mut k = n;
+    let mut k = print::numeral_of(n);
     while i < lines {
         let asks = marks[i];
         let a = answer_of(asks, answers[j]);
-        let more = text::put_line(k, a, &mut out[wrote..]);
+        let more = print::put_line(k, a, &mut out[wrote..]);
         wrote = wrote + more;
         j = j + one_if(asks);
-        k += 1;
+        k = print::after(k);
         i += 1;
     }
     wrote

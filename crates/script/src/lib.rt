@@ -5,6 +5,7 @@ mod fields;
 mod header;
 mod limits;
 mod line;
+mod print;
 mod reply;
 mod row;
 pub mod runner;

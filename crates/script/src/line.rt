@@ -61,11 +61,11 @@ fn asked(row: Row, vals: &[u32; 16]) -> Line
 }
 
 // The line at the front of `s`, up to byte 10 or the end, under a good header.
-pub fn next(s: &[u8], at: [u8; limits::NAMES]) -> Front
-    ensures { λ r. ⌜ (r .len ≡ length (before 10 (now (s .entry)))) × ((h : List (List ℕ)) → Ordered h at → r .asked ≡ readLine h (before 10 (now (s .entry)))) ⌝ }
+pub fn next(s: &[u8], at: &[u8; limits::NAMES]) -> Front
+    ensures { λ r. ⌜ (r .len ≡ length (before 10 (now (s .entry)))) × ((h : List (List ℕ)) → Ordered h (now (at .entry)) → r .asked ≡ readLine h (before 10 (now (s .entry)))) ⌝ }
 {
     let mut vals = empty();
-    let row = row::read_row(s, &at, &mut vals);
+    let row = row::read_row(s, at, &mut vals);
     let len = row.len;
     let l = asked(row, &vals);
     Front { asked: l, len }

@@ -5,6 +5,7 @@ use crate::batch;
 use crate::header;
 use crate::limits;
 use crate::line;
+use crate::print;
 use crate::reply;
 use crate::text;
 use guard::Label;
@@ -19,9 +20,18 @@ ghost use Rattle.script.specs.Slices.{before};
 ghost use Rattle.script.specs.Batches.{Lent};
 ghost use Rattle.script.specs.Run.{atNames, atLines, unbegun, isOver, Spoken, Named, Stepped, Finished};
 
+// The phases of a run: the heading is to come, the names are to come, lines of values, over.
+const AT_HEADING: u8 = 0;
+
+const AT_NAMES: u8 = 1;
+
+const AT_LINES: u8 = 2;
+
+const AT_END: u8 = 3;
+
 // Where a run stands: the bench (its tables, and whether a readable line with a word other than `user` has come), the
-// order of the names, the phase (0 the heading is to come, 1 the names are to come, 2 lines of values, else over), how many
-// lines are done, the names line as 1, and whether the line that is begun has been answered.
+// order of the names, the phase, how many lines are done, the names line as 1, and whether the line that is begun has been
+// answered.
 pub struct Runner {
     tables: Tables,
     shut: bool,
@@ -50,12 +60,12 @@ fn answer_values(mut r: Runner, s: &[u8], out: &mut [u8]) -> Said
     ensures { λ x. ⌜ Spoken r (now (s .entry)) (now (out .entry)) (now (out .exit)) x ⌝ }
 {
     let at = r.at;
-    let front = line::next(s, at);
+    let front = line::next(s, &at);
     let asked = front.asked;
     let t = r.tables;
     let a = reply::answer_line(t, r.shut, asked);
     let n = r.done + 1;
-    let wrote = text::put_line(n, a.answer, out);
+    let wrote = print::put_line(print::numeral_of(n), a.answer, out);
     let next = a.tables;
     r.tables = next;
     r.shut = a.shut;
@@ -72,7 +82,7 @@ fn take_names(mut r: Runner, s: &[u8], out: &mut [u8]) -> Said
     if order.good {
         let at = order.at;
         r.at = at;
-        r.phase = 2;
+        r.phase = AT_LINES;
         r.done = 1;
         r.skip = false;
         return Said {
@@ -80,8 +90,8 @@ fn take_names(mut r: Runner, s: &[u8], out: &mut [u8]) -> Said
             wrote: 0,
         };
     }
-    let wrote = text::put_line(1, limits::UNREAD, out);
-    r.phase = 3;
+    let wrote = print::put_line(print::numeral_of(1), limits::UNREAD, out);
+    r.phase = AT_END;
     Said { runner: r, wrote }
 }
 
@@ -101,7 +111,7 @@ impl Runner {
             tables,
             shut: false,
             at: [0u8; limits::NAMES],
-            phase: 0,
+            phase: AT_HEADING,
             done: 0,
             skip: false,
         }
@@ -111,10 +121,10 @@ impl Runner {
     pub fn is_over(self) -> bool
         ensures { λ b. ⌜ b ≡ isOver self ⌝ }
     {
-        if self.phase == 2 {
+        if self.phase == AT_LINES {
             return limits::LAST_LINE <= self.done;
         }
-        2 < self.phase
+        AT_LINES < self.phase
     }
 }
 
@@ -264,10 +274,10 @@ fn one(
     requires { ⌜ (atNames ≤ r .phase) × Lent (now rows) (now marks) (now answers) ⌝ }
     ensures { λ x. ⌜ Stepped r (now (piece .entry)) end (now (out .entry)) (now (out .exit)) x ⌝ }
 {
-    if r.phase == 1 {
+    if r.phase == AT_NAMES {
         return names_step(r, piece, end, out);
     }
-    if r.phase == 2 {
+    if r.phase == AT_LINES {
         if r.skip {
             return values_step(r, piece, end, out);
         }
@@ -331,12 +341,12 @@ fn work(r: Runner, piece: &[u8], end: bool, out: &mut [u8]) -> Ran
 pub fn run(mut r: Runner, piece: &[u8], end: bool, out: &mut [u8]) -> Ran
     ensures { λ x. ⌜ Finished r (now (piece .entry)) end (now (out .entry)) (now (out .exit)) x ⌝ }
 {
-    if r.phase == 0 {
+    if r.phase == AT_HEADING {
         if out.len() < limits::LINE_ROOM {
             return idle(r);
         }
-        let heading = text::put_heading(out);
-        r.phase = 1;
+        let heading = print::put_heading(out);
+        r.phase = AT_NAMES;
         let ran = work(r, piece, end, &mut out[heading..]);
         let next = ran.runner;
         return Ran {

@@ -1,13 +1,10 @@
-// Bytes: where a delimiter stands, what a value and a name are, and the lines of output.
-ghost use Prim.Native.Nat.{_+_, _/_, _%_, _<_, _≤_};
+// Bytes: where a delimiter stands, and what a value, a name and a word are.
+ghost use Prim.Native.Nat.{_+_, _<_, _≤_};
 ghost use mathlib.Core.Path.{_≡_};
-ghost use mathlib.Core.List.{[], _∷_};
 ghost use lib.ListN.{length, getD, take, drop};
-ghost use Rattle.script.specs.Text.{place, decimal};
 ghost use Rattle.script.specs.Names.{names, column};
 ghost use Rattle.script.specs.Line.{valueOf, words};
-ghost use Rattle.script.specs.Report.{heading, lineText, lineRoom};
-ghost use Rattle.script.specs.Slices.{before, leading, Put};
+ghost use Rattle.script.specs.Slices.{before, leading};
 ghost use Rattle.script.specs.Keys.{keyOf, wordOf, Begins};
 use crate::limits;
 use crate::line::Value;
@@ -33,6 +30,10 @@ pub fn span(s: &[u8]) -> usize
     let mut i = 0;
     while i < s.len() {
         let b = s[i];
+        if 32 < b {
+            i += 1;
+            continue;
+        }
         if b == 32 {
             return i;
         }
@@ -205,63 +206,4 @@ pub fn word_key(s: &[u8], from: usize) -> Short
         return Short { key: k6, len: 6 };
     }
     Short { key: 0, len: 0 }
-}
-
-// Four bytes from `at` on.
-fn put4(a: u8, b: u8, c: u8, d: u8, out: &mut [u8], at: usize) -> usize
-    requires { ⌜ at + 4 ≤ length (now out) ⌝ }
-    ensures { λ r. ⌜ Put (now (out .entry)) at (a ∷ b ∷ c ∷ d ∷ []) (now (out .exit)) r ⌝ }
-{
-    out[at] = a;
-    out[at + 1] = b;
-    out[at + 2] = c;
-    out[at + 3] = d;
-    at + 4
-}
-
-// The heading.
-pub fn put_heading(out: &mut [u8]) -> usize
-    requires { ⌜ 12 ≤ length (now out) ⌝ }
-    ensures { λ r. ⌜ Put (now (out .entry)) 0 heading (now (out .exit)) r ⌝ }
-{
-    let i = put4(b'l', b'i', b'n', b'e', out, 0);
-    let j = put4(b' ', b'a', b'n', b's', out, i);
-    put4(b'w', b'e', b'r', b'\n', out, j)
-}
-
-// The digit of `n` at the place `p`, unless it is a leading zero.
-fn put_place(p: u32, n: u32, out: &mut [u8], at: usize) -> usize
-    requires { ⌜ (0 < p) × (at < length (now out)) ⌝ }
-    ensures { λ r. ⌜ Put (now (out .entry)) at (place p n) (now (out .exit)) r × (r ≤ at + 1) ⌝ }
-{
-    if n < p {
-        return at;
-    }
-    out[at] = (48 + n / p % 10) as u8;
-    at + 1
-}
-
-// A number below 100,000 in decimal.
-fn put_decimal(n: u32, out: &mut [u8], at: usize) -> usize
-    requires { ⌜ at + 5 ≤ length (now out) ⌝ }
-    ensures { λ r. ⌜ Put (now (out .entry)) at (decimal n) (now (out .exit)) r × (r ≤ at + 5) ⌝ }
-{
-    let i = put_place(10000, n, out, at);
-    let j = put_place(1000, n, out, i);
-    let k = put_place(100, n, out, j);
-    let l = put_place(10, n, out, k);
-    out[l] = (48 + n % 10) as u8;
-    l + 1
-}
-
-// One line of output: number, space, answer, byte 10.
-pub fn put_line(n: u32, a: u8, out: &mut [u8]) -> usize
-    requires { ⌜ lineRoom ≤ length (now out) ⌝ }
-    ensures { λ r. ⌜ Put (now (out .entry)) 0 (lineText n a) (now (out .exit)) r ⌝ }
-{
-    let i = put_decimal(n, out, 0);
-    out[i] = b' ';
-    let j = put_decimal(a as u32, out, i + 1);
-    out[j] = b'\n';
-    j + 1
 }

@@ -10,10 +10,10 @@ use Rattle.script.proofs.batch.gather.Statement.{statement}
 use Rattle.script.proofs.batch.gather.Tie as tie
 
 abbrev Inv-loop : tie.InvT-loop
-Inv-loop s at most shut rows₀ marks₀ shut₀ count₀ lines₀ used₀ rows marks shut' count lines used = (length rows ≡ length rows₀) × (length marks ≡ length marks₀) × (lines ≤ most) × Taken at s shut rows marks count lines used shut'
+Inv-loop s most shut rows₀ marks₀ at shut₀ count₀ lines₀ used₀ rows marks shut' count lines used = (length rows ≡ length rows₀) × (length marks ≡ length marks₀) × (lines ≤ most) × Taken at s shut rows marks count lines used shut'
 
 abbrev μ-loop : tie.MeasureT-loop
-μ-loop s at most shut rows₀ marks₀ shut₀ count₀ lines₀ used₀ rows marks shut' count lines used = most - lines
+μ-loop s most shut rows₀ marks₀ at shut₀ count₀ lines₀ used₀ rows marks shut' count lines used = most - lines
 
 loop-holds : tie.Need-loop-holds Inv-loop μ-loop
 loop-holds c = (search needs, search needs, search needs, taken-none _ _ _ _ _)
@@ -40,10 +40,10 @@ same-length-2 : tie.Need-same-length-2 Inv-loop μ-loop
 same-length-2 c = search needs
 
 returns : tie.Need-returns Inv-loop μ-loop
-returns c = taken-all _ (c .before .before .before .before .before .before .loop .inv .3) (c .before .before .before .before .before .before .loop .inv .2) (omega arith) (omega arith)
+returns c = let held = c .before .before .before .before .before .before .before .loop .inv in taken-all _ (held .3) (held .2) (omega arith) (omega arith)
 
 load-requires : tie.Need-load-requires Inv-loop μ-loop
-load-requires c κs = let few = count-few (c .before .before .before .before .before .before .before .loop .inv .3) in omega (arith, few, c .before .before .before .before .before .before .before .loop .inv .0, c .before .before .before .before .before .before .before .before .before .before .before .pre .1)
+load-requires c κs = let held = c .before .before .before .before .before .before .before .before .loop .inv in omega (arith, count-few (held .3), held .0, c .before .before .before .before .before .before .before .before .before .before .before .before .pre .1)
 
 slice-write-marks : tie.Need-slice-write-marks Inv-loop μ-loop
 slice-write-marks c = search needs
@@ -52,26 +52,42 @@ one-if-requires : tie.Need-one-if-requires Inv-loop μ-loop
 one-if-requires c κs = search needs
 
 add-count : tie.Need-add-count Inv-loop μ-loop
-add-count c = let few = count-few (c .before .before .before .before .before .before .before .before .before .before .before .loop .inv .3) in let one = one-least _ (c .one-if .ensures) in search needs
+add-count c = let few = count-few (c .before .before .before .before .before .before .before .before .before .before .before .before .loop .inv .3) in let one = one-least _ (c .one-if .ensures) in search needs
 
 add-lines : tie.Need-add-lines Inv-loop μ-loop
 add-lines c = search needs
 
 add-used : tie.Need-add-used Inv-loop μ-loop
-add-used c = let on = goes-on (c .before .before .before .before .before .before .before .before .before .before .before .before .before .before .before .before .args .s .now) (c .before .before .before .before .before .before .before .before .before .before .before .before .loop .used) (c .before .before .before .before .before .before .before .before .before .next .result .len) _ (c .before .before .before .before .before .before .if1 .left) in omega (arith, on .1, c .before .before .before .before .before .before .before .before .before .before .before .before .before .before .before .before .good .0)
+add-used c =
+    let tested = c .before .before .before .before .before .before in
+    let read = tested .before .before .before in
+    let turn = read .before .before .before .before in
+    let start = turn .before .before .before .before in
+    let on = goes-on (start .args .s .now) (turn .loop .used) (read .next .result .len) _ (tested .if1 .left) in
+    omega (arith, on .1, start .good .0)
 
 add-used-2 : tie.Need-add-used-2 Inv-loop μ-loop
-add-used-2 c = let on = goes-on (c .before .before .before .before .before .before .before .before .before .before .before .before .before .before .before .before .args .s .now) (c .before .before .before .before .before .before .before .before .before .before .before .before .loop .used) (c .before .before .before .before .before .before .before .before .before .next .result .len) _ (c .before .before .before .before .before .before .if1 .left) in omega (arith, on .1, c .before .before .before .before .before .before .before .before .before .before .before .before .before .before .before .before .good .0)
+add-used-2 c =
+    let tested = c .before .before .before .before .before .before in
+    let read = tested .before .before .before in
+    let turn = read .before .before .before .before in
+    let start = turn .before .before .before .before in
+    let on = goes-on (start .args .s .now) (turn .loop .used) (read .next .result .len) _ (tested .if1 .left) in
+    omega (arith, on .1, start .good .0)
 
 loop-less : tie.Need-loop-less Inv-loop μ-loop
 loop-less c = search needs
 
 loop-again : tie.Need-loop-again Inv-loop μ-loop
 loop-again c =
-    let held = c .before .before .before .before .before .before .before .before .before .before .before .before .loop .inv .3 in
-    let few = count-few held in
-    let on = goes-on (c .before .before .before .before .before .before .before .before .before .before .before .before .before .before .before .before .args .s .now) (c .before .before .before .before .before .before .before .before .before .before .before .before .loop .used) (c .before .before .before .before .before .before .before .before .before .next .result .len) _ (c .before .before .before .before .before .before .if1 .left) in
-    (search needs, search needs, search needs, taken-next held (omega (arith, few)) (omega arith) (c .before .before .before .before .before .before .before .before .before .next .ensures .0) (c .before .before .before .before .before .before .before .before .before .next .ensures .1) (on .0) (sym (c .before .before .before .before .before .before .before .is-allowed .ensures) ∙ on .2) (c .before .before .before .before .load .ensures .0) (c .before .before .before .before .load .ensures .1) (c .before .one-if .ensures))
+    let tested = c .before .before .before .before .before .before in
+    let read = tested .before .before .before in
+    let turn = read .before .before .before .before in
+    let start = turn .before .before .before .before in
+    let on = goes-on (start .args .s .now) (turn .loop .used) (read .next .result .len) _ (tested .if1 .left) in
+    let held = turn .loop .inv .3 in
+    let loaded = c .before .before .before .before .load .ensures in
+    (search needs, search needs, search needs, taken-next held (omega (arith, count-few held)) (omega arith) (read .next .ensures .0) (read .next .ensures .1) (on .0) (sym (tested .before .is-allowed .ensures) ∙ on .2) (loaded .0) (loaded .1) (c .before .one-if .ensures))
 
 same-length-3 : tie.Need-same-length-3 Inv-loop μ-loop
 same-length-3 c = search needs

@@ -2,23 +2,28 @@
 use Prim.Native.Nat.{_+_, _-_, _*_, _≤_}
 use mathlib.Core.Path.{_≡_}
 use lib.ListN.{length, take}
+use native.Mathlib.Nat.{add-zero}
 use native.Mathlib.Omega.{arith}
-use Rattle.script.specs.Slices.{Put}
+use Rattle.script.specs.Slices.{Numbered, Put}
 use Rattle.script.specs.Batches.{asked, texts}
+use Rattle.script.proofs.Texts.{numbered}
 use Rattle.script.proofs.Batches.{one-least}
-use Rattle.script.proofs.Outputs.{room-left, line-few, asked-none, asked-on, asked-below, texts-none, texts-more, texts-all}
+use Rattle.script.proofs.Outputs.{room-left, line-few, along, asked-none, asked-on, asked-below, texts-none, texts-more, texts-all}
 use borrow.Author.Needs.{needs}
 use Rattle.script.proofs.batch.put_answers.Statement.{statement}
 use Rattle.script.proofs.batch.put_answers.Tie as tie
 
 abbrev Inv-loop : tie.InvT-loop
-Inv-loop marks answers lines n out₀ wrote₀ i₀ j₀ k₀ out wrote i j k = (i ≤ lines) × (k ≡ n + i) × (wrote ≤ 12 * i) × (length out ≡ length out₀) × (j ≡ asked (take i marks)) × Put out₀ 0 (texts n (take i marks) answers) out wrote
+Inv-loop marks answers lines n out₀ wrote₀ i₀ j₀ k₀ out wrote i j k = (i ≤ lines) × Numbered (n + i) k × (wrote ≤ 12 * i) × (length out ≡ length out₀) × (j ≡ asked (take i marks)) × Put out₀ 0 (texts n (take i marks) answers) out wrote
 
 abbrev μ-loop : tie.MeasureT-loop
 μ-loop marks answers lines n out₀ wrote₀ i₀ j₀ k₀ out wrote i j k = lines - i
 
+numeral-of-requires : tie.Need-numeral-of-requires Inv-loop μ-loop
+numeral-of-requires c κs = search needs
+
 loop-holds : tie.Need-loop-holds Inv-loop μ-loop
-loop-holds c = (search needs, search needs, search needs, search needs, asked-none, texts-none _ _)
+loop-holds c = (search needs, rw add-zero (c .numeral-of .ensures), search needs, search needs, asked-none, texts-none _ _)
 
 shared-slice-read-asks : tie.Need-shared-slice-read-asks Inv-loop μ-loop
 shared-slice-read-asks c = search needs
@@ -39,7 +44,7 @@ part-put-line-end : tie.Need-part-put-line-end Inv-loop μ-loop
 part-put-line-end c = search needs
 
 put-line-requires : tie.Need-put-line-requires Inv-loop μ-loop
-put-line-requires c κs = omega (arith, room-left (c .before .before .before .before .before .loop .wrote) (c .before .before .before .before .before .loop .out))
+put-line-requires c κs = (numbered (c .before .before .before .before .before .loop .inv .1), omega (arith, room-left (c .before .before .before .before .before .loop .wrote) (c .before .before .before .before .before .loop .out)))
 
 add-wrote : tie.Need-add-wrote Inv-loop μ-loop
 add-wrote c = let few = line-few _ _ (c .before .before .put-line .ensures) in search needs
@@ -50,8 +55,8 @@ one-if-requires c κs = search needs
 add-j : tie.Need-add-j Inv-loop μ-loop
 add-j c = let below = asked-below _ (c .before .before .before .before .before .before .before .before .before .loop .i) (c .before .before .before .before .before .before .before .before .before .loop .inv .4) in let more = one-least _ (c .one-if .ensures) in search needs
 
-add-k : tie.Need-add-k Inv-loop μ-loop
-add-k c = search needs
+after-requires : tie.Need-after-requires Inv-loop μ-loop
+after-requires c κs = (numbered (c .before .before .before .before .before .before .before .before .before .loop .inv .1), omega (arith, c .before .before .before .before .before .before .before .before .before .loop .inv .1 .whole))
 
 add-i : tie.Need-add-i Inv-loop μ-loop
 add-i c = search needs
@@ -61,10 +66,10 @@ loop-less c = search needs
 
 loop-again : tie.Need-loop-again Inv-loop μ-loop
 loop-again c =
-    let held = c .before .before .before .before .before .before .before .before .before .loop .inv in
-    let turn = c .before .before .before .before .before .before .before .before .loop-test .taken in
-    let few = line-few _ _ (c .before .before .before .put-line .ensures) in
-    (search needs, search needs, omega arith, search needs, asked-on _ (c .before .before .before .before .before .before .before .before .before .before .before .before .before .args .answers .now) _ _ _ (held .4) turn (omega arith) (c .one-if .ensures), texts-more _ _ _ _ _ (held .4) turn (omega arith) _ _ _ (held .5) (c .before .before .before .before .before .answer-of .ensures) (held .1) (omega arith) (omega arith) (c .before .before .before .put-line .ensures))
+    let held = c .before .before .before .before .before .before .before .before .before .before .loop .inv in
+    let turn = c .before .before .before .before .before .before .before .before .before .loop-test .taken in
+    let few = line-few _ _ (c .before .before .before .before .put-line .ensures) in
+    (search needs, rw (along _ _ (held .1 .whole)) (c .after .ensures), omega arith, search needs, asked-on _ (c .before .before .before .before .before .before .before .before .before .before .before .before .before .before .before .args .answers .now) _ _ _ (held .4) turn (omega arith) (c .before .one-if .ensures), texts-more _ _ _ _ _ (held .4) turn (omega arith) _ _ _ (held .5) (c .before .before .before .before .before .before .answer-of .ensures) (held .1 .whole) (omega arith) (omega arith) (c .before .before .before .before .put-line .ensures))
 
 same-length : tie.Need-same-length Inv-loop μ-loop
 same-length c = search needs
@@ -78,6 +83,7 @@ put-answers-spec =
     (tie.spec
     Inv-loop
     μ-loop
+    numeral-of-requires
     loop-holds
     shared-slice-read-asks
     shared-slice-read-answer-of
@@ -89,7 +95,7 @@ put-answers-spec =
     add-wrote
     one-if-requires
     add-j
-    add-k
+    after-requires
     add-i
     loop-less
     loop-again

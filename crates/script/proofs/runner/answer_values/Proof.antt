@@ -2,6 +2,7 @@
 use mathlib.Core.Path.{ap, _∙_}
 use Rattle.script.specs.Line.{readLine}
 use Rattle.script.proofs.Replies.{said-next, said-text}
+use Rattle.script.proofs.Texts.{numbered, line-of}
 use borrow.Author.Needs.{needs}
 use Rattle.script.proofs.runner.answer_values.Statement.{statement}
 use Rattle.script.proofs.runner.answer_values.Tie as tie
@@ -15,8 +16,11 @@ answer-line-requires c κs = search needs
 add-n : tie.Need-add-n
 add-n c = search needs
 
+numeral-of-requires : tie.Need-numeral-of-requires
+numeral-of-requires c κs = search needs
+
 put-line-requires : tie.Need-put-line-requires
-put-line-requires c κs = search needs
+put-line-requires c κs = (numbered (c .before .numeral-of .ensures), search needs)
 
 same-length : tie.Need-same-length
 same-length c = search needs
@@ -24,13 +28,13 @@ same-length c = search needs
 returns : tie.Need-returns
 returns c =
     record {
-      asked = c .before .before .before .before .before .before .before .before .next .result .asked;
-      read = λ header o. c .before .before .before .before .before .before .before .before .next .ensures .1 header o ∙ ap (readLine header) (c .before .before .before .before .before .before .before .before .before .before .before .before .pre .2);
-      next = said-next _ _ _ (c .before .before .before .before .before .before .answer-line .ensures);
-      puts = said-text _ _ _ (c .before .before .before .before .before .before .answer-line .ensures) (c .before .before .before .put-line .ensures);
+      asked = c .before .before .before .before .before .before .before .before .before .next .result .asked;
+      read = λ header o. c .before .before .before .before .before .before .before .before .before .next .ensures .1 header o ∙ ap (readLine header) (c .before .before .before .before .before .before .before .before .before .before .before .before .before .before .pre .2);
+      next = said-next _ _ _ (c .before .before .before .before .before .before .before .answer-line .ensures);
+      puts = said-text _ _ _ (c .before .before .before .before .before .before .before .answer-line .ensures) (line-of _ (c .before .before .before .before .before .numeral-of .ensures .whole) (c .before .before .before .put-line .ensures));
     }
 
 pub answer-values-spec : {M : Type 1} → statement M
 answer-values-spec =
     tie.close
-    (tie.spec next-requires answer-line-requires add-n put-line-requires same-length returns)
+    (tie.spec next-requires answer-line-requires add-n numeral-of-requires put-line-requires same-length returns)

@@ -1,6 +1,7 @@
 -- `take_names` takes the order of a good names line, and answers a bad one by `1 17`. Assumes nothing.
 use mathlib.Core.Path.{sym, _∙_}
 use Rattle.script.specs.Run.{good, bad}
+use Rattle.script.proofs.Texts.{numbered, line-of}
 use borrow.Author.Needs.{needs}
 use Rattle.script.proofs.runner.take_names.Statement.{statement}
 use Rattle.script.proofs.runner.take_names.Tie as tie
@@ -11,14 +12,17 @@ header-requires c κs = search needs
 returns : tie.Need-returns
 returns c = good _ (c .before .before .header .ensures .1 (c .before .if1 .taken))
 
+numeral-of-requires : tie.Need-numeral-of-requires
+numeral-of-requires c κs = search needs
+
 put-line-requires : tie.Need-put-line-requires
-put-line-requires c κs = search needs
+put-line-requires c κs = (numbered (c .before .numeral-of .ensures), search needs)
 
 same-length : tie.Need-same-length
 same-length c = search needs
 
 returns-2 : tie.Need-returns-2
-returns-2 c = bad (sym (c .before .before .before .before .before .header .ensures .0) ∙ c .before .before .before .before .if1 .left) (c .before .before .put-line .ensures)
+returns-2 c = bad (sym (c .before .before .before .before .before .before .header .ensures .0) ∙ c .before .before .before .before .before .if1 .left) (line-of _ (c .before .before .before .before .numeral-of .ensures .whole) (c .before .before .put-line .ensures))
 
 pub take-names-spec : {M : Type 1} → statement M
-take-names-spec = tie.close (tie.spec header-requires returns put-line-requires same-length returns-2)
+take-names-spec = tie.close (tie.spec header-requires returns numeral-of-requires put-line-requires same-length returns-2)

@@ -21,12 +21,6 @@ loop-holds c = (omega arith, sym (zero-add _))
 shared-slice-read-b : tie.Need-shared-slice-read-b Inv-loop μ-loop
 shared-slice-read-b c = omega arith
 
-returns : tie.Need-returns Inv-loop μ-loop
-returns c = span-space _ _ (c .before .before .before .loop .inv .1) (omega arith) (c .if1 .taken)
-
-returns-2 : tie.Need-returns-2 Inv-loop μ-loop
-returns-2 c = span-line _ _ (c .before .before .before .before .loop .inv .1) (omega arith) (c .if2 .taken)
-
 add-i : tie.Need-add-i Inv-loop μ-loop
 add-i c = omega arith
 
@@ -34,7 +28,22 @@ loop-less : tie.Need-loop-less Inv-loop μ-loop
 loop-less c = omega arith
 
 loop-again : tie.Need-loop-again Inv-loop μ-loop
-loop-again c = (omega arith, span-more _ _ (c .before .before .before .before .loop .inv .1) (omega arith) (c .before .if1 .left) (c .if2 .left))
+loop-again c = (omega arith, span-more _ _ (c .before .before .before .loop .inv .1) (omega arith) (λ e. omega arith) (λ e. omega arith))
+
+returns : tie.Need-returns Inv-loop μ-loop
+returns c = span-space _ _ (c .before .before .before .before .loop .inv .1) (omega arith) (c .if2 .taken)
+
+returns-2 : tie.Need-returns-2 Inv-loop μ-loop
+returns-2 c = span-line _ _ (c .before .before .before .before .before .loop .inv .1) (omega arith) (c .if3 .taken)
+
+add-i-2 : tie.Need-add-i-2 Inv-loop μ-loop
+add-i-2 c = omega arith
+
+loop-less-2 : tie.Need-loop-less-2 Inv-loop μ-loop
+loop-less-2 c = omega arith
+
+loop-again-2 : tie.Need-loop-again-2 Inv-loop μ-loop
+loop-again-2 c = (omega arith, span-more _ _ (c .before .before .before .before .before .loop .inv .1) (omega arith) (c .before .if2 .left) (c .if3 .left))
 
 returns-3 : tie.Need-returns-3 Inv-loop μ-loop
 returns-3 c = span-end _ _ (c .before .loop .inv .1) (omega arith)
@@ -47,9 +56,12 @@ span-spec =
     μ-loop
     loop-holds
     shared-slice-read-b
-    returns
-    returns-2
     add-i
     loop-less
     loop-again
+    returns
+    returns-2
+    add-i-2
+    loop-less-2
+    loop-again-2
     returns-3)

@@ -1,11 +1,11 @@
--- `script::text::put4` stores four bytes one behind the other. Assumes nothing.
+-- `script::print::put4` stores four bytes one behind the other. Assumes nothing.
 use native.Mathlib.Omega.{arith}
 use lib.ListN.{length-set}
 use mathlib.Core.Path.{refl}
 use Rattle.script.proofs.Texts.{put-nil, put-cons}
 use borrow.Author.Needs.{needs}
-use Rattle.script.proofs.text.put4.Statement.{statement}
-use Rattle.script.proofs.text.put4.Tie as tie
+use Rattle.script.proofs.print.put4.Statement.{statement}
+use Rattle.script.proofs.print.put4.Tie as tie
 
 slice-write-out : tie.Need-slice-write-out
 slice-write-out c = search needs

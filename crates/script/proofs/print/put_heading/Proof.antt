@@ -1,10 +1,10 @@
--- `script::text::put_heading` stores the heading, four bytes at a time. Assumes nothing.
+-- `script::print::put_heading` stores the heading, four bytes at a time. Assumes nothing.
 use Rattle.script.specs.Text.{bytes}
 use Rattle.script.specs.Report.{heading}
 use Rattle.script.proofs.Texts.{put-then}
 use borrow.Author.Needs.{needs}
-use Rattle.script.proofs.text.put_heading.Statement.{statement}
-use Rattle.script.proofs.text.put_heading.Tie as tie
+use Rattle.script.proofs.print.put_heading.Statement.{statement}
+use Rattle.script.proofs.print.put_heading.Tie as tie
 
 put4-requires : tie.Need-put4-requires
 put4-requires c κs = search needs

@@ -1,16 +1,16 @@
--- `script::text::put_place` stores one digit, or nothing for a leading zero. Assumes nothing.
+-- `script::print::put_place` stores one digit, or nothing for a leading zero. Assumes nothing.
 use native.Mathlib.Omega.{arith}
-use mathlib.Core.Path.{refl}
+use mathlib.Core.Path.{refl, ap}
+use mathlib.Core.List.{[], _∷_}
+use Prim.Native.Nat.{ℕ, _+_}
+use Rattle.script.specs.Slices.{Put}
 use Rattle.script.proofs.Texts.{put-nil, put-cons, place-hit, place-miss}
 use borrow.Author.Needs.{needs}
-use Rattle.script.proofs.text.put_place.Statement.{statement}
-use Rattle.script.proofs.text.put_place.Tie as tie
+use Rattle.script.proofs.print.put_place.Statement.{statement}
+use Rattle.script.proofs.print.put_place.Tie as tie
 
 returns : tie.Need-returns
 returns c = (place-miss (c .if1 .taken), omega arith)
-
-div-out : tie.Need-div-out
-div-out c = search needs
 
 add-out : tie.Need-add-out
 add-out c = search needs
@@ -28,9 +28,8 @@ same-length : tie.Need-same-length
 same-length c = search needs
 
 returns-2 : tie.Need-returns-2
-returns-2 c = (place-hit (omega arith) (put-cons refl put-nil), omega arith)
+returns-2 c = (place-hit (c .if1 .left) (rw (← c .before .pre .0) (put-cons refl put-nil)), omega arith)
 
 pub put-place-spec : {M : Type 1} → statement M
 put-place-spec =
-    tie.close
-    (tie.spec returns div-out add-out cast-out slice-write-out add-result same-length returns-2)
+    tie.close (tie.spec returns add-out cast-out slice-write-out add-result same-length returns-2)
