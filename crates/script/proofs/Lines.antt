@@ -14,7 +14,7 @@ use lib.ListN.{length}
 use native.Mathlib.Omega.{arith}
 use Rattle.script.specs.Text.{onto, lines}
 use Rattle.script.specs.Slices.{before, after}
-use Rattle.script.proofs.Parts.{before-most}
+use Rattle.script.proofs.ValuesInTurn.{before-most}
 
 pub lines-first : (s : List ℕ) → 0 < length s → lines s ≡ before 10 s ∷ lines (after 10 s)
 unfolding lines before after onto

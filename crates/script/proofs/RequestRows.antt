@@ -14,7 +14,7 @@ use native.Mathlib.Omega.{arith}
 use Rattle.guard.specs.Batch.{rowLength, requestAt, requests}
 use Rattle.guard.specs.declared.Request.{Request}
 use Rattle.script.specs.Slices.{written}
-use Rattle.script.specs.Batches.{isRequest, rowOf, numbersOf, one}
+use Rattle.script.specs.LineBatch.{isRequest, rowOf, numbersOf, one}
 use Rattle.script.specs.declared.line.Line.{Line}
 use Rattle.script.specs.declared.line.Line.the-variants.{Ask, SetUser, Bad}
 

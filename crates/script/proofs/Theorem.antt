@@ -14,15 +14,15 @@ use borrow.Author.Tests.{leb-true, leb-false, eqb-true, eqb-false}
 use Rattle.script.specs.Text.{lines}
 use Rattle.script.specs.Report.{lastLine, report}
 use Rattle.script.specs.Slices.{after}
-use Rattle.script.specs.Run.{benchOf, Told, put, silent, closing, fromNames, rest, Fits, Open, names-to-come, line-to-come, Finished, Session, begin, call, unbegun}
+use Rattle.script.specs.Run.{benchOf, Told, toldFirst, silent, closing, fromNames, rest, Fits, Open, names-to-come, line-to-come, Finished, Session, begin, call, unbegun}
 use Rattle.script.specs.declared.runner.Runner.{Runner}
 use Rattle.script.specs.declared.runner.Ran.{Ran}
-use Rattle.script.proofs.Rest.{put-put, rest-heading, rest-lines, rest-over, line-none}
+use Rattle.script.proofs.LeftToTell.{put-put, rest-heading, rest-lines, rest-over, line-none}
 
 pub record Reached (header : List (List ℕ)) (r : Runner) (s w : List ℕ) (r2 : Runner) (s2 : List ℕ) : Type 0 where
   pub known : List (List ℕ)
   pub fits : Fits known r2
-  pub same : rest header r s ≡ put w (rest known r2 s2)
+  pub same : rest header r s ≡ toldFirst w (rest known r2 s2)
 
 pub session-law : {r r2 : Runner} {s s2 w : List ℕ} → Session r s w r2 s2 → (header : List (List ℕ)) → Fits header r → Reached header r s w r2 s2
 session-law begin header f = record { known = header; fits = f; same = refl }
@@ -32,7 +32,7 @@ session-law (call {w} {piece} {more} {old} {new} {r2} {end} {x} p e k) header f 
     record {
       known = b .known;
       fits = b .fits;
-      same = a .same ∙ ap (put w) (b .same more e) ∙ put-put w (take (x .wrote) new) (rest (b .known) (x .runner) (drop (x .used) piece ++ more));
+      same = a .same ∙ ap (toldFirst w) (b .same more e) ∙ put-put w (take (x .wrote) new) (rest (b .known) (x .runner) (drop (x .used) piece ++ more));
     }
 
 -- where nothing is left to be done, nothing is left to tell
@@ -76,7 +76,7 @@ whole-report {r2} {s} {w} {piece} {old} {new} {x} p k room =
     let a = session-law p [] (unbegun-fits []) in
     let b = k .did .goes (a .known) (a .fits) in
     sym (rest-unbegun [] s) ∙ a .same
-    ∙ ap (put w) (rw (append-nil piece, append-nil (drop (x .used) piece)) at (b .same [] (λ e. refl)))
+    ∙ ap (toldFirst w) (rw (append-nil piece, append-nil (drop (x .used) piece)) at (b .same [] (λ e. refl)))
     ∙ put-put w (take (x .wrote) new) _
-    ∙ ap (put (w ++ take (x .wrote) new)) (rest-none (b .known) (x .runner) (drop (x .used) piece) (λ o. true≢false (k .stops o room .0)))
+    ∙ ap (toldFirst (w ++ take (x .wrote) new)) (rest-none (b .known) (x .runner) (drop (x .used) piece) (λ o. true≢false (k .stops o room .0)))
     ∙ (rw append-nil)

@@ -7,4 +7,4 @@ pub mod Slices
 pub mod Keys
 pub mod Rows
 pub mod Run
-pub mod Batches
+pub mod LineBatch

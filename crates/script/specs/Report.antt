@@ -80,13 +80,13 @@ answered header b n (l ∷ ls) =
 abbrev pub lastLine : ℕ
 lastLine = 65535
 
-abbrev pub opening : Bench
-opening = record { tables = fresh (replicate userCount noUser); shut = false }
+abbrev pub firstBench : Bench
+firstBench = record { tables = fresh (replicate userCount noUser); shut = false }
 
 -- A bad or missing first line prints `1 17` below the output's names and ends.
 unfoldable pub below : List (List ℕ) → List ℕ
 below [] = lineText 1 unreadAnswer
-below (h ∷ ls) = cond (isNames (values h)) (answered (values h) opening 2 ls) (lineText 1 unreadAnswer)
+below (h ∷ ls) = cond (isNames (values h)) (answered (values h) firstBench 2 ls) (lineText 1 unreadAnswer)
 
 unfoldable pub report : List ℕ → List ℕ
 report input = heading ++ below (take lastLine (lines input))

@@ -11,7 +11,7 @@ use Rattle.guard.specs.declared.Tables.{Tables}
 use Rattle.script.specs.Text.{lines, values}
 use Rattle.script.specs.Names.{nameCount, isNames}
 use Rattle.script.specs.Line.{longestLine, readLine}
-use Rattle.script.specs.Report.{Bench, Answered, unreadAnswer, answerLine, heading, lineText, lineRoom, answered, lastLine, opening, below}
+use Rattle.script.specs.Report.{Bench, Answered, unreadAnswer, answerLine, heading, lineText, lineRoom, answered, lastLine, firstBench, below}
 use Rattle.script.specs.Slices.{after, Put, Ordered}
 use Rattle.script.specs.declared.line.Line.{Line}
 use Rattle.script.specs.declared.runner.Runner.{Runner}
@@ -46,8 +46,8 @@ pub record Told : Type 0 where
   pub text : List ℕ
   pub bench : Bench
 
-abbrev pub put : List ℕ → Told → Told
-put w p = record { text = w ++ p .text; bench = p .bench }
+abbrev pub toldFirst : List ℕ → Told → Told
+toldFirst w p = record { text = w ++ p .text; bench = p .bench }
 
 abbrev pub silent : Bench → Told
 silent b = record { text = []; bench = b }
@@ -59,8 +59,8 @@ finally header b (l ∷ ls) = finally header (answerLine b (readLine header l) .
 
 -- .. and after all lines, the names line first
 unfoldable pub closing : List (List ℕ) → Bench
-closing [] = opening
-closing (h ∷ ls) = cond (isNames (values h)) (finally (values h) opening ls) opening
+closing [] = firstBench
+closing (h ∷ ls) = cond (isNames (values h)) (finally (values h) firstBench ls) firstBench
 
 -- n lines are done, the names line as 1; s is what is left, from the beginning of a line on
 unfoldable pub fromLine : List (List ℕ) → Bench → ℕ → List ℕ → Told
@@ -76,7 +76,7 @@ fromNames s = record { text = below (take lastLine (lines s)); bench = closing (
 -- is left of it is passed over.
 unfoldable pub rest : List (List ℕ) → Runner → List ℕ → Told
 rest header r s =
-    cond (eqb (r .phase) atHeading) (put heading (fromNames s))
+    cond (eqb (r .phase) atHeading) (toldFirst heading (fromNames s))
     (cond (eqb (r .phase) atNames) (fromNames s)
     (cond (eqb (r .phase) atLines) (fromLine header (benchOf r) (r .done) (cond (r .skip) (after 10 s) s))
     (silent (benchOf r))))
@@ -84,11 +84,11 @@ rest header r s =
 -- a runner that has done nothing but read the names `header`, if any: until then its bench is the opening one, and then
 -- it knows their order
 pub record Fits (header : List (List ℕ)) (r : Runner) : Type 0 where
-  pub opens : r .phase < atLines → benchOf r ≡ opening
+  pub opens : r .phase < atLines → benchOf r ≡ firstBench
   pub knows : r .phase ≡ atLines → Ordered header (r .at)
 
 -- the run is over, after a bad first line or with the last line that is read: nothing is left to tell, whatever input
--- follows (`over-silent`, proofs/Rest)
+-- follows (`over-silent`, proofs/LeftToTell)
 unfoldable pub isOver : Runner → Bool
 isOver r = cond (eqb (r .phase) atLines) (leb lastLine (r .done)) (ltb atLines (r .phase))
 
@@ -130,7 +130,7 @@ pub data Named (r : Runner) (l old : List ℕ) : List ℕ → Said → Type 0 wh
 pub record Onward (end : Bool) (header : List (List ℕ)) (r : Runner) (s w : List ℕ) (r2 : Runner) (s2 : List ℕ) : Type 0 where
   pub known : List (List ℕ)
   pub fits : Fits known r2
-  pub same : (more : List ℕ) → (end ≡ true → more ≡ []) → rest header r (s ++ more) ≡ put w (rest known r2 (s2 ++ more))
+  pub same : (more : List ℕ) → (end ≡ true → more ≡ []) → rest header r (s ++ more) ≡ toldFirst w (rest known r2 (s2 ++ more))
 
 abbrev pub Goes : Bool → Runner → List ℕ → List ℕ → Runner → List ℕ → Type 0
 Goes end r s w r2 s2 = (header : List (List ℕ)) → Fits header r → Onward end header r s w r2 s2
@@ -174,7 +174,7 @@ pub data Session (r : Runner) (s : List ℕ) : List ℕ → Runner → List ℕ 
 abbrev pub unbegun : Runner
 unbegun =
     record {
-      tables = opening .tables;
+      tables = firstBench .tables;
       shut = false;
       at = replicate nameCount 0;
       phase = atHeading;

@@ -17,7 +17,7 @@ ghost use mathlib.Core.Bool.{true, false};
 ghost use lib.ListN.{length};
 ghost use Rattle.script.specs.Report.{lineRoom, lastLine};
 ghost use Rattle.script.specs.Slices.{before};
-ghost use Rattle.script.specs.Batches.{Lent};
+ghost use Rattle.script.specs.LineBatch.{Lent};
 ghost use Rattle.script.specs.Run.{atNames, atLines, unbegun, isOver, Spoken, Named, Stepped, Finished};
 
 // The phases of a run: the heading is to come, the names are to come, lines of values, over.

@@ -1,10 +1,10 @@
--- `gather`: the loop over lines keeps Taken (Loading). Assumes nothing.
+-- `gather`: the loop over lines keeps Taken (GatherLoop). Assumes nothing.
 use Prim.Native.Nat.{_-_, _≤_}
 use mathlib.Core.Path.{_≡_, sym, _∙_}
 use native.Mathlib.Omega.{arith}
 use lib.ListN.{length}
-use Rattle.script.proofs.Loading.{Taken, taken-none, taken-next, taken-all, count-few, goes-on}
-use Rattle.script.proofs.Batches.{one-least}
+use Rattle.script.proofs.GatherLoop.{Taken, taken-none, taken-next, taken-all, count-few, goes-on}
+use Rattle.script.proofs.LinesInBatch.{one-least}
 use borrow.Author.Needs.{needs}
 use Rattle.script.proofs.batch.gather.Statement.{statement}
 use Rattle.script.proofs.batch.gather.Tie as tie

@@ -5,10 +5,10 @@ use lib.ListN.{length, take}
 use native.Mathlib.Nat.{add-zero}
 use native.Mathlib.Omega.{arith}
 use Rattle.script.specs.Slices.{Numbered, Put}
-use Rattle.script.specs.Batches.{asked, texts}
+use Rattle.script.specs.LineBatch.{asked, texts}
 use Rattle.script.proofs.Texts.{numbered}
-use Rattle.script.proofs.Batches.{one-least}
-use Rattle.script.proofs.Outputs.{room-left, line-few, along, asked-none, asked-on, asked-below, texts-none, texts-more, texts-all}
+use Rattle.script.proofs.LinesInBatch.{one-least}
+use Rattle.script.proofs.BatchStep.{room-left, line-few, along, asked-none, asked-on, asked-below, texts-none, texts-more, texts-all}
 use borrow.Author.Needs.{needs}
 use Rattle.script.proofs.batch.put_answers.Statement.{statement}
 use Rattle.script.proofs.batch.put_answers.Tie as tie

@@ -1,6 +1,6 @@
 -- `keep`: how many bytes are to be moved, by the order of `used`, `have` and the length. Assumes nothing.
 use native.Mathlib.Omega.{arith}
-use Rattle.script.proofs.Moves.{kept-none, kept-short, kept-all, kept-rest}
+use Rattle.script.proofs.ShiftLoop.{kept-none, kept-short, kept-all, kept-rest}
 use borrow.Author.Needs.{needs}
 use Rattle.script.proofs.buffer.keep.Statement.{statement}
 use Rattle.script.proofs.buffer.keep.Tie as tie

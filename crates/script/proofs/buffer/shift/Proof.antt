@@ -1,7 +1,7 @@
--- `shift`: the first i bytes are in their new place, the others as they were (Shifting of Moves). Assumes nothing.
+-- `shift`: the first i bytes are in their new place, the others as they were (Shifting of ShiftLoop). Assumes nothing.
 use Prim.Native.Nat.{_-_}
 use borrow.Author.Needs.{needs}
-use Rattle.script.proofs.Moves.{Shifting, shift-none, shift-more, shift-done}
+use Rattle.script.proofs.ShiftLoop.{Shifting, shift-none, shift-more, shift-done}
 use Rattle.script.proofs.buffer.shift.Statement.{statement}
 use Rattle.script.proofs.buffer.shift.Tie as tie
 

@@ -1,6 +1,6 @@
 -- `script::fields::field` meets its contract: each answer is what the definition takes a field as. Assumes nothing.
 use borrow.Author.Needs.{needs}
-use Rattle.script.proofs.Taking.{field-missing, field-extra, field-number}
+use Rattle.script.proofs.FieldsTaken.{field-missing, field-extra, field-number}
 use Rattle.script.proofs.fields.field.Statement.{statement}
 use Rattle.script.proofs.fields.field.Tie as tie
 

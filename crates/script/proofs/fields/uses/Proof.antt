@@ -1,6 +1,6 @@
 -- `script::fields::uses` meets its contract: the table's rule, by computing. Assumes nothing.
 use borrow.Author.Needs.{needs}
-use Rattle.script.proofs.Taking.{table, table-used}
+use Rattle.script.proofs.FieldsTaken.{table, table-used}
 use Rattle.script.proofs.fields.uses.Statement.{statement}
 use Rattle.script.proofs.fields.uses.Tie as tie
 

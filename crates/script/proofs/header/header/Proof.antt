@@ -3,8 +3,8 @@
 use Prim.Native.Nat.{_-_}
 use lib.ListN.{length}
 use borrow.Author.Needs.{needs}
-use Rattle.script.proofs.Parts.{part-length}
-use Rattle.script.proofs.Orders.{Seen, seen-start, seen-more, seen-end, seen-over, name-fits}
+use Rattle.script.proofs.ValuesInTurn.{part-length}
+use Rattle.script.proofs.HeaderLoop.{Seen, seen-start, seen-more, seen-end, seen-over, name-fits}
 use Rattle.script.proofs.header.header.Statement.{statement}
 use Rattle.script.proofs.header.header.Tie as tie
 

@@ -1,7 +1,7 @@
 -- `script::line::asked` meets its contract: what a line asks is told by its row. Assumes nothing.
 use borrow.Author.Needs.{needs}
 use mathlib.Core.Path.{_∙_}
-use Rattle.script.proofs.Asking.{read-bad, read-unknown, read-halves, asks-by, asks-fault}
+use Rattle.script.proofs.LineAsked.{read-bad, read-unknown, read-halves, asks-by, asks-fault}
 use Rattle.script.proofs.line.asked.Statement.{statement}
 use Rattle.script.proofs.line.asked.Tie as tie
 

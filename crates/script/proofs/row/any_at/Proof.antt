@@ -5,9 +5,9 @@ use mathlib.Core.Path.{sym, _∙_}
 use native.Mathlib.Omega.{arith}
 use Rattle.script.specs.Rows.{coded}
 use Rattle.script.specs.declared.line.Value.the-variants.{Digits, Dash, Other}
-use Rattle.script.proofs.Spans.{lead-within, lead-part}
-use Rattle.script.proofs.Finding.{code-dash, code-word, code-value, word-small, found-any}
-use Rattle.script.proofs.Codes.{digits-small, form-number, form-dash, form-other}
+use Rattle.script.proofs.FirstValue.{lead-within, lead-part}
+use Rattle.script.proofs.FoundValue.{code-dash, code-word, code-value, word-small, found-any}
+use Rattle.script.proofs.CodeForms.{digits-small, form-number, form-dash, form-other}
 use Rattle.script.proofs.row.any_at.Statement.{statement}
 use Rattle.script.proofs.row.any_at.Tie as tie
 

@@ -2,7 +2,7 @@
 use denote.Ref.{now}
 use borrow.Author.Needs.{needs}
 use native.Mathlib.Omega.{arith}
-use Rattle.script.proofs.Finding.{found-one, found-two, found-last, found-word}
+use Rattle.script.proofs.FoundValue.{found-one, found-two, found-last, found-word}
 use Rattle.script.proofs.row.code_at.Statement.{statement}
 use Rattle.script.proofs.row.code_at.Tie as tie
 

@@ -1,6 +1,6 @@
 -- `script::row::is_dash` meets its contract. Assumes nothing.
 use borrow.Author.Needs.{needs}
-use Rattle.script.proofs.Finding.{dash-one, dash-none}
+use Rattle.script.proofs.FoundValue.{dash-one, dash-none}
 use Rattle.script.proofs.row.is_dash.Statement.{statement}
 use Rattle.script.proofs.row.is_dash.Tie as tie
 

@@ -1,5 +1,5 @@
 -- `script::row::is_digit` meets its contract. Assumes nothing.
-use Rattle.script.proofs.Finding.{digit-both}
+use Rattle.script.proofs.FoundValue.{digit-both}
 use Rattle.script.proofs.row.is_digit.Statement.{statement}
 use Rattle.script.proofs.row.is_digit.Tie as tie
 

@@ -1,7 +1,7 @@
 -- `script::row::is_space` meets its contract. Assumes nothing.
 use denote.Ref.{now}
 use borrow.Author.Needs.{needs}
-use Rattle.script.proofs.Finding.{space-past}
+use Rattle.script.proofs.FoundValue.{space-past}
 use Rattle.script.proofs.row.is_space.Statement.{statement}
 use Rattle.script.proofs.row.is_space.Tie as tie
 

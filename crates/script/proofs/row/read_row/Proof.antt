@@ -5,8 +5,8 @@ use native.Mathlib.Omega.{arith}
 use lib.ListN.{length}
 use borrow.Author.Needs.{needs}
 use borrow.Author.Tests.{not-true, not-false}
-use Rattle.script.proofs.Rows.{Filled, filled-start, row-other, row-over}
-use Rattle.script.proofs.Stores.{filled-number, filled-dash, row-number, row-dash, filled-slice, found-slice, found-less, filled-skip}
+use Rattle.script.proofs.RowLoop.{Filled, filled-start, row-other, row-over}
+use Rattle.script.proofs.RowStores.{filled-number, filled-dash, row-number, row-dash, filled-slice, found-slice, found-less, filled-skip}
 use Rattle.script.proofs.row.read_row.Statement.{statement}
 use Rattle.script.proofs.row.read_row.Tie as tie
 

@@ -2,7 +2,7 @@
 use native.Mathlib.Omega.{arith}
 use mathlib.Core.Path.{sym, _∙_}
 use lib.Seq.{length-take-le}
-use Rattle.script.proofs.Outputs.{fits-in, room-for, batch-done}
+use Rattle.script.proofs.BatchStep.{fits-in, room-for, batch-done}
 use borrow.Author.Needs.{needs}
 use Rattle.script.proofs.runner.batch_step.Statement.{statement}
 use Rattle.script.proofs.runner.batch_step.Tie as tie

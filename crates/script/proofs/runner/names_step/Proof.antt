@@ -1,8 +1,8 @@
--- `names_step`: the names line, once it is there. Each return is a law of Steps. Assumes nothing.
+-- `names_step`: the names line, once it is there. Each return is a law of StepReturns. Assumes nothing.
 use mathlib.Core.Path.{sym}
 use lib.Seq.{length-take-le}
 use native.Mathlib.Omega.{arith}
-use Rattle.script.proofs.Steps.{no-room, names-wait, idle-step, names-whole-step, names-cut-step}
+use Rattle.script.proofs.StepReturns.{no-room, names-wait, idle-step, names-whole-step, names-cut-step}
 use borrow.Author.Needs.{needs}
 use Rattle.script.proofs.runner.names_step.Statement.{statement}
 use Rattle.script.proofs.runner.names_step.Tie as tie

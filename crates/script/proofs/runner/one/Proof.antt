@@ -1,6 +1,6 @@
 -- `one`: the step of the runner's phase. Assumes nothing.
 use native.Mathlib.Omega.{arith}
-use Rattle.script.proofs.Steps.{over-stops, idle-step}
+use Rattle.script.proofs.StepReturns.{over-stops, idle-step}
 use borrow.Author.Needs.{needs}
 use Rattle.script.proofs.runner.one.Statement.{statement}
 use Rattle.script.proofs.runner.one.Tie as tie

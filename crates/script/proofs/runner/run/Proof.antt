@@ -1,5 +1,5 @@
 -- `run`: the heading, where it is to come, and the loop over the piece. Assumes nothing.
-use Rattle.script.proofs.Runs.{heading-wrote, headed-done, idle-done}
+use Rattle.script.proofs.PieceLoop.{heading-wrote, headed-done, idle-done}
 use borrow.Author.Needs.{needs}
 use Rattle.script.proofs.runner.run.Statement.{statement}
 use Rattle.script.proofs.runner.run.Tie as tie

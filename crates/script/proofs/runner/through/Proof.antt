@@ -1,12 +1,12 @@
--- `through`: the loop over a piece. The invariant says what is left to tell from here (Held of Runs), the measure is what is
+-- `through`: the loop over a piece. The invariant says what is left to tell from here (Held of PieceLoop), the measure is what is
 -- left of the piece. Assumes nothing.
 use native.Mathlib.Omega.{arith}
 use mathlib.Core.Path.{sym, _∙_}
 use Prim.Native.Nat.{_-_, _≤_}
 use lib.ListN.{length}
 use Rattle.script.specs.Run.{atNames}
-use Rattle.script.specs.Batches.{Lent}
-use Rattle.script.proofs.Runs.{Held, held-none, loop-more, loop-done}
+use Rattle.script.specs.LineBatch.{Lent}
+use Rattle.script.proofs.PieceLoop.{Held, held-none, loop-more, loop-done}
 use borrow.Author.Needs.{needs}
 use Rattle.script.proofs.runner.through.Statement.{statement}
 use Rattle.script.proofs.runner.through.Tie as tie

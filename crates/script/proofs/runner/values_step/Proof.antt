@@ -1,9 +1,9 @@
--- `values_step`: one line of values, or the rest of one that has been answered. Each return is a law of Steps. Assumes nothing.
+-- `values_step`: one line of values, or the rest of one that has been answered. Each return is a law of StepReturns. Assumes nothing.
 use mathlib.Core.Path.{sym}
 use lib.Seq.{length-take-le}
 use native.Mathlib.Omega.{arith}
-use Rattle.script.proofs.Spans.{before-part, before-all}
-use Rattle.script.proofs.Steps.{no-room, no-line, line-waits, idle-step, found-step, none-step, whole-step, long-step, last-step}
+use Rattle.script.proofs.FirstValue.{before-part, before-all}
+use Rattle.script.proofs.StepReturns.{no-room, no-line, line-waits, idle-step, found-step, none-step, whole-step, long-step, last-step}
 use borrow.Author.Needs.{needs}
 use Rattle.script.proofs.runner.values_step.Statement.{statement}
 use Rattle.script.proofs.runner.values_step.Tie as tie

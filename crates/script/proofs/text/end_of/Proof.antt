@@ -4,7 +4,7 @@ use borrow.Author.Needs.{needs}
 use Prim.Native.Nat.{ℕ, _+_}
 use mathlib.Core.Path.{ap}
 use native.Mathlib.Omega.{arith}
-use Rattle.script.proofs.Spans.{rest-before, rest-within}
+use Rattle.script.proofs.FirstValue.{rest-before, rest-within}
 use Rattle.script.proofs.text.end_of.Statement.{statement}
 use Rattle.script.proofs.text.end_of.Tie as tie
 

@@ -2,7 +2,7 @@
 use Prim.Native.Nat.{_-_}
 use native.Mathlib.Omega.{arith}
 use lib.ListN.{length}
-use Rattle.script.proofs.Keys.{Packed, packed-start, packed-small, packed-more, packed-end, key-long}
+use Rattle.script.proofs.ByKey.{Packed, packed-start, packed-small, packed-more, packed-end, key-long}
 use Rattle.script.proofs.text.key.Statement.{statement}
 use Rattle.script.proofs.text.key.Tie as tie
 

@@ -1,6 +1,6 @@
 -- `script::text::key4` meets its contract: the key of four bytes. Assumes nothing.
 use borrow.Author.Needs.{needs}
-use Rattle.script.proofs.Words.{key-four}
+use Rattle.script.proofs.WordAtFront.{key-four}
 use Rattle.script.proofs.text.key4.Statement.{statement}
 use Rattle.script.proofs.text.key4.Tie as tie
 

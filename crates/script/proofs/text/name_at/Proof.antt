@@ -1,5 +1,5 @@
 -- `script::text::name_at` finds the place among the names by the key. Assumes nothing.
-use Rattle.script.proofs.Keys.{name-keys, at-key, at-none}
+use Rattle.script.proofs.ByKey.{name-keys, at-key, at-none}
 use borrow.Author.Needs.{needs}
 use Rattle.script.proofs.text.name_at.Statement.{statement}
 use Rattle.script.proofs.text.name_at.Tie as tie

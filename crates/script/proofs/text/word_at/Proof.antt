@@ -2,7 +2,7 @@
 use borrow.Author.Needs.{needs}
 use mathlib.Core.Path.{ap, _∙_}
 use Rattle.script.specs.Keys.{wordOf}
-use Rattle.script.proofs.Words.{word-text}
+use Rattle.script.proofs.WordAtFront.{word-text}
 use Rattle.script.proofs.text.word_at.Statement.{statement}
 use Rattle.script.proofs.text.word_at.Tie as tie
 

@@ -3,7 +3,7 @@ use borrow.Author.Needs.{needs}
 use native.Mathlib.Omega.{arith}
 use lib.ListN.{length-drop}
 use denote.Ref.{now}
-use Rattle.script.proofs.Words.{key-next, begins}
+use Rattle.script.proofs.WordAtFront.{key-next, begins}
 use Rattle.script.proofs.text.word_key.Statement.{statement}
 use Rattle.script.proofs.text.word_key.Tie as tie
 

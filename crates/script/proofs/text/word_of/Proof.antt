@@ -1,5 +1,5 @@
 -- `script::text::word_of` finds the place among the words by the key. Assumes nothing.
-use Rattle.script.proofs.Words.{word-at-key, word-none}
+use Rattle.script.proofs.WordAtFront.{word-at-key, word-none}
 use Rattle.script.proofs.text.word_of.Statement.{statement}
 use Rattle.script.proofs.text.word_of.Tie as tie
 

@@ -12,9 +12,9 @@ use borrow.Author.Tests.{eqb-true}
 use Rattle.bitset.specs.Tests.{every}
 use Rattle.script.specs.Text.{bytes, same, onto, values}
 use Rattle.script.specs.Names.{names, among, isNames}
-use Rattle.script.proofs.Keys.{same-eq}
-use Rattle.script.proofs.Parts.{values-some}
-use Rattle.script.proofs.Headers.{names-length}
+use Rattle.script.proofs.ByKey.{same-eq}
+use Rattle.script.proofs.ValuesInTurn.{values-some}
+use Rattle.script.proofs.NamePlaces.{names-length}
 
 -- ---- how long the line of some values is, with one byte 10 or 32 behind each
 abbrev span : List (List ℕ) → ℕ

@@ -11,7 +11,7 @@ use Rattle.guard.specs.declared.Tables.{Tables}
 use Rattle.guard.specs.declared.Request.{Request}
 use Rattle.script.specs.Report.{unreadAnswer, lineText, lineRoom, lastLine}
 use Rattle.script.specs.Slices.{Ordered}
-use Rattle.script.specs.Run.{bench, put, fromLine}
+use Rattle.script.specs.Run.{bench, toldFirst, fromLine}
 use Rattle.script.specs.declared.line.Line.{Line}
 use Rattle.script.specs.declared.line.Line.the-variants.{Ask, SetUser, Bad}
 use Rattle.script.specs.declared.batch.Gathered.{Gathered}
@@ -86,5 +86,5 @@ pub record Batched (at : List ℕ) (shut : Bool) (s : List ℕ) (most : ℕ) (ro
   pub count : g .count ≡ asked (take (g .lines) marks)
   pub goes : (header : List (List ℕ)) → Ordered header at → (t : Tables) (n : ℕ) → n + g .lines ≤ lastLine → (more : List ℕ)
       → fromLine header (bench t shut) n (s ++ more)
-      ≡ put (texts (n + 1) (take (g .lines) marks) (answers t (requests (g .count) rows)))
+      ≡ toldFirst (texts (n + 1) (take (g .lines) marks) (answers t (requests (g .count) rows)))
       (fromLine header (bench (run t (requests (g .count) rows)) (g .shut)) (n + g .lines) (drop (g .used) s ++ more))

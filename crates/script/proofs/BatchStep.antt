@@ -23,16 +23,16 @@ use Rattle.guard.specs.declared.Request.{Request}
 use Rattle.guard.proofs.Batches.{length-answers}
 use Rattle.script.specs.Report.{lineText, lastLine}
 use Rattle.script.specs.Slices.{after, written, Put}
-use Rattle.script.specs.Run.{atLines, bench, benchOf, Told, put, fromLine, rest, Fits, Goes, Stepped}
-use Rattle.script.specs.Batches.{batchLines, one, asked, said, texts, Most, Batched}
+use Rattle.script.specs.Run.{atLines, bench, benchOf, Told, toldFirst, fromLine, rest, Fits, Goes, Stepped}
+use Rattle.script.specs.LineBatch.{batchLines, one, asked, said, texts, Most, Batched}
 use Rattle.script.specs.declared.runner.Runner.{Runner}
 use Rattle.script.specs.declared.batch.Gathered.{Gathered}
 use Rattle.script.proofs.Texts.{put-nil, put-then, line-length}
-use Rattle.script.proofs.Parts.{to-end}
+use Rattle.script.proofs.ValuesInTurn.{to-end}
 use Rattle.script.proofs.RequestRows.{requests-count, requests-take}
-use Rattle.script.proofs.Rest.{rest-lines}
-use Rattle.script.proofs.Runs.{ran, worked, stepped, tail-back}
-use Rattle.script.proofs.Batches.{asked-snoc, asked-few, texts-snoc, texts-given, texts-length}
+use Rattle.script.proofs.LeftToTell.{rest-lines}
+use Rattle.script.proofs.PieceLoop.{ran, worked, stepped, tail-back}
+use Rattle.script.proofs.LinesInBatch.{asked-snoc, asked-few, texts-snoc, texts-given, texts-length}
 
 -- ---- one line more
 pub texts-none : {l : List ℕ} (n : ℕ) (given : List ℕ) → Put l 0 (texts n [] given) l 0
@@ -164,7 +164,7 @@ module _ (r : Runner) (piece old new : List ℕ) (end : Bool) (g : Gathered) (u 
         fits = record { opens = λ h. absurd (past h); knows = λ h. f .knows p };
         same = λ more e.
             rest-lines header r (piece ++ more) p ∙ (rw k) ∙ took .goes header (f .knows p) (r .tables) (r .done) last more ∙ (rw (← words, ← there))
-            ∙ ap (put (texts (r .done + 1) asks told)) (sym (later header more));
+            ∙ ap (toldFirst (texts (r .done + 1) asks told)) (sym (later header more));
       }
     where
       past : r .phase < 2 → ⊥

@@ -22,16 +22,16 @@ use Rattle.bitset.specs.Tests.Laws.{is-false}
 use Rattle.script.specs.Text.{lines, values}
 use Rattle.script.specs.Names.{isNames}
 use Rattle.script.specs.Line.{readLine}
-use Rattle.script.specs.Report.{Bench, answerLine, heading, lineText, answered, lastLine, opening, below}
+use Rattle.script.specs.Report.{Bench, answerLine, heading, lineText, answered, lastLine, firstBench, below}
 use Rattle.script.specs.Slices.{before, after, written, Put}
-use Rattle.script.specs.Run.{atHeading, atNames, atLines, atEnd, benchOf, Told, put, silent, finally, closing, fromLine, fromNames, rest, isOver, Goes}
+use Rattle.script.specs.Run.{atHeading, atNames, atLines, atEnd, benchOf, Told, toldFirst, silent, finally, closing, fromLine, fromNames, rest, isOver, Goes}
 use Rattle.script.specs.declared.line.Line.the-variants.{Bad}
 use Rattle.script.specs.declared.runner.Runner.{Runner}
 use Rattle.script.proofs.Lines.{lines-first, before-whole, after-none}
-use Rattle.script.proofs.Short.{names-short}
+use Rattle.script.proofs.NamesLineShort.{names-short}
 
 -- ---- one call after another
-pub put-put : (w v : List ℕ) (p : Told) → put w (put v p) ≡ put (w ++ v) p
+pub put-put : (w v : List ℕ) (p : Told) → toldFirst w (toldFirst v p) ≡ toldFirst (w ++ v) p
 put-put w v p = rw append-assoc
 
 pub goes-then : (e : Bool) (r r2 r3 : Runner) (s s2 s3 w v : List ℕ) → Goes e r s w r2 s2 → Goes e r2 s2 v r3 s3 → Goes e r s (w ++ v) r3 s3
@@ -41,7 +41,7 @@ goes-then e r r2 r3 s s2 s3 w v p q header f =
     record {
       known = b .known;
       fits = b .fits;
-      same = λ more h. a .same more h ∙ ap (put w) (b .same more h) ∙ put-put w v _;
+      same = λ more h. a .same more h ∙ ap (toldFirst w) (b .same more h) ∙ put-put w v _;
     }
 
 pub goes-nowhere : (e : Bool) (r : Runner) (s : List ℕ) → Goes e r s [] r s
@@ -65,7 +65,7 @@ front {old} {new} {w} {n} p l =
     }
 
 -- ---- what is left to tell, by phase
-pub rest-heading : (header : List (List ℕ)) (r : Runner) (s : List ℕ) → r .phase ≡ atHeading → rest header r s ≡ put heading (fromNames s)
+pub rest-heading : (header : List (List ℕ)) (r : Runner) (s : List ℕ) → r .phase ≡ atHeading → rest header r s ≡ toldFirst heading (fromNames s)
 unfolding rest
 rest-heading header r s p = rw p
 
@@ -89,7 +89,7 @@ down n h = omega arith
 
 pub line-on : (header : List (List ℕ)) (b : Bench) (n : ℕ) (s : List ℕ) → n < lastLine → 0 < length s
     → fromLine header b n s
-    ≡ put (lineText (n + 1) (answerLine b (readLine header (before 10 s)) .answer))
+    ≡ toldFirst (lineText (n + 1) (answerLine b (readLine header (before 10 s)) .answer))
     (fromLine header (answerLine b (readLine header (before 10 s)) .bench) (n + 1) (after 10 s))
 unfolding fromLine answered finally
 line-on header b n s d l = rw (lines-first s l, down n d)
@@ -117,7 +117,7 @@ over-silent r h header s = go (eqb (r .phase) atLines) refl h
     go false e h = rest-over header r s (ltb-true _ _ h)
 
 abbrev pub refused : Told
-refused = record { text = lineText 1 17; bench = opening }
+refused = record { text = lineText 1 17; bench = firstBench }
 
 by-test : (t : Bool) (v w : List ℕ) (b c : Bench)
     → _≡_ {A = Told} (record { text = cond t v w; bench = cond t b c }) (cond t (record { text = v; bench = b }) (record { text = w; bench = c }))
@@ -125,7 +125,7 @@ by-test true v w b c = refl
 by-test false v w b c = refl
 
 pub names-on : (s : List ℕ) → 0 < length s
-    → fromNames s ≡ cond (isNames (values (before 10 s))) (fromLine (values (before 10 s)) opening 1 (after 10 s)) refused
+    → fromNames s ≡ cond (isNames (values (before 10 s))) (fromLine (values (before 10 s)) firstBench 1 (after 10 s)) refused
 unfolding fromNames fromLine below closing
 names-on s l = rw (lines-first s l) (by-test (isNames (values (before 10 s))) _ _ _ _)
 
@@ -137,7 +137,7 @@ empty-bad : isNames (values []) ≡ false
 unfolding isNames values every
 empty-bad = refl
 
-pub names-end : (s : List ℕ) → length s ≤ length (before 10 s) → fromNames s ≡ cond (isNames (values s)) (fromLine (values s) opening 1 []) refused
+pub names-end : (s : List ℕ) → length s ≤ length (before 10 s) → fromNames s ≡ cond (isNames (values s)) (fromLine (values s) firstBench 1 []) refused
 names-end [] m = names-none ∙ (rw (empty-bad))
 names-end (b ∷ s) m = names-on (b ∷ s) (omega arith) ∙ (rw (before-whole 10 (b ∷ s) m, after-none 10 (b ∷ s) m))
 

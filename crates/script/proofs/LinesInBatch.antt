@@ -16,7 +16,7 @@ use Rattle.guard.specs.Step.{run, answers}
 use Rattle.guard.specs.declared.Tables.{Tables}
 use Rattle.script.specs.Report.{answerLine, lineText}
 use Rattle.script.specs.Run.{bench}
-use Rattle.script.specs.Batches.{isRequest, isAllowed, one, asked, said, texts}
+use Rattle.script.specs.LineBatch.{isRequest, isAllowed, one, asked, said, texts}
 use Rattle.script.specs.declared.line.Line.{Line}
 use Rattle.script.specs.declared.line.Line.the-variants.{Ask, SetUser, Bad}
 use Rattle.script.proofs.Texts.{line-length}

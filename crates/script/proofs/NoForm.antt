@@ -16,11 +16,11 @@ use Rattle.script.specs.Rows.{coded, codeAt, members}
 use Rattle.script.specs.declared.line.Value.{Value}
 use Rattle.script.specs.declared.line.Value.the-variants.{Digits, Dash, Other}
 use Rattle.script.specs.declared.line.Line.the-variants.{Bad}
-use Rattle.script.proofs.Taking.{table-used}
-use Rattle.script.proofs.Headers.{column-most}
-use Rattle.script.proofs.Words.{words-length}
-use Rattle.script.proofs.Codes.{digits-small}
-use Rattle.script.proofs.Reading.{code-later, no-values}
+use Rattle.script.proofs.FieldsTaken.{table-used}
+use Rattle.script.proofs.NamePlaces.{column-most}
+use Rattle.script.proofs.WordAtFront.{words-length}
+use Rattle.script.proofs.CodeForms.{digits-small}
+use Rattle.script.proofs.LineOfRow.{code-later, no-values}
 
 taken-other : (b : Bool) (x : Numbers) → taken b Other x ≡ unreadable
 unfolding taken

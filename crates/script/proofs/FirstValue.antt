@@ -19,7 +19,7 @@ use lib.ListN.{length, getD, take, drop, length-drop, drop-of-length-le}
 use lib.Seq.{drop-cons, length-take-le, take-all}
 use borrow.Author.Tests.{eqb-true, ne-eqb}
 use Rattle.script.specs.Slices.{before, leading}
-use Rattle.script.proofs.Parts.{before-take, before-most, to-end}
+use Rattle.script.proofs.ValuesInTurn.{before-take, before-most, to-end}
 
 -- ---- the loop
 module _ (s : List ℕ) (i : ℕ) (h : length (leading s) ≡ i + length (leading (drop i s))) where

@@ -22,9 +22,9 @@ use Rattle.script.specs.Line.{requestWords, words}
 use Rattle.script.specs.Slices.{leading}
 use Rattle.script.specs.Rows.{noWord}
 use Rattle.script.specs.Keys.{packed, keyOf, spot, wordOf, Begins}
-use Rattle.script.proofs.Keys.{Bytes, Misses, by-key, spot-none, wordKeys, word-keys}
-use Rattle.script.proofs.Headers.{column-found}
-use Rattle.script.proofs.Spans.{clean, lead-clean}
+use Rattle.script.proofs.ByKey.{Bytes, Misses, by-key, spot-none, wordKeys, word-keys}
+use Rattle.script.proofs.NamePlaces.{column-found}
+use Rattle.script.proofs.FirstValue.{clean, lead-clean}
 
 -- ---- which word has a key
 pub word-at-key : {k n : ℕ} → k ≡ n → spot n wordKeys ≡ wordOf k

@@ -19,7 +19,7 @@ use Rattle.bitset.specs.Sets.Laws.{has-none, has-with-same, has-with-other}
 use Rattle.script.specs.Names.{under}
 use Rattle.script.specs.Slices.{Ordered}
 use Rattle.script.specs.Rows.{codeAt, nameAt, codeIn, blank, gathered, marked, fine}
-use Rattle.script.proofs.Headers.{placeOf, place-lt, place-at, at-lt, at-place, under-at}
+use Rattle.script.proofs.NamePlaces.{placeOf, place-lt, place-at, at-lt, at-place, under-at}
 
 none-below : (n : ℕ) → n < 0 → ⊥
 none-below n h = omega arith

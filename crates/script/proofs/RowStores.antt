@@ -18,10 +18,10 @@ use Rattle.script.specs.Text.{values}
 use Rattle.script.specs.Slices.{before}
 use Rattle.script.specs.Rows.{IsFound, nameAt, codeIn, gathered, marked, fine, IsRow}
 use Rattle.script.specs.declared.row.Found.{Found}
-use Rattle.script.proofs.Parts.{before-most}
-use Rattle.script.proofs.Codes.{number-form, dash-form}
-use Rattle.script.proofs.Finding.{found-dash}
-use Rattle.script.proofs.Rows.{Filled, code-here, end-most, inside, next-left, line-end, count}
+use Rattle.script.proofs.ValuesInTurn.{before-most}
+use Rattle.script.proofs.CodeForms.{number-form, dash-form}
+use Rattle.script.proofs.FoundValue.{found-dash}
+use Rattle.script.proofs.RowLoop.{Filled, code-here, end-most, inside, next-left, line-end, count}
 
 module _ {s at vals : List ℕ} {given from j : ℕ} (p : Filled s at vals given from j) {f : Found} (q : IsFound (nameAt at j) s from f) where
   abbrev l : List ℕ

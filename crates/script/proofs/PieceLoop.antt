@@ -25,9 +25,9 @@ use Rattle.script.specs.Run.{atHeading, atNames, Goes, Worked, Stopped, 
 use Rattle.script.specs.declared.runner.Runner.{Runner}
 use Rattle.script.specs.declared.runner.Ran.{Ran}
 use Rattle.script.proofs.Texts.{heading-length}
-use Rattle.script.proofs.Parts.{to-end}
-use Rattle.script.proofs.Rest.{goes-then, goes-nowhere, Front, front}
-use Rattle.script.proofs.Pieces.{headed, goes-heading}
+use Rattle.script.proofs.ValuesInTurn.{to-end}
+use Rattle.script.proofs.LeftToTell.{goes-then, goes-nowhere, Front, front}
+use Rattle.script.proofs.Onward.{headed, goes-heading}
 
 -- ---- one call
 abbrev pub ran : Runner → ℕ → ℕ → Ran

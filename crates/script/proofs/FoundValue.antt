@@ -21,13 +21,13 @@ use Rattle.script.specs.Slices.{leading}
 use Rattle.script.specs.Keys.{wordOf, Begins}
 use Rattle.script.specs.Rows.{coded, codeAt, formOf, IsFound}
 use Rattle.script.specs.declared.line.Value.{Value}
-use Rattle.script.proofs.Keys.{Bytes}
+use Rattle.script.proofs.ByKey.{Bytes}
 use Rattle.script.proofs.Texts.{not-dash, no-dash, good-digits}
-use Rattle.script.proofs.Parts.{to-end}
-use Rattle.script.proofs.Headers.{column-most}
-use Rattle.script.proofs.Spans.{lead-take, lead-one, lead-end, lead-two, drop-two, drop-three}
-use Rattle.script.proofs.Words.{Word, words-length, word-known, word-space, bytes-drop}
-use Rattle.script.proofs.Codes.{form-number, form-dash}
+use Rattle.script.proofs.ValuesInTurn.{to-end}
+use Rattle.script.proofs.NamePlaces.{column-most}
+use Rattle.script.proofs.FirstValue.{lead-take, lead-one, lead-end, lead-two, drop-two, drop-three}
+use Rattle.script.proofs.WordAtFront.{Word, words-length, word-known, word-space, bytes-drop}
+use Rattle.script.proofs.CodeForms.{form-number, form-dash}
 
 -- ---- a dash
 pub dash-one : (v : List ℕ) → length v ≡ 1 → eqb (getD v 0 0) 45 ≡ same v (bytes "-")

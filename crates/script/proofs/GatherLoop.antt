@@ -21,17 +21,17 @@ use Rattle.guard.proofs.Batches.{run-snoc, answers-snoc, length-answers}
 use Rattle.script.specs.Line.{readLine}
 use Rattle.script.specs.Report.{lineText, lastLine}
 use Rattle.script.specs.Slices.{before, after, written, Ordered}
-use Rattle.script.specs.Run.{bench, put, fromLine}
-use Rattle.script.specs.Batches.{isRequest, isAllowed, numbersOf, one, asked, said, texts, Batched}
+use Rattle.script.specs.Run.{bench, toldFirst, fromLine}
+use Rattle.script.specs.LineBatch.{isRequest, isAllowed, numbersOf, one, asked, said, texts, Batched}
 use Rattle.script.specs.declared.line.Line.{Line}
 use Rattle.script.specs.declared.line.Line.the-variants.{Ask, SetUser, Bad}
 use Rattle.script.specs.declared.line.Front.{Front}
 use Rattle.script.specs.declared.batch.Gathered.{Gathered}
-use Rattle.script.proofs.Parts.{after-drop, to-end}
+use Rattle.script.proofs.ValuesInTurn.{after-drop, to-end}
 use Rattle.script.proofs.Lines.{before-append, after-append}
-use Rattle.script.proofs.Rest.{put-put, line-on}
+use Rattle.script.proofs.LeftToTell.{put-put, line-on}
 use Rattle.script.proofs.RequestRows.{requestsOf, requests-count, requests-on}
-use Rattle.script.proofs.Batches.{line-in, asked-snoc, asked-few, texts-snoc, texts-given}
+use Rattle.script.proofs.LinesInBatch.{line-in, asked-snoc, asked-few, texts-snoc, texts-given}
 
 -- ---- one line on
 abbrev pub answerTo : Tables → Line → ℕ
@@ -40,7 +40,7 @@ answerTo t l = said (isRequest l) (getD (answers t (requestsOf l)) 0 0)
 batch-on : (header : List (List ℕ)) (t : Tables) (shut : Bool) (n : ℕ) (s more : List ℕ) {l : Line} → l ≡ readLine header (before 10 s) → isAllowed shut l ≡ false
     → n < lastLine → length (before 10 s) < length s
     → fromLine header (bench t shut) n (s ++ more)
-    ≡ put (lineText (n + 1) (answerTo t l)) (fromLine header (bench (run t (requestsOf l)) (shut || isRequest l)) (n + 1) (after 10 s ++ more))
+    ≡ toldFirst (lineText (n + 1) (answerTo t l)) (fromLine header (bench (run t (requestsOf l)) (shut || isRequest l)) (n + 1) (after 10 s ++ more))
 batch-on header t shut n s more e a d h =
     line-on header (bench t shut) n (s ++ more) d (omega (arith, length-append s more))
     ∙ (rw (before-append 10 more s h, after-append 10 more s h, ← e, line-in t shut _ a))
@@ -83,7 +83,7 @@ pub record Taken (at s : List ℕ) (before : Bool) (rows : List ℕ) (marks : Li
   pub counted : count ≡ asked (take lines marks)
   pub goes : (header : List (List ℕ)) → Ordered header at → (t : Tables) (n : ℕ) → n + lines ≤ lastLine → (more : List ℕ)
       → fromLine header (bench t before) n (s ++ more)
-      ≡ put (texts (n + 1) (take lines marks) (answers t (requests count rows)))
+      ≡ toldFirst (texts (n + 1) (take lines marks) (answers t (requests count rows)))
       (fromLine header (bench (run t (requests count rows)) shut) (n + lines) (drop used s ++ more))
 
 pub taken-none : (at s : List ℕ) (shut : Bool) (rows : List ℕ) (marks : List Bool) → Taken at s shut rows marks 0 0 0 shut
@@ -139,8 +139,8 @@ module _ {at s part : List ℕ} {first shut : Bool} {rows : List ℕ} {marks : L
             let line : List ℕ = lineText (n + lines + 1) (answerTo u (x .asked)) in
             let e : asked (take lines marks) ≡ length log = sym (h .counted) ∙ sym (requests-count count rows) in
             h .goes header o t n (omega (arith, k)) more
-            ∙ ap (λ (v : List ℕ). put so-far (fromLine header (bench u shut) (n + lines) (v ++ more))) (sym p)
-            ∙ ap (put so-far) (batch-on header u shut (n + lines) part more (is header o) a (omega (arith, k)) (omega (arith, len, l)))
+            ∙ ap (λ (v : List ℕ). toldFirst so-far (fromLine header (bench u shut) (n + lines) (v ++ more))) (sym p)
+            ∙ ap (toldFirst so-far) (batch-on header u shut (n + lines) part more (is header o) a (omega (arith, k)) (omega (arith, len, l)))
             ∙ put-put so-far line (fromLine header (bench (run u (requestsOf (x .asked))) (shut || m)) (n + lines + 1) (after 10 part ++ more))
             ∙ (rw (more-marks, more-requests, texts-on t log (x .asked) (n + 1) (take lines marks) e, run-on t log (x .asked), ← rest-after, lines-taken, along n lines, onward n lines));
       }

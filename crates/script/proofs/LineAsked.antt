@@ -20,11 +20,11 @@ use Rattle.script.specs.declared.line.Line.the-variants.{Bad}
 use Rattle.script.specs.declared.fields.Half.{Half}
 use Rattle.script.specs.declared.fields.Half.the-variants.{Fault as Broken}
 use Rattle.script.specs.declared.row.Row.{Row}
-use Rattle.script.proofs.Taking.{take-split}
-use Rattle.script.proofs.Headers.{names-length}
-use Rattle.script.proofs.Gathers.{row-number, row-given, row-form, row-none}
-use Rattle.script.proofs.Reading.{Held, line-unknown, line-known}
-use Rattle.script.proofs.Unread.{line-none}
+use Rattle.script.proofs.FieldsTaken.{take-split}
+use Rattle.script.proofs.NamePlaces.{names-length}
+use Rattle.script.proofs.RowUnderHeader.{row-number, row-given, row-form, row-none}
+use Rattle.script.proofs.LineOfRow.{Held, line-unknown, line-known}
+use Rattle.script.proofs.NoForm.{line-none}
 
 either-way : (b : Bool) {x : Line} → Bad ≡ x → Bad ≡ cond b x Bad
 either-way true e = e

@@ -22,7 +22,7 @@ use Rattle.guard.proofs.Laws.Pigeons.{Meet, pigeons}
 use Rattle.script.specs.Text.{bytes, same}
 use Rattle.script.specs.Names.{names, column, among, isNames, under}
 use Rattle.script.specs.Slices.{Ordered}
-use Rattle.script.proofs.Keys.{same-eq, same-self}
+use Rattle.script.proofs.ByKey.{same-eq, same-self}
 
 none-below : (n : ℕ) → n < 0 → ⊥
 none-below n h = omega arith

@@ -23,8 +23,8 @@ use Rattle.script.specs.declared.runner.Said.{Said}
 use Rattle.script.specs.declared.runner.Ran.{Ran}
 use Rattle.script.proofs.Texts.{line-length}
 use Rattle.script.proofs.Lines.{found-short}
-use Rattle.script.proofs.Pieces.{NamesGo, goes-good, goes-bad, names-whole, names-last, names-long, skip-found, skip-none, whole, last, long, skipping}
-use Rattle.script.proofs.Runs.{ran, worked-none, worked, idled, stepped}
+use Rattle.script.proofs.Onward.{NamesGo, goes-good, goes-bad, names-whole, names-last, names-long, skip-found, skip-none, whole, last, long, skipping}
+use Rattle.script.proofs.PieceLoop.{ran, worked-none, worked, idled, stepped}
 
 -- ---- why a step stops
 pub no-room : (r : Runner) (s : List ℕ) (e : Bool) (n : ℕ) → n < 12 → Stopped r s e n

@@ -21,9 +21,9 @@ use Rattle.script.specs.Text.{values}
 use Rattle.script.specs.Slices.{before, after, leading}
 use Rattle.script.specs.Rows.{codeAt, IsFound, nameAt, codeIn, blank, gathered, marked, fine, IsRow}
 use Rattle.script.specs.declared.row.Found.{Found}
-use Rattle.script.proofs.Parts.{values-more, values-last, values-some, first-value, after-drop}
-use Rattle.script.proofs.Spans.{before-drop, before-rest, lead-most, lead-more, lead-last}
-use Rattle.script.proofs.Codes.{other-form}
+use Rattle.script.proofs.ValuesInTurn.{values-more, values-last, values-some, first-value, after-drop}
+use Rattle.script.proofs.FirstValue.{before-drop, before-rest, lead-most, lead-more, lead-last}
+use Rattle.script.proofs.CodeForms.{other-form}
 
 -- ---- a value of no form
 fine-not : (at : List ℕ) (vs : List (List ℕ)) (j n : ℕ) → j < n → 100000 < codeIn at vs j → fine at vs n ≡ false

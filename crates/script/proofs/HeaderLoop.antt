@@ -21,8 +21,8 @@ use Rattle.bitset.specs.Tests.Laws.{all-e, both, clash, is-false, some-none, so
 use Rattle.script.specs.Text.{values}
 use Rattle.script.specs.Names.{names, column, among, isNames}
 use Rattle.script.specs.Slices.{before, Ordered}
-use Rattle.script.proofs.Parts.{Reached, reached-start, reached-here, reached-end, reached-over, reached-next}
-use Rattle.script.proofs.Headers.{or-last, column-most, column-found, among-found, among-i, names-at, names-length, names-count, name-among}
+use Rattle.script.proofs.ValuesInTurn.{Reached, reached-start, reached-here, reached-end, reached-over, reached-next}
+use Rattle.script.proofs.NamePlaces.{or-last, column-most, column-found, among-found, among-i, names-at, names-length, names-count, name-among}
 
 -- the name i stands at one of the first n places
 unfoldable pub stands : List (List ℕ) → ℕ → ℕ → Bool

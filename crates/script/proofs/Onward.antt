@@ -15,15 +15,15 @@ use native.Mathlib.Omega.{arith}
 use Rattle.script.specs.Text.{bytes, values}
 use Rattle.script.specs.Names.{isNames}
 use Rattle.script.specs.Line.{readLine}
-use Rattle.script.specs.Report.{Bench, heading, lineText, answered, lastLine, opening}
+use Rattle.script.specs.Report.{Bench, heading, lineText, answered, lastLine, firstBench}
 use Rattle.script.specs.Slices.{before, after, Ordered}
-use Rattle.script.specs.Run.{atHeading, atNames, atLines, benchOf, put, fromLine, fromNames, rest, Fits, afterLine, textOf, withNames, over, Onward, Goes}
+use Rattle.script.specs.Run.{atHeading, atNames, atLines, benchOf, toldFirst, fromLine, fromNames, rest, Fits, afterLine, textOf, withNames, over, Onward, Goes}
 use Rattle.script.specs.declared.line.Line.{Line}
 use Rattle.script.specs.declared.line.Line.the-variants.{Bad}
 use Rattle.script.specs.declared.runner.Runner.{Runner}
-use Rattle.script.proofs.Parts.{before-most, before-take, after-drop}
+use Rattle.script.proofs.ValuesInTurn.{before-most, before-take, after-drop}
 use Rattle.script.proofs.Lines.{before-append, after-append, before-all, after-all, before-whole, after-none}
-use Rattle.script.proofs.Rest.{rest-heading, rest-names, rest-lines, rest-over, line-on, refused, names-on, names-end, names-too-long, too-long}
+use Rattle.script.proofs.LeftToTell.{rest-heading, rest-names, rest-lines, rest-over, line-on, refused, names-on, names-end, names-too-long, too-long}
 
 -- ---- the heading
 one-two : _≡_ {A = ℕ} 1 2 → ⊥
@@ -40,19 +40,19 @@ goes-heading e r s p header f =
     record {
       known = header;
       fits = record { opens = λ h. f .opens (omega arith); knows = λ h. absurd (one-two h) };
-      same = λ more h. rest-heading header r (s ++ more) p ∙ ap (put heading) (sym (rest-names header (headed r) (s ++ more) refl));
+      same = λ more h. rest-heading header r (s ++ more) p ∙ ap (toldFirst heading) (sym (rest-names header (headed r) (s ++ more) refl));
     }
 
 -- ---- the names line l of s, and s2 after it
 abbrev pub NamesGo : Bool → List ℕ → List ℕ → List ℕ → Type 0
 NamesGo e s l s2 =
     (more : List ℕ) → (e ≡ true → more ≡ [])
-    → fromNames (s ++ more) ≡ cond (isNames (values l)) (fromLine (values l) opening 1 (s2 ++ more)) refused
+    → fromNames (s ++ more) ≡ cond (isNames (values l)) (fromLine (values l) firstBench 1 (s2 ++ more)) refused
 
 module _ {e : Bool} {r : Runner} (l s s2 : List ℕ) (p : r .phase ≡ atNames) (g : NamesGo e s l s2) where
   pub goes-good : (at : List ℕ) → Ordered (values l) at → Goes e r s [] (withNames r at) s2
   goes-good at o header f =
-      let b : benchOf r ≡ opening = f .opens (omega arith) in
+      let b : benchOf r ≡ firstBench = f .opens (omega arith) in
       record {
         known = values l;
         fits = record { opens = λ h. absurd (past h); knows = λ h. o };
@@ -67,7 +67,7 @@ module _ {e : Bool} {r : Runner} (l s s2 : List ℕ) (p : r .phase ≡ atNames) 
 
   pub goes-bad : isNames (values l) ≡ false → Goes e r s (lineText 1 17) (over r) s2
   goes-bad n header f =
-      let b : benchOf r ≡ opening = f .opens (omega arith) in
+      let b : benchOf r ≡ firstBench = f .opens (omega arith) in
       record {
         known = header;
         fits = record { opens = λ h. absurd (past h); knows = λ h. absurd (three-two h) };
@@ -80,7 +80,7 @@ module _ {e : Bool} {r : Runner} (l s s2 : List ℕ) (p : r .phase ≡ atNames) 
 
 -- ---- a line of values
 rest-line : (header : List (List ℕ)) (r : Runner) (s : List ℕ) → r .phase ≡ atLines → r .skip ≡ false → r .done < lastLine → 0 < length s
-    → rest header r s ≡ put (textOf r (readLine header (before 10 s))) (rest header (afterLine r (readLine header (before 10 s))) (after 10 s))
+    → rest header r s ≡ toldFirst (textOf r (readLine header (before 10 s))) (rest header (afterLine r (readLine header (before 10 s))) (after 10 s))
 unfolding rest textOf afterLine
 rest-line header r s p t d n = rw (p, t) (line-on header (benchOf r) (r .done) s d n)
 
@@ -182,5 +182,5 @@ module _ (r : Runner) (s : List ℕ) (e : Bool) (k : ℕ) (f : k ≡ length (bef
           same = λ more h.
               rest-line header r (s ++ more) p t d (omega (arith, length-append s more))
               ∙ (rw (before-all 10 more s m, after-all 10 more s m, too-long header s n, too-long header (s ++ before 10 more) (omega (arith, length-append s (before 10 more))), drop-of-length-le s l)
-              (ap (put (textOf r Bad)) (skip-on header r Bad more p t)));
+              (ap (toldFirst (textOf r Bad)) (skip-on header r Bad more p t)));
         }

@@ -23,11 +23,11 @@ use Rattle.script.specs.Rows.{coded, codeAt, noWord, blank, takenAs, joi
 use Rattle.script.specs.declared.line.Value.{Value}
 use Rattle.script.specs.declared.line.Value.the-variants.{Digits, Dash, Other}
 use Rattle.script.specs.declared.line.Line.the-variants.{Bad}
-use Rattle.script.proofs.Keys.{same-eq}
-use Rattle.script.proofs.Taking.{step-on}
-use Rattle.script.proofs.Headers.{column-most}
-use Rattle.script.proofs.Words.{words-length}
-use Rattle.script.proofs.Codes.{digits-small}
+use Rattle.script.proofs.ByKey.{same-eq}
+use Rattle.script.proofs.FieldsTaken.{step-on}
+use Rattle.script.proofs.NamePlaces.{column-most}
+use Rattle.script.proofs.WordAtFront.{words-length}
+use Rattle.script.proofs.CodeForms.{digits-small}
 
 -- ---- fields
 -- a value, by whether it is a number and which
