@@ -1,0 +1,106 @@
+// A batch: requests gathered as rows of eleven numbers, in the order of a request's fields, and run.
+use crate::ask;
+use crate::show;
+use guard::Request;
+use guard::Tables;
+ghost use Prim.Native.Nat.{_≤_};
+
+// Rows, and how many numbers they have. There is room for 256 rows.
+pub struct Batch {
+    pub rows: [u32; 2816],
+    pub count: usize,
+}
+
+// The tables after a batch, and the answers. Where none was written there is 255.
+pub struct Done {
+    pub tables: Tables,
+    pub answers: [u8; 256],
+}
+
+// So many rows more, as long as there is room.
+pub fn with(mut b: Batch, q: Request, times: u64) -> Batch {
+    let mut at = b.count;
+    let mut left = times % 257 * 11;
+    while left > 0 {
+        if 2816 <= at {
+            return b;
+        }
+        b.rows[at] = ask::field(q, at % 11);
+        at += 1;
+        b.count = at;
+        left -= 1;
+    }
+    b
+}
+
+// The rows as requests.
+fn requests(rows: &[u32]) -> [Request; 256] {
+    let mut all = [ask::UNUSED; 256];
+    let mut i = 0usize;
+    while i < 2816 {
+        if i < rows.len() {
+            let q = ask::with(all[i / 11], (i % 11) as u64, rows[i]);
+            all[i / 11] = q;
+        }
+        i += 1;
+    }
+    all
+}
+
+// As many requests as stand whole in `rows` and have room in `answers`.
+fn run(t: Tables, rows: &[u32], answers: &mut [u8]) -> Tables {
+    let n = if answers.len() < rows.len() / 11 {
+        answers.len()
+    } else {
+        rows.len() / 11
+    };
+    let r = t.run(requests(rows), n);
+    let list = r.answers;
+    let mut i = 0usize;
+    while i < 256 {
+        if n <= i {
+            return r.tables;
+        }
+        if answers.len() <= i {
+            return r.tables;
+        }
+        answers[i] = list[i];
+        i += 1;
+    }
+    r.tables
+}
+
+// The first `n` numbers of the rows, with so much room for answers.
+fn ran(t: Tables, rows: [u32; 2816], n: usize, room: usize) -> Done
+    requires { ⌜ n ≤ 2816 ⌝ }
+    requires { ⌜ room ≤ 256 ⌝ }
+{
+    let mut answers = [255u8; 256];
+    let tables = run(t, &rows[..n], &mut answers[..room]);
+    Done { tables, answers }
+}
+
+fn answers(list: [u8; 256], room: usize)
+    requires { ⌜ room ≤ 256 ⌝ }
+{
+    show::say(show::ANSWERS);
+    let mut i = 0usize;
+    while i < room {
+        show::form(show::ONE, show::one(list[i] as u64));
+        i += 1;
+    }
+    show::say(show::END);
+}
+
+// What the batch changes, and its answers, of which there are at most 256; hands on the tables.
+pub fn told(name: &[u8], t: Tables, b: Batch, n: u64, room: u64) -> Tables {
+    let rows = b.rows;
+    let room = (room % 257) as usize;
+    let r = ran(t, rows, (n % 2817) as usize, room);
+    show::word(name);
+    show::say(show::COLON);
+    show::changes(t, r.tables);
+    let list = r.answers;
+    answers(list, room);
+    r.tables
+}
