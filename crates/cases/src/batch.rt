@@ -33,50 +33,13 @@ pub fn with(mut b: Batch, q: Request, times: u64) -> Batch {
     b
 }
 
-// The rows as requests.
-fn requests(rows: &[u32]) -> [Request; 256] {
-    let mut all = [ask::UNUSED; 256];
-    let mut i = 0usize;
-    while i < 2816 {
-        if i < rows.len() {
-            let q = ask::with(all[i / 11], (i % 11) as u64, rows[i]);
-            all[i / 11] = q;
-        }
-        i += 1;
-    }
-    all
-}
-
-// As many requests as stand whole in `rows` and have room in `answers`.
-fn run(t: Tables, rows: &[u32], answers: &mut [u8]) -> Tables {
-    let n = if answers.len() < rows.len() / 11 {
-        answers.len()
-    } else {
-        rows.len() / 11
-    };
-    let r = t.run(requests(rows), n);
-    let list = r.answers;
-    let mut i = 0usize;
-    while i < 256 {
-        if n <= i {
-            return r.tables;
-        }
-        if answers.len() <= i {
-            return r.tables;
-        }
-        answers[i] = list[i];
-        i += 1;
-    }
-    r.tables
-}
-
 // The first `n` numbers of the rows, with so much room for answers.
 fn ran(t: Tables, rows: [u32; 2816], n: usize, room: usize) -> Done
     requires { ⌜ n ≤ 2816 ⌝ }
     requires { ⌜ room ≤ 256 ⌝ }
 {
     let mut answers = [255u8; 256];
-    let tables = run(t, &rows[..n], &mut answers[..room]);
+    let tables = t.run(&rows[..n], &mut answers[..room]);
     Done { tables, answers }
 }
 

@@ -20,7 +20,7 @@ use Rattle.guard.specs.Step.{run, answers}
 use Rattle.guard.specs.Batch.{rowLength, requests, batchLength, batch, RunsBatch}
 use Rattle.guard.specs.declared.Tables.{Tables}
 use Rattle.guard.specs.declared.Request.{Request}
-use Rattle.guard.proofs.Batches.{length-answers}
+use Rattle.guard.proofs.Logs.{length-answers}
 use Rattle.script.specs.Report.{lineText, lastLine}
 use Rattle.script.specs.Slices.{after, written, Put}
 use Rattle.script.specs.Run.{atLines, bench, benchOf, Told, toldFirst, fromLine, rest, Fits, Goes, Stepped}

@@ -17,7 +17,7 @@ use Rattle.guard.specs.Step.{answer, next, run, answers}
 use Rattle.guard.specs.Batch.{rowLength, requests}
 use Rattle.guard.specs.declared.Tables.{Tables}
 use Rattle.guard.specs.declared.Request.{Request}
-use Rattle.guard.proofs.Batches.{run-snoc, answers-snoc, length-answers}
+use Rattle.guard.proofs.Logs.{run-snoc, answers-snoc, length-answers}
 use Rattle.script.specs.Line.{readLine}
 use Rattle.script.specs.Report.{lineText, lastLine}
 use Rattle.script.specs.Slices.{before, after, written, Ordered}
