@@ -61,4 +61,4 @@ module _ (a b : Bool) (cs : List Refusal) (n : ℕ) where
   keeper-met h k = h ∙ sym (first-here (10 when a ∷ 12 when b ∷ []) cs (λ z. k (h ∙ z)))
 
   pub keeper-unmet : (m : ℕ) → m ≡ first (10 when a ∷ 12 when b ∷ []) → m ≡ 0 → n ≡ first cs → n ≡ first (10 when a ∷ 12 when b ∷ cs)
-  keeper-unmet m h z k = k ∙ sym (first-past (10 when a ∷ 12 when b ∷ []) cs 0 refl (sym h ∙ z))
+  keeper-unmet m h z k = k ∙ sym (first-past (10 when a ∷ 12 when b ∷ []) cs refl (sym h ∙ z))

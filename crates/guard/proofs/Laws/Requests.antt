@@ -1,6 +1,7 @@
 -- The sixteen requests against the paper's lists of numbers.
 --     applying        the numbers that apply to each request, in the order of the sixteen, as the paper's lines have them
---     rising          .. with 1 and 2 before them they rise, so that the first that is met is the lowest that is met
+--     apart, rising   .. with 1 and 2 before them they are distinct and none is 0, and they rise
+--     answer-none, answer-leads   0 exactly when no condition is met, and n exactly when n's is met and none before it
 --     answer-lowest, answer-met   the answer is the lowest number that applies and whose condition is met
 --     unknown-answer  a request of none of the sixteen kinds: 2 on sound tables
 --     unsound-answer  unsound tables: 1, whatever is asked
@@ -9,6 +10,7 @@ use Prim.Native.Nat.{ℕ, _≤_}
 use mathlib.Core.Path.{_≡_, refl}
 use mathlib.Core.Bool.{Bool, true, false, not, and-false}
 use mathlib.Core.List.{List, [], _∷_, map}
+use mathlib.Core.Logic.{_↔_}
 use lib.Dec.{ltb}
 use lib.ListN.{List·getD-eq-default}
 use borrow.Author.Tests.{le-ltb}
@@ -19,7 +21,7 @@ use Rattle.guard.specs.Requests.{Rule, fieldInRange, requestCount, login
 use Rattle.guard.specs.Step.{inRanges, answer}
 use Rattle.guard.specs.declared.Tables.{Tables}
 use Rattle.guard.specs.declared.Request.{Request}
-use Rattle.guard.proofs.Laws.Refusals.{conditionOf, risingFrom, first-met, first-lowest}
+use Rattle.guard.proofs.Laws.Refusals.{conditionOf, distinct, first-none, Leads, first-leads, first-met, risingFrom, first-lowest}
 use Rattle.guard.proofs.Laws.Step.{each-rule}
 
 abbrev numbers : Tables → Request → Rule → List ℕ
@@ -52,6 +54,16 @@ applying t q = refl
 abbrev pub conditions : Rule → Tables → Request → List Refusal
 conditions r t q = 1 when not (sound t) ∷ 2 when not (inRanges q) ∷ r .refusals t q
 
+-- the numbers of each list are distinct, and none is 0
+apart : (t : Tables) (q : Request) → distinct (conditions (ruleOf q) t q) ≡ true
+unfolding rules login logout take drop openr openw close create delete rename grant revoke list unlist make unmake unknown
+apart t q =
+    each-rule (λ r. distinct (conditions r t q) ≡ true)
+    (refl, (refl, (refl, (refl, (refl, (refl, (refl, (refl, (refl, (refl, (refl, (refl, (refl, (refl, (refl, (refl, tt))))))))))))))))
+    refl
+    q
+
+-- .. and they rise
 rising : (t : Tables) (q : Request) → risingFrom 0 (conditions (ruleOf q) t q) ≡ true
 unfolding rules login logout take drop openr openw close create delete rename grant revoke list unlist make unmake unknown
 rising t q =
@@ -64,11 +76,21 @@ rising t q =
 -- given otherwise.
 pub answer-met : (t : Tables) (q : Request) → (answer t q ≡ 0 → ⊥) → conditionOf (answer t q) (conditions (ruleOf q) t q) ≡ true
 unfolding answer
-answer-met t q h = first-met (conditions (ruleOf q) t q) (rising t q) h
+answer-met t q h = first-met (conditions (ruleOf q) t q) (apart t q) h
 
 pub answer-lowest : (t : Tables) (q : Request) (n : ℕ) → conditionOf n (conditions (ruleOf q) t q) ≡ true → answer t q ≤ n
 unfolding answer
 answer-lowest t q n h = first-lowest (conditions (ruleOf q) t q) (rising t q) n h
+
+-- Answer 0 means done: exactly when no condition is met; and the answer is n exactly when n's condition is met and none before
+-- it in the list.
+pub answer-none : (t : Tables) (q : Request) → (answer t q ≡ 0 ↔ ((n : ℕ) → conditionOf n (conditions (ruleOf q) t q) ≡ false))
+unfolding answer
+answer-none t q = first-none (conditions (ruleOf q) t q) (apart t q)
+
+pub answer-leads : (t : Tables) (q : Request) (n : ℕ) → (n ≡ 0 → ⊥) → (answer t q ≡ n ↔ Leads n (conditions (ruleOf q) t q))
+unfolding answer
+answer-leads t q n h = first-leads (conditions (ruleOf q) t q) (apart t q) n h
 
 -- ---- a request of none of the sixteen kinds
 pub unknown-rule : (q : Request) → requestCount ≤ q .call → ruleOf q ≡ unknown

@@ -14,7 +14,7 @@ use lib.ListN.{getD, set}
 use Rattle.bitset.specs.Sets.{from}
 use Rattle.bitset.specs.Sets.Shift.{with-below, with-above, without-below, without-above}
 use Rattle.guard.specs.Tables.{noSession, noRole, noEntity}
-use Rattle.guard.specs.Edits.{withSessions, withRoles, withEntities, takeRole, dropRole, openReading, openWriting, closeBoth, put, setRights, listUser, unlistUser}
+use Rattle.guard.specs.Edits.{withSessions, withRoles, withEntities, takeRole, dropRole, openReading, openWriting, closeBoth, putIn, setRights, listUser, unlistUser}
 use Rattle.guard.specs.Upper.{firstSession, firstRole, firstEntity, upperSession, upperRole}
 use Rattle.guard.specs.declared.Session.{Session}
 use Rattle.guard.specs.declared.Role.{Role}
@@ -73,14 +73,14 @@ entityTable L =
       new = λ t u l m s e. record { users = s .users; sessions = s .sessions; roles = s .roles; entities = e };
     }
 
--- ---- a member put into a set, or out of it: below k it is not seen, from k on it moves down by k
-put-below : (inside : Bool) (k s e : ℕ) → e < k → from k (put inside e s) ≡ from k s
-unfolding put
+-- ---- a member putIn into a set, or out of it: below k it is not seen, from k on it moves down by k
+put-below : (inside : Bool) (k s e : ℕ) → e < k → from k (putIn inside e s) ≡ from k s
+unfolding putIn
 put-below true = with-below
 put-below false = without-below
 
-put-above : (inside : Bool) (k s e : ℕ) → k ≤ e → from k (put inside e s) ≡ put inside (e - k) (from k s)
-unfolding put
+put-above : (inside : Bool) (k s e : ℕ) → k ≤ e → from k (putIn inside e s) ≡ putIn inside (e - k) (from k s)
+unfolding putIn
 put-above true = with-above
 put-above false = without-above
 

@@ -15,7 +15,7 @@ create-refusal-from-10-requires : tie.Need-create-refusal-from-10-requires
 create-refusal-from-10-requires c κs = search needs
 
 returns-2 : tie.Need-returns-2
-returns-2 c = c .create-refusal-from-10 .ensures ∙ sym (first-past _ _ 0 refl (sym (c .before .before .create-refusal-to-9 .ensures) ∙ c .before .if1 .left))
+returns-2 c = c .create-refusal-from-10 .ensures ∙ sym (first-past _ _ refl (sym (c .before .before .create-refusal-to-9 .ensures) ∙ c .before .if1 .left))
 
 pub create-refusal-spec : {M : Type 1} → statement M
 create-refusal-spec =
