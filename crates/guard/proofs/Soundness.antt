@@ -3,10 +3,10 @@ pub mod Tests
 pub mod Loops
 pub mod Count
 pub mod Members
-pub mod Pushed
+pub mod DeadSet
 pub mod Climb
 pub mod Cases
-pub mod Settled
+pub mod EntityFacts
 pub mod Keys
 pub mod Grants
 pub mod Opens

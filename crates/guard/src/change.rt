@@ -19,7 +19,7 @@ pub fn change_of(call: u32) -> Change
     ensures { λ c. ⌜ c ≡ changeOf call ⌝ }
 {
     match call {
-        0..=6 => Change::Session,
+        kinds::LOGIN..=kinds::CLOSE => Change::Session,
         kinds::CREATE => Change::Create,
         kinds::DELETE => Change::Delete,
         kinds::RENAME => Change::Rename,

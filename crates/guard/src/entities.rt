@@ -3,6 +3,7 @@ use crate::Entity;
 use crate::Label;
 use crate::Request;
 use crate::labels;
+use crate::sizes;
 use crate::view::View;
 ghost use Prim.Native.Nat.{_≤_, _<_};
 ghost use mathlib.Core.Path.{_≡_};
@@ -32,7 +33,7 @@ fn create_refusal_to_9(v: View) -> u8
     if v.entity.live {
         return 8;
     }
-    if v.parent.kind != 1 {
+    if v.parent.kind != sizes::CONTAINER {
         return 9;
     }
     0
@@ -43,7 +44,9 @@ fn create_refusal_from_10(q: Request, v: View) -> u8
     requires { ⌜ (q .level ≤ 3) × (q .cats ≤ 255) ⌝ }
     ensures { λ n. ⌜ n ≡ first (10 when either (not (eqb (entityLevel (q .entity)) (entityLevel (q .parent)))) (ltb (roleLevel (q .role)) (entityLevel (q .entity))) ∷ 11 when not (dominates (labelAsked q) (v .parent .label)) ∷ 12 when not (has (v .session .roles) (q .role)) ∷ 13 when either (not (has (v .session .writing) (q .parent))) (not (has (v .rights .executes) (q .parent))) ∷ 14 when v .child ∷ []) ⌝ }
 {
-    if (q.entity / 16 != q.parent / 16) | (q.role / 4 < q.entity / 16) {
+    if (q.entity / sizes::LEVEL_ENTITIES != q.parent / sizes::LEVEL_ENTITIES)
+        | (q.role / sizes::LEVEL_ROLES < q.entity / sizes::LEVEL_ENTITIES)
+    {
         return 10;
     }
     let label = labels::made(q.level, q.cats);
@@ -82,7 +85,7 @@ pub fn change_refusal(q: Request, v: View, last: u8) -> u8
     if !v.session.live {
         return 5;
     }
-    if q.entity % 16 == 0 {
+    if q.entity % sizes::LEVEL_ENTITIES == 0 {
         return 6;
     }
     if !v.entity.live {

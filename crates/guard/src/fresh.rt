@@ -6,6 +6,11 @@ use crate::Role;
 use crate::Session;
 use crate::Tables;
 use crate::User;
+use crate::sizes::BLOCK;
+use crate::sizes::ENTITIES;
+use crate::sizes::ROLES;
+use crate::sizes::SESSIONS;
+use crate::sizes::USERS;
 ghost use mathlib.Core.Path.{_≡_};
 ghost use Prim.Native.Nat.{_<_};
 ghost use Rattle.guard.specs.Fresh.{freshRole, freshEntity, tabulate, fresh, build};
@@ -40,7 +45,7 @@ fn fresh_entity(e: usize) -> Entity
     ensures { λ n. ⌜ n ≡ freshEntity e ⌝ }
 {
     let none = Label { cats: 0, grade: 0 };
-    if e % 16 == 0 {
+    if e % BLOCK == 0 {
         return Entity {
             live: true,
             kind: 1,
@@ -58,7 +63,7 @@ fn fresh_entity(e: usize) -> Entity
     }
 }
 
-fn fresh_roles() -> [Role; 16]
+fn fresh_roles() -> [Role; ROLES]
     ensures { λ l. ⌜ l ≡ tabulate 16 freshRole ⌝ }
 {
     let dead = Role {
@@ -69,9 +74,9 @@ fn fresh_roles() -> [Role; 16]
         executes: 0,
         owns: 0,
     };
-    let mut roles = [dead; 16];
+    let mut roles = [dead; ROLES];
     let mut i = 0usize;
-    while i < 16 {
+    while i < ROLES {
         let p = fresh_role(i);
         roles[i] = p;
         i += 1;
@@ -79,7 +84,7 @@ fn fresh_roles() -> [Role; 16]
     roles
 }
 
-fn fresh_entities() -> [Entity; 64]
+fn fresh_entities() -> [Entity; ENTITIES]
     ensures { λ l. ⌜ l ≡ tabulate 64 freshEntity ⌝ }
 {
     let none = Label { cats: 0, grade: 0 };
@@ -90,9 +95,9 @@ fn fresh_entities() -> [Entity; 64]
         name: 0,
         label: none,
     };
-    let mut entities = [dead; 64];
+    let mut entities = [dead; ENTITIES];
     let mut i = 0usize;
-    while i < 64 {
+    while i < ENTITIES {
         let n = fresh_entity(i);
         entities[i] = n;
         i += 1;
@@ -100,7 +105,7 @@ fn fresh_entities() -> [Entity; 64]
     entities
 }
 
-fn fresh_over(users: [User; 16]) -> Tables
+fn fresh_over(users: [User; USERS]) -> Tables
     ensures { λ t. ⌜ t ≡ fresh users ⌝ }
 {
     let none = Label { cats: 0, grade: 0 };
@@ -112,7 +117,7 @@ fn fresh_over(users: [User; 16]) -> Tables
         reading: 0,
         writing: 0,
     };
-    let sessions = [dead; 16];
+    let sessions = [dead; SESSIONS];
     let roles = fresh_roles();
     let entities = fresh_entities();
     Tables {
@@ -126,7 +131,7 @@ fn fresh_over(users: [User; 16]) -> Tables
 impl Tables {
     // Fresh tables over the users, and answer 0; or answer 2 where a number is past its range, with fresh tables over
     // sixteen users of ceiling 0 and clearance 0/0.
-    pub fn fresh(users: [User; 16]) -> Outcome
+    pub fn fresh(users: [User; USERS]) -> Outcome
         ensures { λ o. ⌜ o ≡ build users ⌝ }
     {
         let tables = fresh_over(users);
@@ -138,7 +143,7 @@ impl Tables {
             ceiling: 0,
             clearance: none,
         };
-        let tables = fresh_over([nobody; 16]);
+        let tables = fresh_over([nobody; USERS]);
         Outcome { tables, answer: 2 }
     }
 }

@@ -38,6 +38,6 @@ pub fn judge(q: Request, v: View) -> u8
         kinds::UNLIST => roles::list_refusal(q, v, !bitset::has16(v.users, q.user)),
         kinds::MAKE => roles::make_refusal(q, v),
         kinds::UNMAKE => roles::unmake_refusal(q, v),
-        16..=4294967295 => 2,
+        kinds::KINDS..=4294967295 => 2,
     }
 }

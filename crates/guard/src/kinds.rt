@@ -30,3 +30,6 @@ pub const UNLIST: u32 = 13;
 pub const MAKE: u32 = 14;
 
 pub const UNMAKE: u32 = 15;
+
+// How many there are.
+pub const KINDS: u32 = 16;

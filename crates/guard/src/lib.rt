@@ -17,9 +17,15 @@ mod rows;
 mod run;
 mod scan;
 mod sessions;
+mod sizes;
 mod sound;
 mod step;
 mod view;
+
+use sizes::ENTITIES;
+use sizes::ROLES;
+use sizes::SESSIONS;
+use sizes::USERS;
 
 // Label: a confidentiality grade, 0 to 3, and a set of eight categories.
 pub struct Label {
@@ -64,10 +70,10 @@ pub struct Entity {
 }
 
 pub struct Tables {
-    pub users: [User; 16],
-    pub sessions: [Session; 16],
-    pub roles: [Role; 16],
-    pub entities: [Entity; 64],
+    pub users: [User; USERS],
+    pub sessions: [Session; SESSIONS],
+    pub roles: [Role; ROLES],
+    pub entities: [Entity; ENTITIES],
 }
 
 // One request, in fields wide enough for every number that a host may pass. `call` is the request's number: 0 to 15 in

@@ -1,6 +1,7 @@
 // The numbers of a request, looked up once: where its records stand, and whether those that its kind uses are in range.
 use crate::Request;
 use crate::kinds;
+use crate::sizes;
 ghost use Prim.Native.Nat.{_<_};
 ghost use mathlib.Core.Path.{_≡_};
 ghost use mathlib.Core.Bool.{cond};
@@ -33,28 +34,31 @@ fn fits(q: Request) -> bool
     ensures { λ b. ⌜ b ≡ inRanges q ⌝ }
 {
     let call = q.call;
-    let seat = q.seat < 16;
-    let user = q.user < 16;
-    let role = q.role < 16;
-    let entity = q.entity < 64;
-    let label = (q.level <= 3) & (q.cats <= 255);
-    let name = (1 <= q.name) & (q.name <= 65535);
+    let seat = q.seat < sizes::SEAT_END;
+    let user = q.user < sizes::USER_END;
+    let role = q.role < sizes::ROLE_END;
+    let entity = q.entity < sizes::ENTITY_END;
+    let label = (q.level <= sizes::TOP_GRADE_ASKED) & (q.cats <= sizes::ALL_CATEGORIES);
+    let name = (1 <= q.name) & (q.name <= sizes::TOP_NAME);
     match call {
         kinds::LOGIN => seat & (user & label),
         kinds::LOGOUT => seat,
         kinds::TAKE | kinds::DROP => seat & role,
         kinds::OPENR | kinds::OPENW | kinds::CLOSE => seat & entity,
         kinds::CREATE => {
-            seat & (entity & ((q.kind <= 1) & ((q.parent < 64) & (name & (label & role)))))
+            seat
+                & (entity
+                    & ((q.kind <= sizes::TOP_KIND)
+                        & ((q.parent < sizes::ENTITY_END) & (name & (label & role)))))
         }
         kinds::DELETE => seat & entity,
         kinds::RENAME => seat & (entity & name),
         kinds::GRANT | kinds::REVOKE => {
-            seat & (role & (entity & ((1 <= q.rights) & (q.rights <= 15))))
+            seat & (role & (entity & ((1 <= q.rights) & (q.rights <= sizes::ALL_RIGHTS))))
         }
         kinds::LIST | kinds::UNLIST => seat & (role & user),
         kinds::MAKE | kinds::UNMAKE => seat & role,
-        16..=4294967295 => false,
+        kinds::KINDS..=4294967295 => false,
     }
 }
 
@@ -62,11 +66,11 @@ pub fn look_up(q: Request) -> Places
     ensures { λ p. ⌜ Placed q p ⌝ }
 {
     Places {
-        seat: below(q.seat, 16),
-        user: below(q.user, 16),
-        role: below(q.role, 16),
-        entity: below(q.entity, 64),
-        parent: below(q.parent, 64),
+        seat: below(q.seat, sizes::SEAT_END),
+        user: below(q.user, sizes::USER_END),
+        role: below(q.role, sizes::ROLE_END),
+        entity: below(q.entity, sizes::ENTITY_END),
+        parent: below(q.parent, sizes::ENTITY_END),
         fits: fits(q),
     }
 }

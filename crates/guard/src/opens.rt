@@ -1,6 +1,7 @@
 // What openr, openw and close are refused for.
 use crate::Request;
 use crate::labels;
+use crate::sizes;
 use crate::view::View;
 ghost use mathlib.Core.Path.{_≡_};
 ghost use mathlib.Core.Bool.{not};
@@ -21,7 +22,7 @@ pub fn openr_refusal(q: Request, v: View) -> u8
     if !v.entity.live {
         return 7;
     }
-    if q.entity / 16 < q.seat / 4 {
+    if q.entity / sizes::LEVEL_ENTITIES < q.seat / sizes::LEVEL_SEATS {
         return 10;
     }
     if !labels::dominates(v.session.label, v.entity.label) {
@@ -45,7 +46,7 @@ pub fn openw_refusal(q: Request, v: View) -> u8
     if !v.entity.live {
         return 7;
     }
-    if q.seat / 4 < q.entity / 16 {
+    if q.seat / sizes::LEVEL_SEATS < q.entity / sizes::LEVEL_ENTITIES {
         return 10;
     }
     if !labels::same(v.session.label, v.entity.label) {

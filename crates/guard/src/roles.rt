@@ -2,6 +2,8 @@
 use crate::Request;
 use crate::Role;
 use crate::kinds;
+use crate::sizes;
+use crate::sizes::ROLES;
 use crate::view::View;
 ghost use Prim.Native.Nat.{_≤_, _<_};
 ghost use mathlib.Core.Path.{_≡_};
@@ -27,7 +29,9 @@ pub fn rights_refusal(q: Request, v: View) -> u8
     if !v.entity.live | !v.live {
         return 7;
     }
-    if (q.seat / 4 < q.entity / 16) | (q.role / 4 < q.entity / 16) {
+    if (q.seat / sizes::LEVEL_SEATS < q.entity / sizes::LEVEL_ENTITIES)
+        | (q.role / sizes::LEVEL_ROLES < q.entity / sizes::LEVEL_ENTITIES)
+    {
         return 10;
     }
     if !bitset::has64(v.rights.owns, q.entity) {
@@ -40,10 +44,10 @@ pub fn rights_refusal(q: Request, v: View) -> u8
 fn keeper_refusal(roles: u16, seat: u32, role: u32) -> u8
     ensures { λ n. ⌜ n ≡ first (10 when ltb (sessionLevel seat) (roleLevel role) ∷ 12 when not (has roles (keeperOf (roleLevel role))) ∷ []) ⌝ }
 {
-    if seat / 4 < role / 4 {
+    if seat / sizes::LEVEL_SEATS < role / sizes::LEVEL_ROLES {
         return 10;
     }
-    if !bitset::has16(roles, 4 * (role / 4)) {
+    if !bitset::has16(roles, sizes::LEVEL_ROLES * (role / sizes::LEVEL_ROLES)) {
         return 12;
     }
     0
@@ -87,7 +91,7 @@ pub fn unmake_refusal(q: Request, v: View) -> u8
     if !v.session.live {
         return 5;
     }
-    if q.role % 4 == 0 {
+    if q.role % sizes::LEVEL_ROLES == 0 {
         return 6;
     }
     if !v.live {
@@ -131,10 +135,15 @@ fn granted(given: bool, rights: u32, e: u32, p: Role) -> Role
 {
     let named = rights as u8;
     let mut n = p;
-    n.reads = set_after(given, bitset::contains8(named, 1), e, p.reads);
-    n.writes = set_after(given, bitset::contains8(named, 2), e, p.writes);
-    n.executes = set_after(given, bitset::contains8(named, 4), e, p.executes);
-    n.owns = set_after(given, bitset::contains8(named, 8), e, p.owns);
+    n.reads = set_after(given, bitset::contains8(named, sizes::READ), e, p.reads);
+    n.writes = set_after(given, bitset::contains8(named, sizes::WRITE), e, p.writes);
+    n.executes = set_after(
+        given,
+        bitset::contains8(named, sizes::EXECUTE),
+        e,
+        p.executes,
+    );
+    n.owns = set_after(given, bitset::contains8(named, sizes::OWN), e, p.owns);
     n
 }
 
@@ -192,12 +201,12 @@ fn cleared(e: u32, p: Role) -> Role
 }
 
 // Every role without rights on entity `e`: a deleted entity's rights.
-pub fn without_entity(roles: [Role; 16], e: u32) -> [Role; 16]
+pub fn without_entity(roles: [Role; ROLES], e: u32) -> [Role; ROLES]
     ensures { λ n. ⌜ n ≡ map (clearRights e) roles ⌝ }
 {
     let mut n = roles;
     let mut i = 0usize;
-    while i < 16 {
+    while i < ROLES {
         let p = n[i];
         let p2 = cleared(e, p);
         n[i] = p2;

@@ -4,11 +4,18 @@ use crate::Role;
 use crate::Tables;
 use crate::kinds;
 use crate::look;
+use crate::sizes::BLOCK;
+use crate::sizes::ENTITIES;
+use crate::sizes::LEVEL_ENTITIES;
+use crate::sizes::ROLES;
 ghost use Prim.Native.Nat.{_<_};
 ghost use mathlib.Core.Path.{_≡_};
 ghost use lib.ListN.{length};
 ghost use Rattle.bitset.specs.Sets.{has};
 ghost use Rattle.guard.specs.Scan.{Grants, Granted, Cleared, Gathered, climbsBy, reachedBy, nameBy, childBy, kinBy};
+
+// How many sets the column of the roles has: four for each.
+const GRANTS: usize = 4 * ROLES;
 
 // The entities on which a session has each right.
 pub struct Rights {
@@ -20,12 +27,12 @@ pub struct Rights {
 
 impl Tables {
     // Of each role its sets, as its record has them.
-    pub(crate) fn grants(self) -> [u64; 64]
+    pub(crate) fn grants(self) -> [u64; GRANTS]
         ensures { λ g. ⌜ Grants self g ⌝ }
     {
-        let mut g = [0u64; 64];
+        let mut g = [0u64; GRANTS];
         let mut r = 0usize;
-        while r < 16 {
+        while r < ROLES {
             let p = self.roles[r];
             put(&mut g, r, p);
             r += 1;
@@ -35,7 +42,7 @@ impl Tables {
 }
 
 // The sets of role `r`.
-pub fn put(grants: &mut [u64; 64], r: usize, p: Role) -> usize
+pub fn put(grants: &mut [u64; GRANTS], r: usize, p: Role) -> usize
     requires { ⌜ (r < 16) × (length (now grants) ≡ 64) ⌝ }
     ensures { λ n. ⌜ Granted (now (grants .entry)) r p (now (grants .exit)) ⌝ }
 {
@@ -48,12 +55,12 @@ pub fn put(grants: &mut [u64; 64], r: usize, p: Role) -> usize
 }
 
 // A deleted entity goes from every set.
-pub fn clear(grants: &mut [u64; 64], e: usize) -> usize
+pub fn clear(grants: &mut [u64; GRANTS], e: usize) -> usize
     requires { ⌜ (e < 64) × (length (now grants) ≡ 64) ⌝ }
     ensures { λ n. ⌜ Cleared (now (grants .entry)) e (now (grants .exit)) ⌝ }
 {
     let mut j = 0usize;
-    while j < 64 {
+    while j < GRANTS {
         grants[j] = bitset::without64(grants[j], e as u32);
         j += 1;
     }
@@ -61,7 +68,7 @@ pub fn clear(grants: &mut [u64; 64], e: usize) -> usize
 }
 
 // The rights that the roles held give, together.
-pub fn gather(grants: &[u64; 64], held: u16) -> Rights
+pub fn gather(grants: &[u64; GRANTS], held: u16) -> Rights
     ensures { λ g. ⌜ Gathered (now (grants .entry)) held g ⌝ }
 {
     let mut reads = 0u64;
@@ -95,14 +102,14 @@ fn is_in(set: u64, i: usize) -> bool
 }
 
 // Whether each container above `e` is in the set, up to and with the root.
-fn climbs(keys: &[u32; 64], through: u64, e: usize) -> bool
+fn climbs(keys: &[u32; ENTITIES], through: u64, e: usize) -> bool
     requires { ⌜ e < 64 ⌝ }
     ensures { λ b. ⌜ b ≡ climbsBy (now (keys .entry)) through e ⌝ }
 {
     let mut at = e;
-    let mut left: u32 = 16;
+    let mut left = LEVEL_ENTITIES;
     while 0 < left {
-        if at % 16 == 0 {
+        if at % BLOCK == 0 {
             return true;
         }
         at = (keys[at] / 65536 % 64) as usize;
@@ -111,10 +118,10 @@ fn climbs(keys: &[u32; 64], through: u64, e: usize) -> bool
         }
         left -= 1;
     }
-    at % 16 == 0
+    at % BLOCK == 0
 }
 
-pub fn reached(keys: &[u32; 64], call: u32, e: usize, through: u64) -> bool
+pub fn reached(keys: &[u32; ENTITIES], call: u32, e: usize, through: u64) -> bool
     requires { ⌜ e < 64 ⌝ }
     ensures { λ b. ⌜ b ≡ reachedBy (now (keys .entry)) call e through ⌝ }
 {
@@ -125,15 +132,15 @@ pub fn reached(keys: &[u32; 64], call: u32, e: usize, through: u64) -> bool
 }
 
 // Whether a child of `p` has the name.
-fn name_in(keys: &[u32; 64], p: usize, name: u32) -> bool
+fn name_in(keys: &[u32; ENTITIES], p: usize, name: u32) -> bool
     requires { ⌜ p < 64 ⌝ }
     ensures { λ b. ⌜ b ≡ nameBy (now (keys .entry)) p name ⌝ }
 {
     let key = (p as u32) * 65536 + name % 65536;
-    let first = p / 16 * 16;
+    let first = p / BLOCK * BLOCK;
     let mut found = false;
     let mut m = 0usize;
-    while m < 16 {
+    while m < BLOCK {
         found = found | (keys[first + m] == key);
         m += 1;
     }
@@ -141,15 +148,15 @@ fn name_in(keys: &[u32; 64], p: usize, name: u32) -> bool
 }
 
 // Whether `p` has a child.
-fn child_in(keys: &[u32; 64], p: usize) -> bool
+fn child_in(keys: &[u32; ENTITIES], p: usize) -> bool
     requires { ⌜ p < 64 ⌝ }
     ensures { λ b. ⌜ b ≡ childBy (now (keys .entry)) p ⌝ }
 {
     let parent = p as u32;
-    let first = p / 16 * 16;
+    let first = p / BLOCK * BLOCK;
     let mut found = false;
     let mut m = 0usize;
-    while m < 16 {
+    while m < BLOCK {
         found = found | (keys[first + m] / 65536 == parent);
         m += 1;
     }
@@ -157,7 +164,7 @@ fn child_in(keys: &[u32; 64], p: usize) -> bool
 }
 
 // What 14 and 15 ask: delete whether `e` has a child, create and rename whether a child of `o` has the name.
-pub fn kin(keys: &[u32; 64], call: u32, e: usize, o: usize, name: u32) -> bool
+pub fn kin(keys: &[u32; ENTITIES], call: u32, e: usize, o: usize, name: u32) -> bool
     requires { ⌜ (e < 64) × (o < 64) ⌝ }
     ensures { λ b. ⌜ b ≡ kinBy (now (keys .entry)) call e o name ⌝ }
 {

@@ -5,6 +5,8 @@ use crate::Request;
 use crate::Session;
 use crate::kinds;
 use crate::labels;
+use crate::sizes;
+use crate::sizes::SESSIONS;
 use crate::view::View;
 ghost use Prim.Native.Nat.{_≤_, _<_};
 ghost use mathlib.Core.Path.{_≡_};
@@ -31,7 +33,9 @@ pub fn login_refusal(q: Request, v: View) -> u8
         return 3;
     }
     let label = labels::made(q.level, q.cats);
-    if ((v.user.ceiling as u32) < q.seat / 4) | !labels::dominates(v.user.clearance, label) {
+    if ((v.user.ceiling as u32) < q.seat / sizes::LEVEL_SEATS)
+        | !labels::dominates(v.user.clearance, label)
+    {
         return 4;
     }
     0
@@ -147,12 +151,12 @@ pub fn after(q: Request, s: Session) -> Session
 }
 
 // Every session without role `r`: an unmade role's holdings.
-pub fn without_role(sessions: [Session; 16], r: u32) -> [Session; 16]
+pub fn without_role(sessions: [Session; SESSIONS], r: u32) -> [Session; SESSIONS]
     ensures { λ n. ⌜ n ≡ map (dropRole r) sessions ⌝ }
 {
     let mut n = sessions;
     let mut i = 0usize;
-    while i < 16 {
+    while i < SESSIONS {
         let s = n[i];
         let s2 = dropped(r, s);
         n[i] = s2;
@@ -162,12 +166,12 @@ pub fn without_role(sessions: [Session; 16], r: u32) -> [Session; 16]
 }
 
 // Every session without entity `e` open: a deleted entity's opens.
-pub fn without_entity(sessions: [Session; 16], e: u32) -> [Session; 16]
+pub fn without_entity(sessions: [Session; SESSIONS], e: u32) -> [Session; SESSIONS]
     ensures { λ n. ⌜ n ≡ map (closeBoth e) sessions ⌝ }
 {
     let mut n = sessions;
     let mut i = 0usize;
-    while i < 16 {
+    while i < SESSIONS {
         let s = n[i];
         let s2 = closed(e, s);
         n[i] = s2;

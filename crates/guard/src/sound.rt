@@ -20,6 +20,10 @@ ghost use Rattle.guard.specs.Sound.{userInRange, sound};
 ghost use Rattle.guard.specs.Tested.{entityTest, grantableIn, roleTest, labelNumber, sessionTest};
 ghost use Rattle.guard.specs.Scan.{Keys};
 use crate::Tables;
+use crate::sizes::ENTITIES;
+use crate::sizes::ROLES;
+use crate::sizes::SEAT_END;
+use crate::sizes::USERS;
 use opens::label_of;
 use opens::session_ok;
 use opens::to_level;
@@ -32,6 +36,11 @@ use tree::have_own_keys;
 use tree::key;
 use tree::live_set;
 
+// The counts as the loops have them that hand a number on.
+const ENTITY_COUNT: u8 = ENTITIES as u8;
+
+const ROLE_COUNT: u8 = ROLES as u8;
+
 // What is found of the roles: whether each is as soundness asks, and if so the set of those that are live.
 struct Roles {
     ok: bool,
@@ -43,7 +52,7 @@ impl Tables {
         ensures { λ r. ⌜ r ≡ all 16 (λ u. userInRange (getD (self .users) u noUser)) ⌝ }
     {
         let mut u: usize = 0;
-        while u < 16 {
+        while u < USERS {
             if !user_in_range(self.users[u]) {
                 return false;
             }
@@ -56,7 +65,7 @@ impl Tables {
         ensures { λ r. ⌜ r ≡ all 64 (λ e. entityTest e (entityAt self e) (entityAt self (entityAt self e .parent % 64))) ⌝ }
     {
         let mut e: u8 = 0;
-        while e < 64 {
+        while e < ENTITY_COUNT {
             let n = self.entities[e as usize];
             let p = self.entities[(n.parent % 64) as usize];
             if !entity_ok(e, n, p) {
@@ -68,12 +77,12 @@ impl Tables {
     }
 
     // Of each entity its parent and its name in one number.
-    pub(crate) fn keys(self) -> [u32; 64]
+    pub(crate) fn keys(self) -> [u32; ENTITIES]
         ensures { λ r. ⌜ Keys self r ⌝ }
     {
-        let mut a = [0u32; 64];
+        let mut a = [0u32; ENTITIES];
         let mut e: usize = 0;
-        while e < 64 {
+        while e < ENTITIES {
             let n = self.entities[e];
             a[e] = key(n);
             e += 1;
@@ -81,12 +90,12 @@ impl Tables {
         a
     }
 
-    fn labels(self) -> [u16; 64]
+    fn labels(self) -> [u16; ENTITIES]
         ensures { λ r. ⌜ ((e : ℕ) → e < 64 → getD r e 0 ≡ labelNumber (entityAt self e)) ⌝ }
     {
-        let mut a = [0u16; 64];
+        let mut a = [0u16; ENTITIES];
         let mut e: usize = 0;
-        while e < 64 {
+        while e < ENTITIES {
             let n = self.entities[e];
             a[e] = label_of(n);
             e += 1;
@@ -101,7 +110,7 @@ impl Tables {
     {
         let mut found: u16 = 0;
         let mut r: u8 = 0;
-        while r < 16 {
+        while r < ROLE_COUNT {
             let p = self.roles[r as usize];
             let set = live & to_level((r / 4) as u32);
             if !role_ok(set, r, p) {
@@ -116,11 +125,11 @@ impl Tables {
         }
     }
 
-    fn sessions_ok(self, labels: &[u16; 64], roles: u16) -> bool
+    fn sessions_ok(self, labels: &[u16; ENTITIES], roles: u16) -> bool
         ensures { λ r. ⌜ r ≡ all 16 (λ s. sessionTest (now (labels .entry)) roles (sessionLevel s) (sessionAt self s)) ⌝ }
     {
         let mut s: u32 = 0;
-        while s < 16 {
+        while s < SEAT_END {
             let x = self.sessions[s as usize];
             if !session_ok(labels, roles, s / 4, x) {
                 return false;
@@ -131,7 +140,7 @@ impl Tables {
     }
 
     // Whether the tables are sound, by the keys of their entities.
-    pub(crate) fn sound_by(self, keys: &[u32; 64]) -> bool
+    pub(crate) fn sound_by(self, keys: &[u32; ENTITIES]) -> bool
         requires { ⌜ Keys self (now keys) ⌝ }
         ensures { λ r. ⌜ r ≡ sound self ⌝ }
     {

@@ -22,7 +22,7 @@ use Rattle.guard.specs.Scan.{Keys}
 use Rattle.guard.specs.declared.Tables.{Tables}
 use Rattle.guard.proofs.Laws.Sound.Facts.{parentIn, OwnName}
 use Rattle.guard.proofs.Soundness.Climb.{climbs-cong}
-use Rattle.guard.proofs.Soundness.Settled.{Known}
+use Rattle.guard.proofs.Soundness.EntityFacts.{Known}
 
 cond-true : (b : Bool) (x y : ℕ) → b ≡ true → cond b x y ≡ x
 cond-true b x y q = rw q

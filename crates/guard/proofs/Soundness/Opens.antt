@@ -25,7 +25,7 @@ use Rattle.guard.specs.declared.Entity.{Entity}
 use Rattle.guard.specs.declared.Tables.{Tables}
 use Rattle.guard.proofs.Laws.Sound.Facts.{SessionOk, SetOk}
 use Rattle.guard.proofs.Soundness.Tests.{cond-yes, cond-no, yes-e, no-e}
-use Rattle.guard.proofs.Soundness.Settled.{Known, zero-label}
+use Rattle.guard.proofs.Soundness.EntityFacts.{Known, zero-label}
 
 abbrev pub Labels : Tables → List ℕ → Type 0
 Labels t labels = (e : ℕ) → e < 64 → getD labels e 0 ≡ labelNumber (entityAt t e)

@@ -23,7 +23,7 @@ use Rattle.guard.specs.declared.Tables.{Tables}
 use Rattle.guard.proofs.Laws.Sound.{sound-e, sound-i}
 use Rattle.guard.proofs.Laws.Sound.Facts.{Sound, EntityOk, parentIn}
 use Rattle.guard.proofs.Soundness.Climb.{climbs-root, climbs-on}
-use Rattle.guard.proofs.Soundness.Settled.{Settled, Known, settled, test-of, known}
+use Rattle.guard.proofs.Soundness.EntityFacts.{Settled, Known, settled, test-of, known}
 use Rattle.guard.proofs.Soundness.Keys.{chains-as, own-e, own-i, live-of-key, key-small}
 use Rattle.guard.proofs.Soundness.Grants.{role-e, role-i}
 use Rattle.guard.proofs.Soundness.Opens.{Labels, session-e, session-i}

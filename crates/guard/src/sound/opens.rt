@@ -11,6 +11,7 @@ use super::record::session_in_range;
 use crate::Entity;
 use crate::Label;
 use crate::Session;
+use crate::sizes::ENTITIES;
 
 fn packed(a: Label) -> u16
     ensures { λ r. ⌜ r ≡ packedLabel a ⌝ }
@@ -29,7 +30,7 @@ pub fn label_of(n: Entity) -> u16
 }
 
 // Whether `label` dominates the label of each member of `set`.
-fn dominates_each(labels: &[u16; 64], label: Label, set: u64) -> bool
+fn dominates_each(labels: &[u16; ENTITIES], label: Label, set: u64) -> bool
     ensures { λ r. ⌜ r ≡ members (dominated (now (labels .entry)) label) set ⌝ }
 {
     let top = (label.grade as u16) * 256 + 255;
@@ -49,7 +50,7 @@ fn dominates_each(labels: &[u16; 64], label: Label, set: u64) -> bool
 }
 
 // Whether `label` is the label of each member of `set`.
-fn equals_each(labels: &[u16; 64], label: u16, set: u64) -> bool
+fn equals_each(labels: &[u16; ENTITIES], label: u16, set: u64) -> bool
     ensures { λ r. ⌜ r ≡ members (λ e. eqb (getD (now (labels .entry)) e 0) label) set ⌝ }
 {
     let mut m = set;
@@ -107,7 +108,7 @@ fn levels_allowed(level: u32, s: Session) -> bool
 }
 
 // Whether it has the labels that `s` may have open.
-fn labels_allowed(labels: &[u16; 64], s: Session) -> bool
+fn labels_allowed(labels: &[u16; ENTITIES], s: Session) -> bool
     ensures { λ r. ⌜ r ≡ openLabels (now (labels .entry)) s ⌝ }
 {
     if !dominates_each(labels, s.label, s.reading) {
@@ -117,7 +118,7 @@ fn labels_allowed(labels: &[u16; 64], s: Session) -> bool
 }
 
 // Whether `s`, at a level, is as soundness asks; `roles` are the live ones.
-pub fn session_ok(labels: &[u16; 64], roles: u16, level: u32, s: Session) -> bool
+pub fn session_ok(labels: &[u16; ENTITIES], roles: u16, level: u32, s: Session) -> bool
     requires { ⌜ level < 4 ⌝ }
     ensures { λ r. ⌜ r ≡ sessionTest (now (labels .entry)) roles level s ⌝ }
 {

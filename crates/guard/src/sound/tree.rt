@@ -8,6 +8,9 @@ ghost use Rattle.bitset.specs.Tests.{all};
 ghost use Rattle.bitset.specs.Sets.{has};
 ghost use Rattle.guard.specs.Tested.{keyOf, ownKey, ends, parentByKey, liveByKey};
 use crate::Entity;
+use crate::sizes::BLOCK;
+use crate::sizes::ENTITIES;
+use crate::sizes::LEVEL_ENTITIES;
 
 // The parent above the name. 256 stands for the parent of what is not live, which no live entity has.
 pub fn key(n: Entity) -> u32
@@ -20,12 +23,12 @@ pub fn key(n: Entity) -> u32
 }
 
 // The entities that are live: of a key, bit 24 alone tells it.
-pub fn live_set(keys: &[u32; 64]) -> u64
+pub fn live_set(keys: &[u32; ENTITIES]) -> u64
     requires { ⌜ ((e : ℕ) → e < 64 → getD (now keys) e 0 ≤ 16777216) ⌝ }
     ensures { λ r. ⌜ ((e : ℕ) → e < 64 → has r e ≡ liveByKey (now (keys .entry)) e) ⌝ }
 {
     let mut dead: u64 = 0;
-    let mut e: usize = 64;
+    let mut e = ENTITIES;
     while 0 < e {
         e -= 1;
         dead = dead << 1 | ((keys[e] >> 24) as u64);
@@ -40,7 +43,7 @@ fn counted(a: u32, b: u32) -> u32
 }
 
 // Whether `e` has no name, or no other entity of its level has its key.
-fn has_own_key(keys: &[u32; 64], e: usize) -> bool
+fn has_own_key(keys: &[u32; ENTITIES], e: usize) -> bool
     requires { ⌜ e < 64 ⌝ }
     ensures { λ r. ⌜ r ≡ ownKey (now (keys .entry)) e ⌝ }
 {
@@ -48,10 +51,10 @@ fn has_own_key(keys: &[u32; 64], e: usize) -> bool
     if k % 65536 == 0 {
         return true;
     }
-    let first = e / 16 * 16;
+    let first = e / BLOCK * BLOCK;
     let mut hits: u32 = 0;
     let mut m: usize = 0;
-    while m < 16 {
+    while m < BLOCK {
         let one = counted(keys[first + m], k);
         hits += one;
         m += 1;
@@ -59,11 +62,11 @@ fn has_own_key(keys: &[u32; 64], e: usize) -> bool
     hits == 1
 }
 
-pub fn have_own_keys(keys: &[u32; 64]) -> bool
+pub fn have_own_keys(keys: &[u32; ENTITIES]) -> bool
     ensures { λ r. ⌜ r ≡ all 64 (ownKey (now (keys .entry))) ⌝ }
 {
     let mut e: usize = 0;
-    while e < 64 {
+    while e < ENTITIES {
         if !has_own_key(keys, e) {
             return false;
         }
@@ -72,27 +75,27 @@ pub fn have_own_keys(keys: &[u32; 64]) -> bool
     true
 }
 
-fn ends_at_root(keys: &[u32; 64], e: usize) -> bool
+fn ends_at_root(keys: &[u32; ENTITIES], e: usize) -> bool
     requires { ⌜ e < 64 ⌝ }
     ensures { λ r. ⌜ r ≡ ends (parentByKey (now (keys .entry))) 16 e ⌝ }
 {
     let mut at = e;
-    let mut left: u32 = 16;
+    let mut left = LEVEL_ENTITIES;
     while 0 < left {
-        if at % 16 == 0 {
+        if at % BLOCK == 0 {
             return true;
         }
         at = (keys[at] / 65536 % 64) as usize;
         left -= 1;
     }
-    at % 16 == 0
+    at % BLOCK == 0
 }
 
-pub fn end_at_root(keys: &[u32; 64]) -> bool
+pub fn end_at_root(keys: &[u32; ENTITIES]) -> bool
     ensures { λ r. ⌜ r ≡ all 64 (ends (parentByKey (now (keys .entry))) 16) ⌝ }
 {
     let mut e: usize = 0;
-    while e < 64 {
+    while e < ENTITIES {
         if !ends_at_root(keys, e) {
             return false;
         }

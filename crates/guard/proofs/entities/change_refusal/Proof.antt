@@ -1,7 +1,7 @@
 -- `change_refusal` answers the first condition that is met: 5, 6, 7, 13 or the last. Assumes nothing.
 use borrow.Author.Needs.{needs}
 use Rattle.bitset.specs.Tests.{either}
-use Rattle.guard.proofs.Returns.{refusing}
+use Rattle.guard.proofs.RefusalSearch.{refusing}
 use Rattle.guard.proofs.entities.change_refusal.Statement.{statement}
 use Rattle.guard.proofs.entities.change_refusal.Tie as tie
 

@@ -1,7 +1,7 @@
 -- `create_refusal_from_10` answers the first condition that is met: 10 to 14. Assumes nothing.
 use borrow.Author.Needs.{needs}
 use Rattle.bitset.specs.Tests.{either}
-use Rattle.guard.proofs.Returns.{refusing}
+use Rattle.guard.proofs.RefusalSearch.{refusing}
 use Rattle.guard.proofs.entities.create_refusal_from_10.Statement.{statement}
 use Rattle.guard.proofs.entities.create_refusal_from_10.Tie as tie
 

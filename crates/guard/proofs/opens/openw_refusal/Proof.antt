@@ -1,7 +1,7 @@
 -- `openw_refusal` answers the first condition that is met: 5, 7, 10, 11, 13 or 16. Assumes nothing.
 use borrow.Author.Needs.{needs}
 use Rattle.bitset.specs.Tests.{either}
-use Rattle.guard.proofs.Returns.{refusing}
+use Rattle.guard.proofs.RefusalSearch.{refusing}
 use Rattle.guard.proofs.opens.openw_refusal.Statement.{statement}
 use Rattle.guard.proofs.opens.openw_refusal.Tie as tie
 

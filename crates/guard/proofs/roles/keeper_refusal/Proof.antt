@@ -1,6 +1,6 @@
 -- `keeper_refusal`: the first of 10 and 12 that is met. Assumes nothing.
 use borrow.Author.Needs.{needs}
-use Rattle.guard.proofs.Returns.{refusing}
+use Rattle.guard.proofs.RefusalSearch.{refusing}
 use Rattle.guard.proofs.roles.keeper_refusal.Statement.{statement}
 use Rattle.guard.proofs.roles.keeper_refusal.Tie as tie
 

@@ -1,6 +1,6 @@
 -- `list_refusal`: the first condition met, those of `keeper_refusal` among them. Assumes nothing.
 use borrow.Author.Needs.{needs}
-use Rattle.guard.proofs.Returns.{refusing}
+use Rattle.guard.proofs.RefusalSearch.{refusing}
 use Rattle.guard.proofs.Answers.{keeper-met, keeper-unmet}
 use Rattle.guard.proofs.roles.list_refusal.Statement.{statement}
 use Rattle.guard.proofs.roles.list_refusal.Tie as tie

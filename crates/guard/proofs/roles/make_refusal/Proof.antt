@@ -1,6 +1,6 @@
 -- `make_refusal`: the first condition met, those of `keeper_refusal` last. Assumes nothing.
 use borrow.Author.Needs.{needs}
-use Rattle.guard.proofs.Returns.{refusing}
+use Rattle.guard.proofs.RefusalSearch.{refusing}
 use Rattle.guard.proofs.roles.make_refusal.Statement.{statement}
 use Rattle.guard.proofs.roles.make_refusal.Tie as tie
 

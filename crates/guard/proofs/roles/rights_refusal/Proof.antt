@@ -1,7 +1,7 @@
 -- `rights_refusal`: the first condition met. Assumes nothing.
 use borrow.Author.Needs.{needs}
 use Rattle.bitset.specs.Tests.{either}
-use Rattle.guard.proofs.Returns.{refusing}
+use Rattle.guard.proofs.RefusalSearch.{refusing}
 use Rattle.guard.proofs.roles.rights_refusal.Statement.{statement}
 use Rattle.guard.proofs.roles.rights_refusal.Tie as tie
 

@@ -1,6 +1,6 @@
 -- `drop_refusal` answers the first condition that is met: 5, 7 or 16. Assumes nothing.
 use borrow.Author.Needs.{needs}
-use Rattle.guard.proofs.Returns.{refusing}
+use Rattle.guard.proofs.RefusalSearch.{refusing}
 use Rattle.guard.proofs.sessions.drop_refusal.Statement.{statement}
 use Rattle.guard.proofs.sessions.drop_refusal.Tie as tie
 

@@ -2,7 +2,7 @@
 use borrow.Author.Needs.{needs}
 use mathlib.Core.Path.{sym}
 use Rattle.bitset.specs.Tests.{either}
-use Rattle.guard.proofs.Returns.{refusing}
+use Rattle.guard.proofs.RefusalSearch.{refusing}
 use Rattle.guard.proofs.sessions.login_refusal.Statement.{statement}
 use Rattle.guard.proofs.sessions.login_refusal.Tie as tie
 

@@ -1,5 +1,5 @@
 -- `logout_refusal` answers 5 where the seat is not live. Assumes nothing.
-use Rattle.guard.proofs.Returns.{refusing}
+use Rattle.guard.proofs.RefusalSearch.{refusing}
 use Rattle.guard.proofs.sessions.logout_refusal.Statement.{statement}
 use Rattle.guard.proofs.sessions.logout_refusal.Tie as tie
 

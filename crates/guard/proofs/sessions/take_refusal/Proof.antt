@@ -1,6 +1,6 @@
 -- `take_refusal` answers the first condition that is met: 5, 7, 12 or 16. Assumes nothing.
 use borrow.Author.Needs.{needs}
-use Rattle.guard.proofs.Returns.{refusing}
+use Rattle.guard.proofs.RefusalSearch.{refusing}
 use Rattle.guard.proofs.sessions.take_refusal.Statement.{statement}
 use Rattle.guard.proofs.sessions.take_refusal.Tie as tie
 

@@ -4,7 +4,7 @@ use native.Mathlib.Omega.{arith}
 use mathlib.Core.Path.{_≡_, refl}
 use lib.ListN.{getD}
 use Rattle.guard.specs.Tested.{liveByKey}
-use Rattle.guard.proofs.Soundness.Pushed.{Pushed, pushed-none, pushed-more, pushed-all}
+use Rattle.guard.proofs.Soundness.DeadSet.{Pushed, pushed-none, pushed-more, pushed-all}
 use Rattle.guard.proofs.sound.tree.live_set.Statement.{statement}
 use Rattle.guard.proofs.sound.tree.live_set.Tie as tie
 

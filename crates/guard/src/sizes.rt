@@ -1,0 +1,54 @@
+// How many records the tables hold, and where ranges end (specs/Level, Label, Tables, Sound).
+pub const USERS: usize = 16;
+
+pub const SESSIONS: usize = 16;
+
+pub const ROLES: usize = 16;
+
+pub const ENTITIES: usize = 64;
+
+// The first number past a range, as a request's fields have it.
+pub const USER_END: u32 = USERS as u32;
+
+pub const SEAT_END: u32 = SESSIONS as u32;
+
+pub const ROLE_END: u32 = ROLES as u32;
+
+pub const ENTITY_END: u32 = ENTITIES as u32;
+
+// How many sessions, roles and entities a level has.
+pub const LEVEL_SEATS: u32 = 4;
+
+pub const LEVEL_ROLES: u32 = 4;
+
+pub const LEVEL_ENTITIES: u32 = 16;
+
+// The same as an index: entities of one level stand in a block.
+pub const BLOCK: usize = LEVEL_ENTITIES as usize;
+
+// The last number of a range.
+pub const TOP_LEVEL: u8 = 3;
+
+pub const TOP_GRADE: u8 = 3;
+
+pub const TOP_GRADE_ASKED: u32 = TOP_GRADE as u32;
+
+pub const ALL_CATEGORIES: u32 = 255;
+
+pub const TOP_NAME: u32 = 65535;
+
+pub const ALL_RIGHTS: u32 = 15;
+
+// A kind of entity: 0 is an object.
+pub const CONTAINER: u8 = 1;
+
+pub const TOP_KIND: u32 = CONTAINER as u32;
+
+// What a role may have: one number each, added up.
+pub const READ: u8 = 1;
+
+pub const WRITE: u8 = 2;
+
+pub const EXECUTE: u8 = 4;
+
+pub const OWN: u8 = 8;
