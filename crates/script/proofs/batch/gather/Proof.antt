@@ -43,7 +43,10 @@ returns : tie.Need-returns Inv-loop μ-loop
 returns c = let held = c .before .before .before .before .before .before .before .loop .inv in taken-all _ (held .3) (held .2) (omega arith) (omega arith)
 
 load-requires : tie.Need-load-requires Inv-loop μ-loop
-load-requires c κs = let held = c .before .before .before .before .before .before .before .before .loop .inv in omega (arith, count-few (held .3), held .0, c .before .before .before .before .before .before .before .before .before .before .before .before .pre .1)
+load-requires c κs =
+    let at-loop = c .before .before .before .before .before .before .before .before in
+    let start = at-loop .before .before .before .before in
+    let held = at-loop .loop .inv in omega (arith, count-few (held .3), held .0, start .pre .1)
 
 slice-write-marks : tie.Need-slice-write-marks Inv-loop μ-loop
 slice-write-marks c = search needs
@@ -52,7 +55,10 @@ one-if-requires : tie.Need-one-if-requires Inv-loop μ-loop
 one-if-requires c κs = search needs
 
 add-count : tie.Need-add-count Inv-loop μ-loop
-add-count c = let few = count-few (c .before .before .before .before .before .before .before .before .before .before .before .before .loop .inv .3) in let one = one-least _ (c .one-if .ensures) in search needs
+add-count c =
+    let at-is-allowed = c .before .before .before .before .before .before in
+    let at-loop = at-is-allowed .before .before .before .before .before .before in
+    let few = count-few (at-loop .loop .inv .3) in let one = one-least _ (c .one-if .ensures) in search needs
 
 add-lines : tie.Need-add-lines Inv-loop μ-loop
 add-lines c = search needs

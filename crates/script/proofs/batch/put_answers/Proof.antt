@@ -44,7 +44,9 @@ part-put-line-end : tie.Need-part-put-line-end Inv-loop μ-loop
 part-put-line-end c = search needs
 
 put-line-requires : tie.Need-put-line-requires Inv-loop μ-loop
-put-line-requires c κs = (numbered (c .before .before .before .before .before .loop .inv .1), omega (arith, room-left (c .before .before .before .before .before .loop .wrote) (c .before .before .before .before .before .loop .out)))
+put-line-requires c κs =
+    let at-loop = c .before .before .before .before .before in
+    (numbered (at-loop .loop .inv .1), omega (arith, room-left (at-loop .loop .wrote) (at-loop .loop .out)))
 
 add-wrote : tie.Need-add-wrote Inv-loop μ-loop
 add-wrote c = let few = line-few _ _ (c .before .before .put-line .ensures) in search needs
@@ -53,10 +55,14 @@ one-if-requires : tie.Need-one-if-requires Inv-loop μ-loop
 one-if-requires c κs = search needs
 
 add-j : tie.Need-add-j Inv-loop μ-loop
-add-j c = let below = asked-below _ (c .before .before .before .before .before .before .before .before .before .loop .i) (c .before .before .before .before .before .before .before .before .before .loop .inv .4) in let more = one-least _ (c .one-if .ensures) in search needs
+add-j c =
+    let at-loop = c .before .before .before .before .before .before .before .before .before in
+    let below = asked-below _ (at-loop .loop .i) (at-loop .loop .inv .4) in let more = one-least _ (c .one-if .ensures) in search needs
 
 after-requires : tie.Need-after-requires Inv-loop μ-loop
-after-requires c κs = (numbered (c .before .before .before .before .before .before .before .before .before .loop .inv .1), omega (arith, c .before .before .before .before .before .before .before .before .before .loop .inv .1 .whole))
+after-requires c κs =
+    let at-loop = c .before .before .before .before .before .before .before .before .before in
+    (numbered (at-loop .loop .inv .1), omega (arith, at-loop .loop .inv .1 .whole))
 
 add-i : tie.Need-add-i Inv-loop μ-loop
 add-i c = search needs
@@ -66,10 +72,16 @@ loop-less c = search needs
 
 loop-again : tie.Need-loop-again Inv-loop μ-loop
 loop-again c =
-    let held = c .before .before .before .before .before .before .before .before .before .before .loop .inv in
-    let turn = c .before .before .before .before .before .before .before .before .before .loop-test .taken in
-    let few = line-few _ _ (c .before .before .before .before .put-line .ensures) in
-    (search needs, rw (along _ _ (held .1 .whole)) (c .after .ensures), omega arith, search needs, asked-on _ (c .before .before .before .before .before .before .before .before .before .before .before .before .before .before .before .args .answers .now) _ _ _ (held .4) turn (omega arith) (c .before .one-if .ensures), texts-more _ _ _ _ _ (held .4) turn (omega arith) _ _ _ (held .5) (c .before .before .before .before .before .before .answer-of .ensures) (held .1 .whole) (omega arith) (omega arith) (c .before .before .before .before .put-line .ensures))
+    let at-one-if = c .before in
+    let at-put-line = at-one-if .before .before .before in
+    let at-answer-of = at-put-line .before .before in
+    let at-loop-test = at-answer-of .before .before .before in
+    let at-loop = at-loop-test .before in
+    let start = at-loop .before .before .before .before .before in
+    let held = at-loop .loop .inv in
+    let turn = at-loop-test .loop-test .taken in
+    let few = line-few _ _ (at-put-line .put-line .ensures) in
+    (search needs, rw (along _ _ (held .1 .whole)) (c .after .ensures), omega arith, search needs, asked-on _ (start .args .answers .now) _ _ _ (held .4) turn (omega arith) (at-one-if .one-if .ensures), texts-more _ _ _ _ _ (held .4) turn (omega arith) _ _ _ (held .5) (at-answer-of .answer-of .ensures) (held .1 .whole) (omega arith) (omega arith) (at-put-line .put-line .ensures))
 
 same-length : tie.Need-same-length Inv-loop μ-loop
 same-length c = search needs

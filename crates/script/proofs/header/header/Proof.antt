@@ -51,10 +51,22 @@ contains16-requires : tie.Need-contains16-requires Inv-loop μ-loop
 contains16-requires c κs = search needs
 
 returns : tie.Need-returns Inv-loop μ-loop
-returns c = seen-end (c .before .before .before .before .before .before .before .loop .inv) (c .before .before .before .before .before .find .ensures) (c .before .before .before .name-at .ensures) (c .before .before .with16 .ensures) (c .before .if1 .taken) _ (c .contains16 .ensures)
+returns c =
+    let at-if1 = c .before in
+    let at-with16 = at-if1 .before in
+    let at-name-at = at-with16 .before in
+    let at-find = at-name-at .before .before in
+    let at-loop = at-find .before .before in
+    seen-end (at-loop .loop .inv) (at-find .find .ensures) (at-name-at .name-at .ensures) (at-with16 .with16 .ensures) (at-if1 .if1 .taken) _ (c .contains16 .ensures)
 
 returns-2 : tie.Need-returns-2 Inv-loop μ-loop
-returns-2 c = seen-over (c .before .before .before .before .before .before .before .loop .inv) (c .before .before .before .before .before .find .ensures) (c .before .before .before .name-at .ensures) (c .before .before .with16 .ensures) (c .before .if1 .left) (c .if2 .taken)
+returns-2 c =
+    let at-if1 = c .before in
+    let at-with16 = at-if1 .before in
+    let at-name-at = at-with16 .before in
+    let at-find = at-name-at .before .before in
+    let at-loop = at-find .before .before in
+    seen-over (at-loop .loop .inv) (at-find .find .ensures) (at-name-at .name-at .ensures) (at-with16 .with16 .ensures) (at-if1 .if1 .left) (c .if2 .taken)
 
 add-from : tie.Need-add-from Inv-loop μ-loop
 add-from c = search needs
@@ -66,7 +78,13 @@ loop-less : tie.Need-loop-less Inv-loop μ-loop
 loop-less c = search needs
 
 loop-again : tie.Need-loop-again Inv-loop μ-loop
-loop-again c = seen-more (c .before .before .before .before .before .before .before .loop .inv) (c .before .before .before .before .before .find .ensures) (c .before .before .before .name-at .ensures) (c .before .before .with16 .ensures) (c .before .if1 .left) (c .if2 .left)
+loop-again c =
+    let at-if1 = c .before in
+    let at-with16 = at-if1 .before in
+    let at-name-at = at-with16 .before in
+    let at-find = at-name-at .before .before in
+    let at-loop = at-find .before .before in
+    seen-more (at-loop .loop .inv) (at-find .find .ensures) (at-name-at .name-at .ensures) (at-with16 .with16 .ensures) (at-if1 .if1 .left) (c .if2 .left)
 
 pub header-spec : {M : Type 1} → statement M
 header-spec =

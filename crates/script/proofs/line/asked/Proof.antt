@@ -27,13 +27,24 @@ enum-told : tie.Need-enum-told
 enum-told c = search needs
 
 returns-3 : tie.Need-returns-3
-returns-3 c = λ h at l o d. asks-fault _ _ _ (c .enum-told .given .1) ∙ read-halves o d (c .before .before .before .before .before .before .if1 .left) _ _ (c .before .before .before .before .if2 .left) (c .before .before .before .uses .ensures) (c .before .before .first .ensures)
+returns-3 c =
+    let at-first = c .before .before in
+    let at-uses = at-first .before in
+    let at-if2 = at-uses .before in
+    let at-if1 = at-if2 .before .before in
+    λ h at l o d. asks-fault _ _ _ (c .enum-told .given .1) ∙ read-halves o d (at-if1 .if1 .left) _ _ (at-if2 .if2 .left) (at-uses .uses .ensures) (at-first .first .ensures)
 
 second-requires : tie.Need-second-requires
 second-requires c κs = search needs
 
 returns-4 : tie.Need-returns-4
-returns-4 c = λ h at l o d. c .second .ensures ∙ asks-by _ _ _ _ (c .before .before .six .given .1) ∙ read-halves o d (c .before .before .before .before .before .before .before .before .if1 .left) _ _ (c .before .before .before .before .before .before .if2 .left) (c .before .before .before .before .before .uses .ensures) (c .before .before .before .before .first .ensures)
+returns-4 c =
+    let at-six = c .before .before in
+    let at-first = at-six .before .before in
+    let at-uses = at-first .before in
+    let at-if2 = at-uses .before in
+    let at-if1 = at-if2 .before .before in
+    λ h at l o d. c .second .ensures ∙ asks-by _ _ _ _ (at-six .six .given .1) ∙ read-halves o d (at-if1 .if1 .left) _ _ (at-if2 .if2 .left) (at-uses .uses .ensures) (at-first .first .ensures)
 
 pub asked-spec : {M : Type 1} → statement M
 asked-spec =

@@ -21,8 +21,11 @@ same-length c = search needs
 returns : tie.Need-returns
 unfolding heading bytes
 returns c =
-    put-then (c .before .before .before .before .before .before .before .before .before .before .put4 .ensures)
-    (put-then (c .before .before .before .before .before .before .put42 .ensures) (c .before .before .put43 .ensures))
+    let at-put43 = c .before .before in
+    let at-put42 = at-put43 .before .before .before .before in
+    let at-put4 = at-put42 .before .before .before .before in
+    put-then (at-put4 .put4 .ensures)
+    (put-then (at-put42 .put42 .ensures) (at-put43 .put43 .ensures))
 
 pub put-heading-spec : {M : Type 1} → statement M
 put-heading-spec =

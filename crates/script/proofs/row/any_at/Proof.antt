@@ -24,7 +24,9 @@ span-requires : tie.Need-span-requires
 span-requires c κs = search needs
 
 add-end : tie.Need-add-end
-add-end c = omega (arith, lead-within (c .before .before .before .args .from) (now (c .before .before .before .args .s)) (c .before .before .before .pre) (c .span .ensures))
+add-end c =
+    let start = c .before .before .before in
+    omega (arith, lead-within (start .args .from) (now (start .args .s)) (start .pre) (c .span .ensures))
 
 is-space-requires : tie.Need-is-space-requires
 is-space-requires c κs = search needs
@@ -36,13 +38,23 @@ is-dash-requires : tie.Need-is-dash-requires
 is-dash-requires c κs = search needs
 
 returns : tie.Need-returns
-returns c = found-any _ _ _ _ _ _ _ (c .before .before .before .before .span .ensures) (c .before .before .before .is-space .ensures) (code-dash _ _ (sym (c .before .is-dash .ensures) ∙ c .if1 .taken)) form-dash
+returns c =
+    let at-is-dash = c .before in
+    let at-is-space = at-is-dash .before .before in
+    let at-span = at-is-space .before in
+    found-any _ _ _ _ _ _ _ (at-span .span .ensures) (at-is-space .is-space .ensures) (code-dash _ _ (sym (at-is-dash .is-dash .ensures) ∙ c .if1 .taken)) form-dash
 
 word-at-requires : tie.Need-word-at-requires
 word-at-requires c κs = search needs
 
 returns-2 : tie.Need-returns-2
-returns-2 c = found-any _ _ _ _ _ _ _ (c .before .before .before .before .before .before .span .ensures) (c .before .before .before .before .before .is-space .ensures) (code-word _ _ (sym (c .before .before .before .is-dash .ensures) ∙ c .before .before .if1 .left) (c .before .if2 .taken) (c .word-at .ensures)) (form-number _ (word-small _ (c .word-at .ensures)))
+returns-2 c =
+    let at-if2 = c .before in
+    let at-if1 = at-if2 .before in
+    let at-is-dash = at-if1 .before in
+    let at-is-space = at-is-dash .before .before in
+    let at-span = at-is-space .before in
+    found-any _ _ _ _ _ _ _ (at-span .span .ensures) (at-is-space .is-space .ensures) (code-word _ _ (sym (at-is-dash .is-dash .ensures) ∙ at-if1 .if1 .left) (at-if2 .if2 .taken) (c .word-at .ensures)) (form-number _ (word-small _ (c .word-at .ensures)))
 
 value-requires : tie.Need-value-requires
 value-requires c κs = search needs
@@ -58,15 +70,37 @@ enum-told-2 c = search needs
 
 returns-3 : tie.Need-returns-3
 unfolding coded
-returns-3 c = found-any _ _ _ _ _ _ _ (c .before .before .before .before .before .before .before .before .before .span .ensures) (c .before .before .before .before .before .before .before .before .is-space .ensures) (code-value _ _ (sym (c .before .before .before .before .before .before .is-dash .ensures) ∙ c .before .before .before .before .before .if1 .left) _ (Digits (c .before .x .given .0 .0)) (c .before .before .before .before .if2 .left) (c .before .before .before .value .ensures) (c .before .x .given .1)) (form-number _ (digits-small _ _ (c .before .before .before .value .ensures) (c .before .x .given .1)))
+returns-3 c =
+    let at-x = c .before in
+    let at-value = at-x .before .before in
+    let at-if2 = at-value .before in
+    let at-if1 = at-if2 .before in
+    let at-is-dash = at-if1 .before in
+    let at-is-space = at-is-dash .before .before in
+    let at-span = at-is-space .before in
+    found-any _ _ _ _ _ _ _ (at-span .span .ensures) (at-is-space .is-space .ensures) (code-value _ _ (sym (at-is-dash .is-dash .ensures) ∙ at-if1 .if1 .left) _ (Digits (at-x .x .given .0 .0)) (at-if2 .if2 .left) (at-value .value .ensures) (at-x .x .given .1)) (form-number _ (digits-small _ _ (at-value .value .ensures) (at-x .x .given .1)))
 
 returns-4 : tie.Need-returns-4
 unfolding coded
-returns-4 c = found-any _ _ _ _ _ _ _ (c .before .before .before .before .before .before .before .before .span .ensures) (c .before .before .before .before .before .before .before .is-space .ensures) (code-value _ _ (sym (c .before .before .before .before .before .is-dash .ensures) ∙ c .before .before .before .before .if1 .left) _ Dash (c .before .before .before .if2 .left) (c .before .before .value .ensures) (c .enum-told .given .1)) form-dash
+returns-4 c =
+    let at-value = c .before .before in
+    let at-if2 = at-value .before in
+    let at-if1 = at-if2 .before in
+    let at-is-dash = at-if1 .before in
+    let at-is-space = at-is-dash .before .before in
+    let at-span = at-is-space .before in
+    found-any _ _ _ _ _ _ _ (at-span .span .ensures) (at-is-space .is-space .ensures) (code-value _ _ (sym (at-is-dash .is-dash .ensures) ∙ at-if1 .if1 .left) _ Dash (at-if2 .if2 .left) (at-value .value .ensures) (c .enum-told .given .1)) form-dash
 
 returns-5 : tie.Need-returns-5
 unfolding coded
-returns-5 c = found-any _ _ _ _ _ _ _ (c .before .before .before .before .before .before .before .before .span .ensures) (c .before .before .before .before .before .before .before .is-space .ensures) (code-value _ _ (sym (c .before .before .before .before .before .is-dash .ensures) ∙ c .before .before .before .before .if1 .left) _ Other (c .before .before .before .if2 .left) (c .before .before .value .ensures) (c .enum-told2 .given .1)) form-other
+returns-5 c =
+    let at-value = c .before .before in
+    let at-if2 = at-value .before in
+    let at-if1 = at-if2 .before in
+    let at-is-dash = at-if1 .before in
+    let at-is-space = at-is-dash .before .before in
+    let at-span = at-is-space .before in
+    found-any _ _ _ _ _ _ _ (at-span .span .ensures) (at-is-space .is-space .ensures) (code-value _ _ (sym (at-is-dash .is-dash .ensures) ∙ at-if1 .if1 .left) _ Other (at-if2 .if2 .left) (at-value .value .ensures) (c .enum-told2 .given .1)) form-other
 
 pub any-at-spec : {M : Type 1} → statement M
 any-at-spec =

@@ -19,7 +19,15 @@ add-t13 : tie.Need-add-t13
 add-t13 c = search needs
 
 returns : tie.Need-returns
-returns c = found-word (c .before .before .before .before .before .before .before .args .i) (c .before .before .before .before .before .before .before .args .from) _ _ _ (now (c .before .before .before .before .before .before .before .args .s)) (c .before .before .before .before .before .if1 .taken) (c .before .before .before .before .if2 .taken) (λ k. c .before .before .before .before .before .before .shared-slice-known .given k .fits) (c .before .before .before .word-key .ensures) (c .before .before .word-of .ensures) (c .before .if3 .taken)
+returns c =
+    let at-if3 = c .before in
+    let at-word-of = at-if3 .before in
+    let at-word-key = at-word-of .before in
+    let at-if2 = at-word-key .before in
+    let at-if1 = at-if2 .before in
+    let at-shared-slice-known = at-if1 .before in
+    let start = at-shared-slice-known .before in
+    found-word (start .args .i) (start .args .from) _ _ _ (now (start .args .s)) (at-if1 .if1 .taken) (at-if2 .if2 .taken) (λ k. at-shared-slice-known .shared-slice-known .given k .fits) (at-word-key .word-key .ensures) (at-word-of .word-of .ensures) (at-if3 .if3 .taken)
 
 add-if4 : tie.Need-add-if4
 add-if4 c = search needs
@@ -46,7 +54,15 @@ add-t22 : tie.Need-add-t22
 add-t22 c = search needs
 
 returns-2 : tie.Need-returns-2
-returns-2 c = found-one (c .before .before .before .before .before .before .before .before .args .i) (c .before .before .before .before .before .before .before .before .args .from) _ _ (now (c .before .before .before .before .before .before .before .before .args .s)) (c .before .before .before .before .before .if4 .taken) (c .before .before .before .before .byte .ensures .0) (c .before .byte2 .ensures .0) (c .before .before .before .before .before .before .if1 .left) (c .before .before .before .is-digit .ensures (c .before .before .if5 .taken)) (c .if6 .taken)
+returns-2 c =
+    let at-byte2 = c .before in
+    let at-if5 = at-byte2 .before in
+    let at-is-digit = at-if5 .before in
+    let at-byte = at-is-digit .before in
+    let at-if4 = at-byte .before in
+    let at-if1 = at-if4 .before in
+    let start = at-if1 .before .before in
+    found-one (start .args .i) (start .args .from) _ _ (now (start .args .s)) (at-if4 .if4 .taken) (at-byte .byte .ensures .0) (at-byte2 .byte2 .ensures .0) (at-if1 .if1 .left) (at-is-digit .is-digit .ensures (at-if5 .if5 .taken)) (c .if6 .taken)
 
 is-digit-requires-2 : tie.Need-is-digit-requires-2
 is-digit-requires-2 c κs = search needs
@@ -58,7 +74,10 @@ shared-slice-read-if8 : tie.Need-shared-slice-read-if8
 shared-slice-read-if8 c = search needs
 
 sub-t28 : tie.Need-sub-t28
-sub-t28 c = omega (arith, c .before .before .before .before .before .before .before .is-digit .ensures (c .before .before .before .before .before .before .if5 .taken))
+sub-t28 c =
+    let at-if5 = c .before .before .before .before .before .before in
+    let at-is-digit = at-if5 .before in
+    omega (arith, at-is-digit .is-digit .ensures (at-if5 .if5 .taken))
 
 mul-t29 : tie.Need-mul-t29
 mul-t29 c = search needs
@@ -76,7 +95,17 @@ add-t33 : tie.Need-add-t33
 add-t33 c = search needs
 
 returns-3 : tie.Need-returns-3
-returns-3 c = found-two (c .before .before .before .before .before .before .before .before .before .before .before .before .args .i) (c .before .before .before .before .before .before .before .before .before .before .before .before .args .from) _ _ (now (c .before .before .before .before .before .before .before .before .before .before .before .before .args .s)) (c .before .before .before .before .before .before .before .before .before .if4 .taken) (c .before .before .before .before .before .before .before .before .byte .ensures .0) (c .before .before .before .before .before .byte2 .ensures .0) (c .before .before .before .before .before .before .before .before .before .before .if1 .left) (c .before .before .before .before .before .before .before .is-digit .ensures (c .before .before .before .before .before .before .if5 .taken)) (c .before .before .before .is-digit2 .ensures (c .before .before .if7 .taken)) (c .if8 .taken)
+returns-3 c =
+    let at-if7 = c .before .before in
+    let at-is-digit2 = at-if7 .before in
+    let at-byte2 = at-is-digit2 .before .before in
+    let at-if5 = at-byte2 .before in
+    let at-is-digit = at-if5 .before in
+    let at-byte = at-is-digit .before in
+    let at-if4 = at-byte .before in
+    let at-if1 = at-if4 .before in
+    let start = at-if1 .before .before in
+    found-two (start .args .i) (start .args .from) _ _ (now (start .args .s)) (at-if4 .if4 .taken) (at-byte .byte .ensures .0) (at-byte2 .byte2 .ensures .0) (at-if1 .if1 .left) (at-is-digit .is-digit .ensures (at-if5 .if5 .taken)) (at-is-digit2 .is-digit2 .ensures (at-if7 .if7 .taken)) (c .if8 .taken)
 
 pair-requires : tie.Need-pair-requires
 pair-requires c κs = search needs
@@ -85,7 +114,11 @@ add-t36 : tie.Need-add-t36
 add-t36 c = search needs
 
 returns-4 : tie.Need-returns-4
-returns-4 c = found-last (c .before .before .before .before .before .before .before .before .args .i) (c .before .before .before .before .before .before .before .before .args .from) _ (now (c .before .before .before .before .before .before .before .before .args .s)) (c .before .before .before .before .before .if4 .taken) (c .before .pair .ensures .0) (c .before .pair .ensures .1) (c .if9 .taken)
+returns-4 c =
+    let at-pair = c .before in
+    let at-if4 = at-pair .before .before .before .before in
+    let start = at-if4 .before .before .before in
+    found-last (start .args .i) (start .args .from) _ (now (start .args .s)) (at-if4 .if4 .taken) (at-pair .pair .ensures .0) (at-pair .pair .ensures .1) (c .if9 .taken)
 
 any-at-requires : tie.Need-any-at-requires
 any-at-requires c κs = search needs

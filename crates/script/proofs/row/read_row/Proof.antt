@@ -68,34 +68,73 @@ with16-requires : tie.Need-with16-requires Inv-loop μ-loop
 with16-requires c κs = search needs
 
 returns-2 : tie.Need-returns-2 Inv-loop μ-loop
-returns-2 c = row-number (c .before .before .before .before .before .before .before .before .before .loop .inv) (c .before .before .before .before .before .code-at .ensures) (c .before .before .before .if4 .taken) (c .before .before .with16 .ensures) (not-true _ (c .if5 .taken)) (omega arith)
+returns-2 c =
+    let at-with16 = c .before .before in
+    let at-if4 = at-with16 .before in
+    let at-code-at = at-if4 .before .before in
+    let at-loop = at-code-at .before .before .before .before in
+    row-number (at-loop .loop .inv) (at-code-at .code-at .ensures) (at-if4 .if4 .taken) (at-with16 .with16 .ensures) (not-true _ (c .if5 .taken)) (omega arith)
 
 add-from-2 : tie.Need-add-from-2 Inv-loop μ-loop
-add-from-2 c = omega (arith, found-less (c .before .before .before .before .before .before .before .before .before .loop .inv) (c .before .before .before .before .before .code-at .ensures) (not-false _ (c .if5 .left)))
+add-from-2 c =
+    let at-code-at = c .before .before .before .before .before in
+    let at-loop = at-code-at .before .before .before .before in
+    omega (arith, found-less (at-loop .loop .inv) (at-code-at .code-at .ensures) (not-false _ (c .if5 .left)))
 
 loop-less-2 : tie.Need-loop-less-2 Inv-loop μ-loop
-loop-less-2 c = omega (arith, found-less (c .before .before .before .before .before .before .before .before .before .loop .inv) (c .before .before .before .before .before .code-at .ensures) (not-false _ (c .if5 .left)))
+loop-less-2 c =
+    let at-code-at = c .before .before .before .before .before in
+    let at-loop = at-code-at .before .before .before .before in
+    omega (arith, found-less (at-loop .loop .inv) (at-code-at .code-at .ensures) (not-false _ (c .if5 .left)))
 
 loop-again-2 : tie.Need-loop-again-2 Inv-loop μ-loop
-loop-again-2 c = filled-number (c .before .before .before .before .before .before .before .before .before .loop .inv) (c .before .before .before .before .before .code-at .ensures) (c .before .before .before .if4 .taken) (c .before .before .with16 .ensures) (not-false _ (c .if5 .left)) (omega arith)
+loop-again-2 c =
+    let at-with16 = c .before .before in
+    let at-if4 = at-with16 .before in
+    let at-code-at = at-if4 .before .before in
+    let at-loop = at-code-at .before .before .before .before in
+    filled-number (at-loop .loop .inv) (at-code-at .code-at .ensures) (at-if4 .if4 .taken) (at-with16 .with16 .ensures) (not-false _ (c .if5 .left)) (omega arith)
 
 end-of-requires-2 : tie.Need-end-of-requires-2 Inv-loop μ-loop
-end-of-requires-2 c κs = omega (arith, found-slice (c .before .before .before .before .before .before .before .before .loop .inv) (c .before .before .before .before .code-at .ensures))
+end-of-requires-2 c κs =
+    let at-code-at = c .before .before .before .before in
+    let at-loop = at-code-at .before .before .before .before in
+    omega (arith, found-slice (at-loop .loop .inv) (at-code-at .code-at .ensures))
 
 returns-3 : tie.Need-returns-3 Inv-loop μ-loop
-returns-3 c = row-other (c .before .before .before .before .before .before .before .before .before .loop .inv) (c .before .before .before .before .before .code-at .ensures) (omega arith) (c .before .if6 .taken) (c .end-of2 .ensures)
+returns-3 c =
+    let at-if6 = c .before in
+    let at-code-at = at-if6 .before .before .before .before in
+    let at-loop = at-code-at .before .before .before .before in
+    row-other (at-loop .loop .inv) (at-code-at .code-at .ensures) (omega arith) (at-if6 .if6 .taken) (c .end-of2 .ensures)
 
 returns-4 : tie.Need-returns-4 Inv-loop μ-loop
-returns-4 c = row-dash (c .before .before .before .before .before .before .before .before .before .before .loop .inv) (c .before .before .before .before .before .before .code-at .ensures) (c .before .before .before .before .if4 .left) (c .before .before .if6 .left) (not-true _ (c .if7 .taken)) (omega arith)
+returns-4 c =
+    let at-if6 = c .before .before in
+    let at-if4 = at-if6 .before .before in
+    let at-code-at = at-if4 .before .before in
+    let at-loop = at-code-at .before .before .before .before in
+    row-dash (at-loop .loop .inv) (at-code-at .code-at .ensures) (at-if4 .if4 .left) (at-if6 .if6 .left) (not-true _ (c .if7 .taken)) (omega arith)
 
 add-from-3 : tie.Need-add-from-3 Inv-loop μ-loop
-add-from-3 c = omega (arith, found-less (c .before .before .before .before .before .before .before .before .before .before .loop .inv) (c .before .before .before .before .before .before .code-at .ensures) (not-false _ (c .if7 .left)))
+add-from-3 c =
+    let at-code-at = c .before .before .before .before .before .before in
+    let at-loop = at-code-at .before .before .before .before in
+    omega (arith, found-less (at-loop .loop .inv) (at-code-at .code-at .ensures) (not-false _ (c .if7 .left)))
 
 loop-less-3 : tie.Need-loop-less-3 Inv-loop μ-loop
-loop-less-3 c = omega (arith, found-less (c .before .before .before .before .before .before .before .before .before .before .loop .inv) (c .before .before .before .before .before .before .code-at .ensures) (not-false _ (c .if7 .left)))
+loop-less-3 c =
+    let at-code-at = c .before .before .before .before .before .before in
+    let at-loop = at-code-at .before .before .before .before in
+    omega (arith, found-less (at-loop .loop .inv) (at-code-at .code-at .ensures) (not-false _ (c .if7 .left)))
 
 loop-again-3 : tie.Need-loop-again-3 Inv-loop μ-loop
-loop-again-3 c = filled-dash (c .before .before .before .before .before .before .before .before .before .before .loop .inv) (c .before .before .before .before .before .before .code-at .ensures) (c .before .before .before .before .if4 .left) (c .before .before .if6 .left) (not-false _ (c .if7 .left))
+loop-again-3 c =
+    let at-if6 = c .before .before in
+    let at-if4 = at-if6 .before .before in
+    let at-code-at = at-if4 .before .before in
+    let at-loop = at-code-at .before .before .before .before in
+    filled-dash (at-loop .loop .inv) (at-code-at .code-at .ensures) (at-if4 .if4 .left) (at-if6 .if6 .left) (not-false _ (c .if7 .left))
 
 pub read-row-spec : {M : Type 1} → statement M
 read-row-spec =

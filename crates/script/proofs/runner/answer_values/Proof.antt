@@ -27,11 +27,16 @@ same-length c = search needs
 
 returns : tie.Need-returns
 returns c =
+    let at-put-line = c .before .before .before in
+    let at-numeral-of = at-put-line .before .before in
+    let at-answer-line = at-numeral-of .before .before in
+    let at-next = at-answer-line .before .before in
+    let start = at-next .before .before .before .before .before in
     record {
-      asked = c .before .before .before .before .before .before .before .before .before .next .result .asked;
-      read = λ header o. c .before .before .before .before .before .before .before .before .before .next .ensures .1 header o ∙ ap (readLine header) (c .before .before .before .before .before .before .before .before .before .before .before .before .before .before .pre .2);
-      next = said-next _ _ _ (c .before .before .before .before .before .before .before .answer-line .ensures);
-      puts = said-text _ _ _ (c .before .before .before .before .before .before .before .answer-line .ensures) (line-of _ (c .before .before .before .before .before .numeral-of .ensures .whole) (c .before .before .before .put-line .ensures));
+      asked = at-next .next .result .asked;
+      read = λ header o. at-next .next .ensures .1 header o ∙ ap (readLine header) (start .pre .2);
+      next = said-next _ _ _ (at-answer-line .answer-line .ensures);
+      puts = said-text _ _ _ (at-answer-line .answer-line .ensures) (line-of _ (at-numeral-of .numeral-of .ensures .whole) (at-put-line .put-line .ensures));
     }
 
 pub answer-values-spec : {M : Type 1} → statement M

@@ -29,7 +29,13 @@ same-length : tie.Need-same-length
 same-length c = search needs
 
 returns-2 : tie.Need-returns-2
-returns-2 c = names-whole-step _ _ _ (c .before .before .before .before .before .before .before .find .ensures) (c .before .before .before .before .before .before .before .before .before .before .before .pre) (c .before .before .before .before .before .before .before .before .if1 .left) (c .before .before .before .before .before .before .if2 .taken) (c .before .before .before .take-names .ensures)
+returns-2 c =
+    let at-take-names = c .before .before .before in
+    let at-if2 = at-take-names .before .before .before in
+    let at-find = at-if2 .before in
+    let at-if1 = at-find .before in
+    let start = at-if1 .before .before .before in
+    names-whole-step _ _ _ (at-find .find .ensures) (start .pre) (at-if1 .if1 .left) (at-if2 .if2 .taken) (at-take-names .take-names .ensures)
 
 take-names-requires-2 : tie.Need-take-names-requires-2
 take-names-requires-2 c κs = search needs
@@ -38,13 +44,24 @@ same-length-2 : tie.Need-same-length-2
 same-length-2 c = search needs
 
 returns-3 : tie.Need-returns-3
-returns-3 c = names-cut-step _ _ _ (c .before .before .before .before .before .before .before .find .ensures) (c .before .before .before .before .before .before .before .before .before .before .before .pre) (c .before .before .before .before .before .before .before .before .if1 .left) (c .before .before .before .before .before .before .if2 .left) (c .before .before .before .before .before .if3 .taken) (c .before .before .before .take-names2 .ensures)
+returns-3 c =
+    let at-take-names2 = c .before .before .before in
+    let at-if3 = at-take-names2 .before .before in
+    let at-if2 = at-if3 .before in
+    let at-find = at-if2 .before in
+    let at-if1 = at-find .before in
+    let start = at-if1 .before .before .before in
+    names-cut-step _ _ _ (at-find .find .ensures) (start .pre) (at-if1 .if1 .left) (at-if2 .if2 .left) (at-if3 .if3 .taken) (at-take-names2 .take-names2 .ensures)
 
 idle-requires-2 : tie.Need-idle-requires-2
 idle-requires-2 c κs = search needs
 
 returns-4 : tie.Need-returns-4
-returns-4 c = idle-step (c .idle2 .ensures) (omega arith) (names-wait _ _ _ _ _ (c .before .before .before .before .before .before .before .pre) (c .before .before .if2 .left) (c .before .if3 .left))
+returns-4 c =
+    let at-if3 = c .before in
+    let at-if2 = at-if3 .before in
+    let start = at-if2 .before .before .before .before .before in
+    idle-step (c .idle2 .ensures) (omega arith) (names-wait _ _ _ _ _ (start .pre) (at-if2 .if2 .left) (at-if3 .if3 .left))
 
 pub names-step-spec : {M : Type 1} → statement M
 names-step-spec =

@@ -26,13 +26,21 @@ work-requires : tie.Need-work-requires
 work-requires c κs = search needs
 
 add-t9 : tie.Need-add-t9
-add-t9 c = let g = c .before .before .before .before .before .before .before .before .before .before .before .before .before .before .before .good .1 .1 .1 .0 .0 in let w = heading-wrote (c .before .before .before .before .before .before .before .before .put-heading .ensures) in search needs
+add-t9 c =
+    let at-put-heading = c .before .before .before .before .before .before .before .before in
+    let start = at-put-heading .before .before .before .before .before .before .before in
+    let g = start .good .1 .1 .1 .0 .0 in let w = heading-wrote (at-put-heading .put-heading .ensures) in search needs
 
 same-length : tie.Need-same-length
 same-length c = search needs
 
 returns-2 : tie.Need-returns-2
-returns-2 c = headed-done (c .before .before .before .before .before .before .before .before .before .before .before .if1 .taken) (c .before .before .before .before .before .before .before .before .before .before .if2 .left) (c .before .before .before .before .before .before .before .before .put-heading .kept .0) (c .before .before .before .before .before .before .before .before .put-heading .ensures) (c .before .before .before .before .work .kept .1 .1 .1 .0) (c .before .before .before .before .work .ensures)
+returns-2 c =
+    let at-work = c .before .before .before .before in
+    let at-put-heading = at-work .before .before .before .before in
+    let at-if2 = at-put-heading .before .before in
+    let at-if1 = at-if2 .before in
+    headed-done (at-if1 .if1 .taken) (at-if2 .if2 .left) (at-put-heading .put-heading .kept .0) (at-put-heading .put-heading .ensures) (at-work .work .kept .1 .1 .1 .0) (at-work .work .ensures)
 
 work-requires-2 : tie.Need-work-requires-2
 work-requires-2 c κs = search needs

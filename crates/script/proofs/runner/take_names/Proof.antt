@@ -22,7 +22,12 @@ same-length : tie.Need-same-length
 same-length c = search needs
 
 returns-2 : tie.Need-returns-2
-returns-2 c = bad (sym (c .before .before .before .before .before .before .header .ensures .0) ∙ c .before .before .before .before .before .if1 .left) (line-of _ (c .before .before .before .before .numeral-of .ensures .whole) (c .before .before .put-line .ensures))
+returns-2 c =
+    let at-put-line = c .before .before in
+    let at-numeral-of = at-put-line .before .before in
+    let at-if1 = at-numeral-of .before in
+    let at-header = at-if1 .before in
+    bad (sym (at-header .header .ensures .0) ∙ at-if1 .if1 .left) (line-of _ (at-numeral-of .numeral-of .ensures .whole) (at-put-line .put-line .ensures))
 
 pub take-names-spec : {M : Type 1} → statement M
 take-names-spec = tie.close (tie.spec header-requires returns numeral-of-requires put-line-requires same-length returns-2)

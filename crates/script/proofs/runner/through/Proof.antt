@@ -18,7 +18,9 @@ abbrev μ-loop : tie.MeasureT-loop
 μ-loop piece end out₀ rows₀ marks₀ answers₀ held₀ at₀ wrote₀ out rows marks answers held at wrote = length piece - at
 
 loop-holds : tie.Need-loop-holds Inv-loop μ-loop
-loop-holds c = (c .before .before .before .before .before .pre .0, c .before .before .before .before .before .pre .1, held-none _ _ _ _)
+loop-holds c =
+    let start = c .before .before .before .before .before in
+    (start .pre .0, start .pre .1, held-none _ _ _ _)
 
 sub-one : tie.Need-sub-one Inv-loop μ-loop
 sub-one c = search needs
@@ -42,31 +44,69 @@ one-requires : tie.Need-one-requires Inv-loop μ-loop
 one-requires c κs = search needs
 
 add-at : tie.Need-add-at Inv-loop μ-loop
-add-at c = let h = loop-more (c .before .before .before .before .before .before .before .before .before .before .before .before .before .before .before .before .loop .inv .2) (c .before .before .before .before .before .before .before .before .before .before .one .kept .1 .1 .1 .0) (c .before .before .before .before .before .before .before .before .before .before .one .ensures) in omega (arith, h .within, c .before .before .before .before .before .before .before .before .before .before .before .before .before .before .before .before .before .before .before .before .before .before .good .1 .0)
+add-at c =
+    let at-marks = c .before .before .before .before .before in
+    let at-one = at-marks .before .before .before .before .before in
+    let at-loop = at-one .before .before .before .before .before .before in
+    let start = at-loop .before .before .before .before .before .before in
+    let h = loop-more (at-loop .loop .inv .2) (at-one .one .kept .1 .1 .1 .0) (at-one .one .ensures) in omega (arith, h .within, start .good .1 .0)
 
 add-wrote : tie.Need-add-wrote Inv-loop μ-loop
-add-wrote c = let g = c .before .before .before .before .before .before .before .before .before .before .before .before .before .before .before .before .before .before .before .before .before .before .before .good .1 .1 .1 .0 .0 in let h = c .before .before .before .before .before .before .before .before .before .before .before .before .before .before .before .before .before .loop .inv .2 in search needs
+add-wrote c =
+    let at-rows = c .before .before .before .before .before .before .before .before in
+    let at-one = at-rows .before .before .before in
+    let at-loop = at-one .before .before .before .before .before .before in
+    let start = at-loop .before .before .before .before .before .before in
+    let more = loop-more (at-loop .loop .inv .2) (at-one .one .kept .1 .1 .1 .0) (at-one .one .ensures) in
+    omega (arith, more .room, more .same, start .good .1 .1 .1 .0 .0)
 
 same-length : tie.Need-same-length Inv-loop μ-loop
-same-length c = (loop-more (c .before .before .before .before .before .before .before .before .before .before .before .before .before .before .before .before .before .before .before .loop .inv .2) (c .before .before .before .before .before .before .before .before .before .before .before .before .before .one .kept .1 .1 .1 .0) (c .before .before .before .before .before .before .before .before .before .before .before .before .before .one .ensures)) .same
+same-length c =
+    let at-slice-known7 = c .before .before .before .before .before .before .before in
+    let at-one = at-slice-known7 .before .before .before .before .before .before in
+    let at-loop = at-one .before .before .before .before .before .before in
+    (loop-more (at-loop .loop .inv .2) (at-one .one .kept .1 .1 .1 .0) (at-one .one .ensures)) .same
 
 same-length-2 : tie.Need-same-length-2 Inv-loop μ-loop
-same-length-2 c = c .before .before .before .before .before .before .before .before .before .before .before .before .before .one .kept .1 .1 .1 .1 .0 ∙ c .before .before .before .before .before .before .before .before .before .before .before .before .before .before .before .before .before .before .before .loop .inv .1 .rowsRoom ∙ sym (c .before .before .before .before .before .before .before .before .before .before .before .before .before .before .before .before .before .before .before .before .before .before .before .before .before .pre .1 .rowsRoom)
+same-length-2 c =
+    let at-slice-known7 = c .before .before .before .before .before .before .before in
+    let at-one = at-slice-known7 .before .before .before .before .before .before in
+    let at-loop = at-one .before .before .before .before .before .before in
+    let start = at-loop .before .before .before .before .before .before in
+    at-one .one .kept .1 .1 .1 .1 .0 ∙ at-loop .loop .inv .1 .rowsRoom ∙ sym (start .pre .1 .rowsRoom)
 
 same-length-3 : tie.Need-same-length-3 Inv-loop μ-loop
-same-length-3 c = c .before .before .before .before .before .before .before .before .before .before .before .before .before .one .kept .1 .1 .1 .1 .1 .0 ∙ c .before .before .before .before .before .before .before .before .before .before .before .before .before .before .before .before .before .before .before .loop .inv .1 .marksRoom ∙ sym (c .before .before .before .before .before .before .before .before .before .before .before .before .before .before .before .before .before .before .before .before .before .before .before .before .before .pre .1 .marksRoom)
+same-length-3 c =
+    let at-slice-known7 = c .before .before .before .before .before .before .before in
+    let at-one = at-slice-known7 .before .before .before .before .before .before in
+    let at-loop = at-one .before .before .before .before .before .before in
+    let start = at-loop .before .before .before .before .before .before in
+    at-one .one .kept .1 .1 .1 .1 .1 .0 ∙ at-loop .loop .inv .1 .marksRoom ∙ sym (start .pre .1 .marksRoom)
 
 same-length-4 : tie.Need-same-length-4 Inv-loop μ-loop
-same-length-4 c = c .before .before .before .before .before .before .before .before .before .before .before .before .before .one .kept .1 .1 .1 .1 .1 .1 .0 ∙ c .before .before .before .before .before .before .before .before .before .before .before .before .before .before .before .before .before .before .before .loop .inv .1 .answersRoom ∙ sym (c .before .before .before .before .before .before .before .before .before .before .before .before .before .before .before .before .before .before .before .before .before .before .before .before .before .pre .1 .answersRoom)
+same-length-4 c =
+    let at-slice-known7 = c .before .before .before .before .before .before .before in
+    let at-one = at-slice-known7 .before .before .before .before .before .before in
+    let at-loop = at-one .before .before .before .before .before .before in
+    let start = at-loop .before .before .before .before .before .before in
+    at-one .one .kept .1 .1 .1 .1 .1 .1 .0 ∙ at-loop .loop .inv .1 .answersRoom ∙ sym (start .pre .1 .answersRoom)
 
 returns : tie.Need-returns Inv-loop μ-loop
-returns c = loop-done (c .before .before .before .before .before .before .before .before .before .before .before .before .before .before .before .before .before .before .before .loop .inv .2) (c .before .before .before .before .before .before .before .before .before .before .before .before .before .one .kept .1 .1 .1 .0) (c .before .before .before .before .before .before .before .before .before .before .before .before .before .one .ensures) (c .if1 .taken)
+returns c =
+    let at-slice-known7 = c .before .before .before .before .before .before .before in
+    let at-one = at-slice-known7 .before .before .before .before .before .before in
+    let at-loop = at-one .before .before .before .before .before .before in
+    loop-done (at-loop .loop .inv .2) (at-one .one .kept .1 .1 .1 .0) (at-one .one .ensures) (c .if1 .taken)
 
 loop-less : tie.Need-loop-less Inv-loop μ-loop
 loop-less c = search needs
 
 loop-again : tie.Need-loop-again Inv-loop μ-loop
-loop-again c = (c .before .before .before .before .before .before .before .before .before .before .before .before .before .one .ensures .begun, record { rowsRoom = c .before .before .before .before .before .before .before .before .before .before .before .before .before .one .kept .1 .1 .1 .1 .0 ∙ c .before .before .before .before .before .before .before .before .before .before .before .before .before .before .before .before .before .before .before .loop .inv .1 .rowsRoom; marksRoom = c .before .before .before .before .before .before .before .before .before .before .before .before .before .one .kept .1 .1 .1 .1 .1 .0 ∙ c .before .before .before .before .before .before .before .before .before .before .before .before .before .before .before .before .before .before .before .loop .inv .1 .marksRoom; answersRoom = c .before .before .before .before .before .before .before .before .before .before .before .before .before .one .kept .1 .1 .1 .1 .1 .1 .0 ∙ c .before .before .before .before .before .before .before .before .before .before .before .before .before .before .before .before .before .before .before .loop .inv .1 .answersRoom }, loop-more (c .before .before .before .before .before .before .before .before .before .before .before .before .before .before .before .before .before .before .before .loop .inv .2) (c .before .before .before .before .before .before .before .before .before .before .before .before .before .one .kept .1 .1 .1 .0) (c .before .before .before .before .before .before .before .before .before .before .before .before .before .one .ensures))
+loop-again c =
+    let at-slice-known7 = c .before .before .before .before .before .before .before in
+    let at-one = at-slice-known7 .before .before .before .before .before .before in
+    let at-loop = at-one .before .before .before .before .before .before in
+    (at-one .one .ensures .begun, record { rowsRoom = at-one .one .kept .1 .1 .1 .1 .0 ∙ at-loop .loop .inv .1 .rowsRoom; marksRoom = at-one .one .kept .1 .1 .1 .1 .1 .0 ∙ at-loop .loop .inv .1 .marksRoom; answersRoom = at-one .one .kept .1 .1 .1 .1 .1 .1 .0 ∙ at-loop .loop .inv .1 .answersRoom }, loop-more (at-loop .loop .inv .2) (at-one .one .kept .1 .1 .1 .0) (at-one .one .ensures))
 
 pub through-spec : {M : Type 1} → statement M
 through-spec =

@@ -21,10 +21,18 @@ add-t15 : tie.Need-add-t15
 add-t15 c = search needs
 
 returns-2 : tie.Need-returns-2
-returns-2 c = found-step _ _ _ (c .before .before .find .ensures) (c .before .before .before .before .before .before .before .pre) (c .before .if2 .taken) (c .if3 .taken)
+returns-2 c =
+    let at-if2 = c .before in
+    let at-find = at-if2 .before in
+    let start = at-find .before .before .before .before .before in
+    found-step _ _ _ (at-find .find .ensures) (start .pre) (at-if2 .if2 .taken) (c .if3 .taken)
 
 returns-3 : tie.Need-returns-3
-returns-3 c = none-step _ _ _ (c .before .before .find .ensures) (c .before .before .before .before .before .before .before .pre) (c .before .if2 .taken) (c .if3 .left)
+returns-3 c =
+    let at-if2 = c .before in
+    let at-find = at-if2 .before in
+    let start = at-find .before .before .before .before .before in
+    none-step _ _ _ (at-find .find .ensures) (start .pre) (at-if2 .if2 .taken) (c .if3 .left)
 
 idle-requires-2 : tie.Need-idle-requires-2
 idle-requires-2 c κs = search needs
@@ -45,7 +53,15 @@ same-length : tie.Need-same-length
 same-length c = search needs
 
 returns-5 : tie.Need-returns-5
-returns-5 c = whole-step _ _ _ (c .before .before .before .before .before .before .before .before .before .find .ensures) (c .before .before .before .before .before .before .before .before .before .before .before .before .before .before .pre) (c .before .before .before .before .before .before .before .before .if2 .left) (c .before .before .before .before .before .before .before .before .before .before .if1 .left) (c .before .before .before .before .before .before .before .if4 .left) (c .before .before .before .before .before .before .if5 .taken) (c .before .before .before .answer-values .ensures)
+returns-5 c =
+    let at-answer-values = c .before .before .before in
+    let at-if5 = at-answer-values .before .before .before in
+    let at-if4 = at-if5 .before in
+    let at-if2 = at-if4 .before in
+    let at-find = at-if2 .before in
+    let at-if1 = at-find .before in
+    let start = at-if1 .before .before .before .before in
+    whole-step _ _ _ (at-find .find .ensures) (start .pre) (at-if2 .if2 .left) (at-if1 .if1 .left) (at-if4 .if4 .left) (at-if5 .if5 .taken) (at-answer-values .answer-values .ensures)
 
 answer-values-requires-2 : tie.Need-answer-values-requires-2
 answer-values-requires-2 c κs = (search needs, search needs, before-all 10 _ (c .before .before .before .before .before .find .ensures) (c .before .before .if5 .left))
@@ -54,22 +70,48 @@ same-length-2 : tie.Need-same-length-2
 same-length-2 c = search needs
 
 returns-6 : tie.Need-returns-6
-returns-6 c = long-step _ _ _ (c .before .before .before .before .before .before .before .before .before .find .ensures) (c .before .before .before .before .before .before .before .before .before .before .before .before .before .before .pre) (c .before .before .before .before .before .before .before .before .if2 .left) (c .before .before .before .before .before .before .before .before .before .before .if1 .left) (c .before .before .before .before .before .before .before .if4 .left) (c .before .before .before .before .before .before .if5 .left) (c .before .before .before .before .before .if6 .taken) (c .before .before .before .answer-values2 .ensures)
+returns-6 c =
+    let at-answer-values2 = c .before .before .before in
+    let at-if6 = at-answer-values2 .before .before in
+    let at-if5 = at-if6 .before in
+    let at-if4 = at-if5 .before in
+    let at-if2 = at-if4 .before in
+    let at-find = at-if2 .before in
+    let at-if1 = at-find .before in
+    let start = at-if1 .before .before .before .before in
+    long-step _ _ _ (at-find .find .ensures) (start .pre) (at-if2 .if2 .left) (at-if1 .if1 .left) (at-if4 .if4 .left) (at-if5 .if5 .left) (at-if6 .if6 .taken) (at-answer-values2 .answer-values2 .ensures)
 
 answer-values-requires-3 : tie.Need-answer-values-requires-3
-answer-values-requires-3 c κs = (search needs, search needs, before-all 10 _ (c .before .before .before .before .before .before .find .ensures) (c .before .before .before .if5 .left))
+answer-values-requires-3 c κs =
+    let at-if5 = c .before .before .before in
+    let at-find = at-if5 .before .before .before in
+    (search needs, search needs, before-all 10 _ (at-find .find .ensures) (at-if5 .if5 .left))
 
 same-length-3 : tie.Need-same-length-3
 same-length-3 c = search needs
 
 returns-7 : tie.Need-returns-7
-returns-7 c = last-step _ _ _ (c .before .before .before .before .before .before .before .before .before .before .find .ensures) (c .before .before .before .before .before .before .before .before .before .before .before .before .before .before .before .pre) (c .before .before .before .before .before .before .before .before .before .if2 .left) (c .before .before .before .before .before .before .before .before .before .before .before .if1 .left) (c .before .before .before .before .before .before .before .before .if4 .left) (c .before .before .before .before .before .before .before .if5 .left) (c .before .before .before .before .before .if7 .taken) (c .before .before .before .answer-values3 .ensures)
+returns-7 c =
+    let at-answer-values3 = c .before .before .before in
+    let at-if7 = at-answer-values3 .before .before in
+    let at-if5 = at-if7 .before .before in
+    let at-if4 = at-if5 .before in
+    let at-if2 = at-if4 .before in
+    let at-find = at-if2 .before in
+    let at-if1 = at-find .before in
+    let start = at-if1 .before .before .before .before in
+    last-step _ _ _ (at-find .find .ensures) (start .pre) (at-if2 .if2 .left) (at-if1 .if1 .left) (at-if4 .if4 .left) (at-if5 .if5 .left) (at-if7 .if7 .taken) (at-answer-values3 .answer-values3 .ensures)
 
 idle-requires-3 : tie.Need-idle-requires-3
 idle-requires-3 c κs = search needs
 
 returns-8 : tie.Need-returns-8
-returns-8 c = idle-step (c .idle3 .ensures) (omega arith) (line-waits _ _ _ _ _ (c .before .before .before .before .before .before .before .before .before .before .before .pre) (c .before .before .before .if5 .left) (c .before .before .if6 .left) (c .before .if7 .left))
+returns-8 c =
+    let at-if7 = c .before in
+    let at-if6 = at-if7 .before in
+    let at-if5 = at-if6 .before in
+    let start = at-if5 .before .before .before .before .before .before .before .before in
+    idle-step (c .idle3 .ensures) (omega arith) (line-waits _ _ _ _ _ (start .pre) (at-if5 .if5 .left) (at-if6 .if6 .left) (at-if7 .if7 .left))
 
 pub values-step-spec : {M : Type 1} → statement M
 values-step-spec =

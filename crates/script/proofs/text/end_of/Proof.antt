@@ -21,10 +21,14 @@ find-requires : tie.Need-find-requires
 find-requires c κs = search needs
 
 add-result : tie.Need-add-result
-add-result c = omega (arith, rest-within 10 (c .before .before .before .args .from) (now (c .before .before .before .args .s)) (c .before .before .before .pre) (c .find .ensures))
+add-result c =
+    let start = c .before .before .before in
+    omega (arith, rest-within 10 (start .args .from) (now (start .args .s)) (start .pre) (c .find .ensures))
 
 returns : tie.Need-returns
-returns c = ap (λ (n : ℕ). c .before .before .before .args .from + n) (rest-before 10 (c .before .before .before .args .from) (now (c .before .before .before .args .s)) (c .find .ensures))
+returns c =
+    let start = c .before .before .before in
+    ap (λ (n : ℕ). start .args .from + n) (rest-before 10 (start .args .from) (now (start .args .s)) (c .find .ensures))
 
 pub end-of-spec : {M : Type 1} → statement M
 end-of-spec =

@@ -47,7 +47,12 @@ add-result-4 : tie.Need-add-result-4
 add-result-4 c = search needs
 
 returns : tie.Need-returns
-returns c = (key-four _ _ _ _ _ _ (c .before .before .before .before .before .pre) (c .before .before .before .byte .ensures .0) (c .before .before .byte2 .ensures .0) (c .before .byte3 .ensures .0) (c .byte4 .ensures .0), search needs)
+returns c =
+    let at-byte3 = c .before in
+    let at-byte2 = at-byte3 .before in
+    let at-byte = at-byte2 .before in
+    let start = at-byte .before .before in
+    (key-four _ _ _ _ _ _ (start .pre) (at-byte .byte .ensures .0) (at-byte2 .byte2 .ensures .0) (at-byte3 .byte3 .ensures .0) (c .byte4 .ensures .0), search needs)
 
 pub key4-spec : {M : Type 1} → statement M
 key4-spec =

@@ -37,7 +37,10 @@ returns-5 : tie.Need-returns-5 Inv-loop μ-loop
 returns-5 c = read-low (c .before .before .before .loop .inv) (omega arith) (omega arith) (c .before .before .before .before .if3 .left) (omega arith) (c .if5 .taken)
 
 returns-6 : tie.Need-returns-6 Inv-loop μ-loop
-returns-6 c = read-high (c .before .before .before .before .loop .inv) (omega arith) (omega arith) (c .before .before .before .before .before .if3 .left) (omega arith) (c .if6 .taken)
+returns-6 c =
+    let at-loop = c .before .before .before .before in
+    let at-if3 = at-loop .before in
+    read-high (at-loop .loop .inv) (omega arith) (omega arith) (at-if3 .if3 .left) (omega arith) (c .if6 .taken)
 
 mul-n : tie.Need-mul-n Inv-loop μ-loop
 mul-n c = omega (arith, read-small (c .before .before .before .before .loop .inv) (omega arith) (omega arith))

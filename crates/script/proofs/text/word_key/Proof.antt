@@ -17,7 +17,11 @@ byte-requires : tie.Need-byte-requires
 byte-requires c κs = search needs
 
 returns : tie.Need-returns
-returns c = begins (now (c .before .before .before .before .args .s)) (c .before .before .before .before .args .from) 4 _ _ (omega arith) (c .before .before .key4 .ensures .0) (c .before .byte .ensures .0) (c .if1 .taken)
+returns c =
+    let at-byte = c .before in
+    let at-key4 = at-byte .before in
+    let start = at-key4 .before .before in
+    begins (now (start .args .s)) (start .args .from) 4 _ _ (omega arith) (at-key4 .key4 .ensures .0) (at-byte .byte .ensures .0) (c .if1 .taken)
 
 mul-k5 : tie.Need-mul-k5
 mul-k5 c = search needs
@@ -32,7 +36,12 @@ byte-requires-2 : tie.Need-byte-requires-2
 byte-requires-2 c κs = search needs
 
 returns-2 : tie.Need-returns-2
-returns-2 c = begins (now (c .before .before .before .before .before .before .args .s)) (c .before .before .before .before .before .before .args .from) 5 _ _ (omega arith) (key-next (now (c .before .before .before .before .before .before .args .s)) (c .before .before .before .before .before .before .args .from) 4 _ _ (omega arith) (omega (arith, length-drop (c .before .before .before .before .before .before .args .from) (now (c .before .before .before .before .before .before .args .s)))) (c .before .before .before .before .key4 .ensures .0) (c .before .before .before .byte .ensures .0)) (c .before .byte2 .ensures .0) (c .if2 .taken)
+returns-2 c =
+    let at-byte2 = c .before in
+    let at-byte = at-byte2 .before .before in
+    let at-key4 = at-byte .before in
+    let start = at-key4 .before .before in
+    begins (now (start .args .s)) (start .args .from) 5 _ _ (omega arith) (key-next (now (start .args .s)) (start .args .from) 4 _ _ (omega arith) (omega (arith, length-drop (start .args .from) (now (start .args .s)))) (at-key4 .key4 .ensures .0) (at-byte .byte .ensures .0)) (at-byte2 .byte2 .ensures .0) (c .if2 .taken)
 
 mul-k6 : tie.Need-mul-k6
 mul-k6 c = search needs
@@ -47,7 +56,13 @@ byte-requires-3 : tie.Need-byte-requires-3
 byte-requires-3 c κs = search needs
 
 returns-3 : tie.Need-returns-3
-returns-3 c = begins (now (c .before .before .before .before .before .before .before .before .args .s)) (c .before .before .before .before .before .before .before .before .args .from) 6 _ _ (omega arith) (key-next (now (c .before .before .before .before .before .before .before .before .args .s)) (c .before .before .before .before .before .before .before .before .args .from) 5 _ _ (omega arith) (omega (arith, length-drop (c .before .before .before .before .before .before .before .before .args .from) (now (c .before .before .before .before .before .before .before .before .args .s)))) (key-next (now (c .before .before .before .before .before .before .before .before .args .s)) (c .before .before .before .before .before .before .before .before .args .from) 4 _ _ (omega arith) (omega (arith, length-drop (c .before .before .before .before .before .before .before .before .args .from) (now (c .before .before .before .before .before .before .before .before .args .s)))) (c .before .before .before .before .before .before .key4 .ensures .0) (c .before .before .before .before .before .byte .ensures .0)) (c .before .before .before .byte2 .ensures .0)) (c .before .byte3 .ensures .0) (c .if3 .taken)
+returns-3 c =
+    let at-byte3 = c .before in
+    let at-byte2 = at-byte3 .before .before in
+    let at-byte = at-byte2 .before .before in
+    let at-key4 = at-byte .before in
+    let start = at-key4 .before .before in
+    begins (now (start .args .s)) (start .args .from) 6 _ _ (omega arith) (key-next (now (start .args .s)) (start .args .from) 5 _ _ (omega arith) (omega (arith, length-drop (start .args .from) (now (start .args .s)))) (key-next (now (start .args .s)) (start .args .from) 4 _ _ (omega arith) (omega (arith, length-drop (start .args .from) (now (start .args .s)))) (at-key4 .key4 .ensures .0) (at-byte .byte .ensures .0)) (at-byte2 .byte2 .ensures .0)) (at-byte3 .byte3 .ensures .0) (c .if3 .taken)
 
 returns-4 : tie.Need-returns-4
 returns-4 c = search needs
