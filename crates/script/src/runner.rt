@@ -227,8 +227,9 @@ fn values_step(mut r: Runner, piece: &[u8], end: bool, out: &mut [u8]) -> Ran
     idle(r)
 }
 
-// Whole lines of values, as many as a batch takes; where there is none, the one line that is left.
-fn batch_step(
+// The names line; or whole lines of values, as many as a batch takes, and where there is none, the one line that is left. The
+// last three are room for a batch.
+fn one(
     mut r: Runner,
     piece: &[u8],
     end: bool,
@@ -237,9 +238,18 @@ fn batch_step(
     marks: &mut [bool],
     answers: &mut [u8],
 ) -> Ran
-    requires { ⌜ (r .phase ≡ atLines) × (r .skip ≡ false) × Lent (now rows) (now marks) (now answers) ⌝ }
+    requires { ⌜ (atNames ≤ r .phase) × Lent (now rows) (now marks) (now answers) ⌝ }
     ensures { λ x. ⌜ Stepped r (now (piece .entry)) end (now (out .entry)) (now (out .exit)) x ⌝ }
 {
+    if r.phase == AT_NAMES {
+        return names_step(r, piece, end, out);
+    }
+    if AT_LINES < r.phase {
+        return idle(r);
+    }
+    if r.skip {
+        return values_step(r, piece, end, out);
+    }
     let at = r.at;
     let most = batch::most(r.done, out.len());
     let g = batch::gather(piece, at, most, r.shut, rows, marks);
@@ -261,44 +271,14 @@ fn batch_step(
     }
 }
 
-// A line of a piece, or a batch of lines.
-fn one(
-    r: Runner,
-    piece: &[u8],
-    end: bool,
-    out: &mut [u8],
-    rows: &mut [u32],
-    marks: &mut [bool],
-    answers: &mut [u8],
-) -> Ran
-    requires { ⌜ (atNames ≤ r .phase) × Lent (now rows) (now marks) (now answers) ⌝ }
-    ensures { λ x. ⌜ Stepped r (now (piece .entry)) end (now (out .entry)) (now (out .exit)) x ⌝ }
-{
-    if r.phase == AT_NAMES {
-        return names_step(r, piece, end, out);
-    }
-    if r.phase == AT_LINES {
-        if r.skip {
-            return values_step(r, piece, end, out);
-        }
-        return batch_step(r, piece, end, out, rows, marks, answers);
-    }
-    idle(r)
-}
-
 // A piece, the heading being written.
-fn through(
-    r: Runner,
-    piece: &[u8],
-    end: bool,
-    out: &mut [u8],
-    rows: &mut [u32],
-    marks: &mut [bool],
-    answers: &mut [u8],
-) -> Ran
-    requires { ⌜ (atNames ≤ r .phase) × Lent (now rows) (now marks) (now answers) ⌝ }
+fn work(r: Runner, piece: &[u8], end: bool, out: &mut [u8]) -> Ran
+    requires { ⌜ atNames ≤ r .phase ⌝ }
     ensures { λ x. ⌜ Finished r (now (piece .entry)) end (now (out .entry)) (now (out .exit)) x ⌝ }
 {
+    let mut rows = [0u32; limits::BATCH_NUMBERS];
+    let mut marks = [false; limits::BATCH];
+    let mut answers = [0u8; limits::BATCH];
     let mut held = r;
     let mut at = 0;
     let mut wrote = 0;
@@ -308,9 +288,9 @@ fn through(
             &piece[at..],
             end,
             &mut out[wrote..],
-            rows,
-            marks,
-            answers,
+            &mut rows,
+            &mut marks,
+            &mut answers,
         );
         let next = ran.runner;
         held = next;
@@ -324,17 +304,6 @@ fn through(
             };
         }
     }
-}
-
-// The same, with room for a batch: its requests, of each line whether it asks one, and the answers.
-fn work(r: Runner, piece: &[u8], end: bool, out: &mut [u8]) -> Ran
-    requires { ⌜ atNames ≤ r .phase ⌝ }
-    ensures { λ x. ⌜ Finished r (now (piece .entry)) end (now (out .entry)) (now (out .exit)) x ⌝ }
-{
-    let mut rows = [0u32; limits::BATCH_NUMBERS];
-    let mut marks = [false; limits::BATCH];
-    let mut answers = [0u8; limits::BATCH];
-    through(r, piece, end, out, &mut rows, &mut marks, &mut answers)
 }
 
 // Works through a piece, as far as whole lines go and the room for their answers. `end` says that no input follows it.
