@@ -1,5 +1,5 @@
--- Laws by which the functions of src/text meet their contracts: where a byte stands, digits, stores one behind the other,
--- and decimal numbers.
+-- Laws by which the functions of src/text and src/print meet their contracts: where a byte stands, digits, stores one behind
+-- the other, and decimal numbers.
 -- find-stop, find-more, find-end: the loop that looks for a byte, by what is left of the slice.
 -- none-other, long-other, one-dash, dash-other: the forms of a value. Read: the loop over its digits, with read-start, read-low,
 -- read-high, read-more, read-end.
