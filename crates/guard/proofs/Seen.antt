@@ -1,5 +1,5 @@
 -- What a run looks at for one request is what deciding asks for.
---     viewOf                        the record that the body makes, from the places looked up and what the scans tell
+--     viewAt                        the record that the body makes, from the places looked up and what the scans tell
 --     parent-in                     the parent's place is one of the sixty-four
 --     seen-of                       it holds the records that the request concerns, and the answers to what it asks
 -- Assumes nothing.
@@ -17,30 +17,18 @@ use Rattle.guard.specs.Chain.{reaches}
 use Rattle.guard.specs.Sound.{sound}
 use Rattle.guard.specs.Conditions.{nameTaken, hasChildren, recordedParent}
 use Rattle.guard.specs.Kind as kind
-use Rattle.guard.specs.Inside.{Placed, asksWay, asksName, asksRights, RightsOf, Seen}
-use Rattle.guard.specs.Scan.{Keys, Grants, Gathered, reachedBy, nameBy, childBy, kinBy}
+use Rattle.guard.specs.Inside.{Placed, viewOf, asksWay, asksName, asksRights, RightsOf, Seen}
+use Rattle.guard.specs.Scan.{Keys, Grants, reachedBy, nameBy, childBy, kinBy, FoundBy}
 use Rattle.guard.specs.declared.Tables.{Tables}
 use Rattle.guard.specs.declared.Request.{Request}
 use Rattle.guard.specs.declared.look.Places.{Places}
-use Rattle.guard.specs.declared.scan.Rights.{Rights}
+use Rattle.guard.specs.declared.scan.Found.{Found}
 use Rattle.guard.specs.declared.view.View.{View}
 use Rattle.guard.proofs.Soundness.Whole.{numbers}
 use Rattle.guard.proofs.Columns.{rights-of, way-of, child-of, name-of}
 
-abbrev pub viewOf : Tables → Places → ℕ → Rights → Bool → Bool → View
-viewOf t p o g reached child =
-    record {
-      fits = p .fits;
-      session = sessionAt t (p .seat);
-      user = userAt t (p .user);
-      live = roleAt t (p .role) .live;
-      users = roleAt t (p .role) .users;
-      entity = entityAt t (p .entity);
-      parent = entityAt t o;
-      rights = g;
-      reached = reached;
-      child = child;
-    }
+abbrev pub viewAt : Tables → Places → ℕ → Found → View
+viewAt t p o f = viewOf p (sessionAt t (p .seat)) (userAt t (p .user)) (roleAt t (p .role)) (entityAt t (p .entity)) (entityAt t o) f
 
 cond-less : (b : Bool) (m n : ℕ) → m < 64 → n < 64 → cond b m n < 64
 cond-less true m n h k = h
@@ -66,10 +54,8 @@ module _ (t : Tables) (ok : sound t ≡ true) (q : Request) (p : Places) (P : Pl
     pub parent-in : o < 64
     parent-in = rw above (cond-less (eqb (q .call) kind.create) _ _ (P .parent .small) (numbers t ok (p .entity) (P .entity .small) .parent))
 
-    module _ (keys grants : List ℕ) (K : Keys t keys) (G : Grants t grants) (g : Rights) (held : ℕ)
-        (asking : held ≡ cond (asksRights (q .call)) (sessionAt t (p .seat) .roles) 0) (gathered : Gathered grants held g)
-        (reached child : Bool) (way : reached ≡ reachedBy keys (q .call) (p .entity) (g .executes))
-        (kin : child ≡ kinBy keys (q .call) (p .entity) o (q .name))
+    module _ (keys grants : List ℕ) (K : Keys t keys) (G : Grants t grants) (f : Found)
+        (found : FoundBy keys grants q (sessionAt t (p .seat) .roles) (p .entity) o f)
       where
         named : q .call ≡ kind.create → o ≡ p .parent
         named c = above ∙ rw (eq-eqb (q .call) 7 c)
@@ -77,42 +63,43 @@ module _ (t : Tables) (ok : sound t ≡ true) (q : Request) (p : Places) (P : Pl
         recorded : eqb (q .call) kind.create ≡ false → o ≡ entityAt t (p .entity) .parent
         recorded c = above ∙ rw c
 
-        rights : asksRights (q .call) ≡ true → q .seat < 16 → RightsOf t (q .seat) g
+        rights : asksRights (q .call) ≡ true → q .seat < 16 → RightsOf t (q .seat) (f .rights)
         rights a s =
             let same : p .seat ≡ q .seat = P .seat .same s in
-            let roles : held ≡ sessionAt t (q .seat) .roles = asking ∙ rw (a, same) in
-            rights-of t ok grants G (q .seat) g (rw roles at gathered)
+            let roles : cond (asksRights (q .call)) (sessionAt t (p .seat) .roles) 0 ≡ sessionAt t (q .seat) .roles = rw (a, same) in
+            rights-of t ok grants G (q .seat) (f .rights) (rw roles at (found .rights))
 
-        reached-so : asksWay (q .call) ≡ true → q .seat < 16 → q .entity < 64 → reached ≡ reaches t (q .seat) (q .entity)
+        reached-so : asksWay (q .call) ≡ true → q .seat < 16 → q .entity < 64 → f .reached ≡ reaches t (q .seat) (q .entity)
         unfolding reachedBy asksRights either
         reached-so a s e =
-            way ∙ rw (a, P .entity .same e) (way-of t ok keys K (q .seat) (g .executes) (q .entity) e (rights (rw a) s .executes))
+            found .reached ∙ rw (a, P .entity .same e) (way-of t ok keys K (q .seat) (f .rights .executes) (q .entity) e (rights (rw a) s .executes))
 
-        create-name : q .call ≡ kind.create → q .parent < 64 → 1 ≤ q .name → q .name ≤ 65535 → child ≡ nameTaken t q (q .parent)
+        create-name : q .call ≡ kind.create → q .parent < 64 → 1 ≤ q .name → q .name ≤ 65535 → f .child ≡ nameTaken t q (q .parent)
         create-name c l least most =
-            kin
+            found .child
             ∙ kin-create keys (q .call) (p .entity) o (q .name) c
             ∙ ap (λ (n : ℕ). nameBy keys n (q .name)) (named c ∙ P .parent .same l)
             ∙ name-of t ok keys K q (q .parent) l least most
 
-        rename-name : q .call ≡ kind.rename → q .entity < 64 → 1 ≤ q .name → q .name ≤ 65535 → child ≡ nameTaken t q (recordedParent t q)
+        rename-name : q .call ≡ kind.rename → q .entity < 64 → 1 ≤ q .name → q .name ≤ 65535 → f .child ≡ nameTaken t q (recordedParent t q)
         rename-name c l least most =
             let same : o ≡ entityAt t (q .entity) .parent = recorded (rw c) ∙ ap (λ (n : ℕ). entityAt t n .parent) (P .entity .same l) in
-            kin
+            found .child
             ∙ kin-rename keys (q .call) (p .entity) o (q .name) c
             ∙ ap (λ (n : ℕ). nameBy keys n (q .name)) same
             ∙ name-of t ok keys K q (entityAt t (q .entity) .parent) (numbers t ok (q .entity) l .parent) least most
 
-        delete-child : q .call ≡ kind.delete → q .entity < 64 → isRoot (q .entity) ≡ false → child ≡ hasChildren t q
+        delete-child : q .call ≡ kind.delete → q .entity < 64 → isRoot (q .entity) ≡ false → f .child ≡ hasChildren t q
         delete-child c l other =
-            kin
+            found .child
             ∙ kin-delete keys (q .call) (p .entity) o (q .name) c
             ∙ ap (childBy keys) (P .entity .same l)
             ∙ child-of t ok keys K q l other
 
-        pub seen-of : Seen t q (viewOf t p o g reached child)
-        seen-of =
-            record {
+        pub seen-of : (v : View) → v ≡ viewAt t p o f → Seen t q v
+        seen-of v same =
+            rw same
+            (record {
               session = λ h. ap (sessionAt t) (P .seat .same h);
               user = λ h. ap (userAt t) (P .user .same h);
               live = λ h. ap (λ (n : ℕ). roleAt t n .live) (P .role .same h);
@@ -125,4 +112,4 @@ module _ (t : Tables) (ok : sound t ≡ true) (q : Request) (p : Places) (P : Pl
               created = create-name;
               renamed = rename-name;
               deleted = delete-child;
-            }
+            })

@@ -17,14 +17,17 @@ use Rattle.guard.specs.Conditions.{nameTaken, hasChildren, recordedParen
 use Rattle.guard.specs.Requests.{Rule, fieldInRange, loggedIn}
 use Rattle.guard.specs.Step.{inRanges}
 use Rattle.guard.specs.Kind as kind
+use Rattle.guard.specs.declared.User.{User}
 use Rattle.guard.specs.declared.Session.{Session}
 use Rattle.guard.specs.declared.Role.{Role}
+use Rattle.guard.specs.declared.Entity.{Entity}
 use Rattle.guard.specs.declared.Tables.{Tables}
 use Rattle.guard.specs.declared.Request.{Request}
 use Rattle.guard.specs.declared.look.Places.{Places}
 use Rattle.guard.specs.declared.change.Change.{Change}
 use Rattle.guard.specs.declared.change.Change.the-variants.{Session as OfSession, Create as OfCreate, Delete as OfDelete, Rename as OfRename, Role as OfRole, Unmake as OfUnmake}
 use Rattle.guard.specs.declared.scan.Rights.{Rights}
+use Rattle.guard.specs.declared.scan.Found.{Found}
 use Rattle.guard.specs.declared.view.View.{View}
 
 -- the answer of a rule on sound tables
@@ -60,6 +63,20 @@ asksRights call =
     either (asksWay call)
     (either (asksName call) (either (eqb call kind.delete) (either (eqb call kind.grant) (eqb call kind.revoke))))
 
+-- ---- the view, from the records and what the scans tell
+abbrev pub viewOf : Places → Session → User → Role → Entity → Entity → Found → View
+viewOf at session user role entity parent found =
+    record {
+      fits = at .fits;
+      session = session;
+      user = user;
+      live = role .live;
+      users = role .users;
+      entity = entity;
+      parent = parent;
+      found = found;
+    }
+
 -- ---- what a request looks at: v holds the records that q concerns, and of what q asks of the tables the answers
 -- the entities on which session x has each right
 pub record RightsOf (t : Tables) (x : ℕ) (g : Rights) : Type 0 where
@@ -76,12 +93,12 @@ pub record Seen (t : Tables) (q : Request) (v : View) : Type 0 where
   pub entity : q .entity < entityCount → v .entity ≡ entityAt t (q .entity)
   pub inside : q .entity < entityCount → entityAt t (q .entity) .parent < entityCount
   pub parent : q .call ≡ kind.create → q .parent < entityCount → v .parent ≡ entityAt t (q .parent)
-  pub rights : asksRights (q .call) ≡ true → q .seat < sessionCount → RightsOf t (q .seat) (v .rights)
-  pub reached : asksWay (q .call) ≡ true → q .seat < sessionCount → q .entity < entityCount → v .reached ≡ reaches t (q .seat) (q .entity)
-  pub created : q .call ≡ kind.create → q .parent < entityCount → 1 ≤ q .name → q .name ≤ 65535 → v .child ≡ nameTaken t q (q .parent)
+  pub rights : asksRights (q .call) ≡ true → q .seat < sessionCount → RightsOf t (q .seat) (v .found .rights)
+  pub reached : asksWay (q .call) ≡ true → q .seat < sessionCount → q .entity < entityCount → v .found .reached ≡ reaches t (q .seat) (q .entity)
+  pub created : q .call ≡ kind.create → q .parent < entityCount → 1 ≤ q .name → q .name ≤ 65535 → v .found .child ≡ nameTaken t q (q .parent)
   pub renamed : q .call ≡ kind.rename → q .entity < entityCount → 1 ≤ q .name → q .name ≤ 65535
-      → v .child ≡ nameTaken t q (recordedParent t q)
-  pub deleted : q .call ≡ kind.delete → q .entity < entityCount → isRoot (q .entity) ≡ false → v .child ≡ hasChildren t q
+      → v .found .child ≡ nameTaken t q (recordedParent t q)
+  pub deleted : q .call ≡ kind.delete → q .entity < entityCount → isRoot (q .entity) ≡ false → v .found .child ≡ hasChildren t q
 
 -- ---- what is stored where the answer is 0
 -- which records a kind changes: a session; an entity, with a role (create) or every role and session (delete); a role, with

@@ -14,11 +14,13 @@ use Rattle.guard.specs.Level.{roleCount, entityCount, entitiesPerLevel}
 use Rattle.guard.specs.Tables.{roleAt, entityAt}
 use Rattle.guard.specs.Chain.{climbs}
 use Rattle.guard.specs.Tested.{keyOf, parentByKey}
-use Rattle.guard.specs.Inside.{asksWay, asksName}
+use Rattle.guard.specs.Inside.{asksWay, asksName, asksRights}
 use Rattle.guard.specs.Kind as kind
 use Rattle.guard.specs.declared.Role.{Role}
 use Rattle.guard.specs.declared.Tables.{Tables}
+use Rattle.guard.specs.declared.Request.{Request}
 use Rattle.guard.specs.declared.scan.Rights.{Rights}
+use Rattle.guard.specs.declared.scan.Found.{Found}
 
 -- ---- the columns
 pub record Keys (t : Tables) (keys : List ℕ) : Type 0 where
@@ -71,3 +73,9 @@ childBy keys p = some entitiesPerLevel (λ m. eqb (getD keys (p / 16 * 16 + m) 0
 unfoldable pub kinBy : List ℕ → ℕ → ℕ → ℕ → ℕ → Bool
 kinBy keys call e o name =
     cond (eqb call kind.delete) (childBy keys e) (cond (asksName call) (nameBy keys o name) false)
+
+-- what a request asks of the tables, by a session that holds `held`
+pub record FoundBy (keys grants : List ℕ) (q : Request) (held e o : ℕ) (f : Found) : Type 0 where
+  pub rights : Gathered grants (cond (asksRights (q .call)) held 0) (f .rights)
+  pub reached : f .reached ≡ reachedBy keys (q .call) e (f .rights .executes)
+  pub child : f .child ≡ kinBy keys (q .call) e o (q .name)

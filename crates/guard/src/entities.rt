@@ -42,7 +42,7 @@ fn create_refusal_to_9(v: View) -> u8
 // Those from 10 on.
 fn create_refusal_from_10(q: Request, v: View) -> u8
     requires { ⌜ (q .level ≤ 3) × (q .cats ≤ 255) ⌝ }
-    ensures { λ n. ⌜ n ≡ first (10 when either (not (eqb (entityLevel (q .entity)) (entityLevel (q .parent)))) (ltb (roleLevel (q .role)) (entityLevel (q .entity))) ∷ 11 when not (dominates (labelAsked q) (v .parent .label)) ∷ 12 when not (has (v .session .roles) (q .role)) ∷ 13 when either (not (has (v .session .writing) (q .parent))) (not (has (v .rights .executes) (q .parent))) ∷ 14 when v .child ∷ []) ⌝ }
+    ensures { λ n. ⌜ n ≡ first (10 when either (not (eqb (entityLevel (q .entity)) (entityLevel (q .parent)))) (ltb (roleLevel (q .role)) (entityLevel (q .entity))) ∷ 11 when not (dominates (labelAsked q) (v .parent .label)) ∷ 12 when not (has (v .session .roles) (q .role)) ∷ 13 when either (not (has (v .session .writing) (q .parent))) (not (has (v .found .rights .executes) (q .parent))) ∷ 14 when v .found .child ∷ []) ⌝ }
 {
     if (q.entity / sizes::LEVEL_ENTITIES != q.parent / sizes::LEVEL_ENTITIES)
         | (q.role / sizes::LEVEL_ROLES < q.entity / sizes::LEVEL_ENTITIES)
@@ -56,10 +56,12 @@ fn create_refusal_from_10(q: Request, v: View) -> u8
     if !bitset::has16(v.session.roles, q.role) {
         return 12;
     }
-    if !bitset::has64(v.session.writing, q.parent) | !bitset::has64(v.rights.executes, q.parent) {
+    if !bitset::has64(v.session.writing, q.parent)
+        | !bitset::has64(v.found.rights.executes, q.parent)
+    {
         return 13;
     }
-    if v.child {
+    if v.found.child {
         return 14;
     }
     0
@@ -67,7 +69,7 @@ fn create_refusal_from_10(q: Request, v: View) -> u8
 
 pub fn create_refusal(q: Request, v: View) -> u8
     requires { ⌜ (q .level ≤ 3) × (q .cats ≤ 255) ⌝ }
-    ensures { λ n. ⌜ n ≡ first (5 when not (v .session .live) ∷ 7 when either (not (v .parent .live)) (not (v .live)) ∷ 8 when v .entity .live ∷ 9 when not (eqb (v .parent .kind) container) ∷ 10 when either (not (eqb (entityLevel (q .entity)) (entityLevel (q .parent)))) (ltb (roleLevel (q .role)) (entityLevel (q .entity))) ∷ 11 when not (dominates (labelAsked q) (v .parent .label)) ∷ 12 when not (has (v .session .roles) (q .role)) ∷ 13 when either (not (has (v .session .writing) (q .parent))) (not (has (v .rights .executes) (q .parent))) ∷ 14 when v .child ∷ []) ⌝ }
+    ensures { λ n. ⌜ n ≡ first (5 when not (v .session .live) ∷ 7 when either (not (v .parent .live)) (not (v .live)) ∷ 8 when v .entity .live ∷ 9 when not (eqb (v .parent .kind) container) ∷ 10 when either (not (eqb (entityLevel (q .entity)) (entityLevel (q .parent)))) (ltb (roleLevel (q .role)) (entityLevel (q .entity))) ∷ 11 when not (dominates (labelAsked q) (v .parent .label)) ∷ 12 when not (has (v .session .roles) (q .role)) ∷ 13 when either (not (has (v .session .writing) (q .parent))) (not (has (v .found .rights .executes) (q .parent))) ∷ 14 when v .found .child ∷ []) ⌝ }
 {
     let n = create_refusal_to_9(v);
     if n != 0 {
@@ -79,7 +81,7 @@ pub fn create_refusal(q: Request, v: View) -> u8
 // The refusals of delete and of rename, which differ in the last number: 15, the entity has a child, or 14, a child of
 // its parent has the name.
 pub fn change_refusal(q: Request, v: View, last: u8) -> u8
-    ensures { λ n. ⌜ n ≡ first (5 when not (v .session .live) ∷ 6 when isRoot (q .entity) ∷ 7 when not (v .entity .live) ∷ 13 when either (not (has (v .session .writing) (v .entity .parent))) (not (has (v .rights .executes) (v .entity .parent))) ∷ last when v .child ∷ []) ⌝ }
+    ensures { λ n. ⌜ n ≡ first (5 when not (v .session .live) ∷ 6 when isRoot (q .entity) ∷ 7 when not (v .entity .live) ∷ 13 when either (not (has (v .session .writing) (v .entity .parent))) (not (has (v .found .rights .executes) (v .entity .parent))) ∷ last when v .found .child ∷ []) ⌝ }
 {
     let o = v.entity.parent as u32;
     if !v.session.live {
@@ -91,10 +93,10 @@ pub fn change_refusal(q: Request, v: View, last: u8) -> u8
     if !v.entity.live {
         return 7;
     }
-    if !bitset::has64(v.session.writing, o) | !bitset::has64(v.rights.executes, o) {
+    if !bitset::has64(v.session.writing, o) | !bitset::has64(v.found.rights.executes, o) {
         return 13;
     }
-    if v.child {
+    if v.found.child {
         return last;
     }
     0

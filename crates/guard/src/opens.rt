@@ -14,7 +14,7 @@ ghost use Rattle.guard.specs.Label.{dominates, sameLabel};
 ghost use Rattle.guard.specs.Refusals.{first, _when_};
 
 pub fn openr_refusal(q: Request, v: View) -> u8
-    ensures { λ n. ⌜ n ≡ first (5 when not (v .session .live) ∷ 7 when not (v .entity .live) ∷ 10 when ltb (entityLevel (q .entity)) (sessionLevel (q .seat)) ∷ 11 when not (dominates (v .session .label) (v .entity .label)) ∷ 13 when either (not (has (v .rights .reads) (q .entity))) (not (v .reached)) ∷ 16 when has (v .session .reading) (q .entity) ∷ []) ⌝ }
+    ensures { λ n. ⌜ n ≡ first (5 when not (v .session .live) ∷ 7 when not (v .entity .live) ∷ 10 when ltb (entityLevel (q .entity)) (sessionLevel (q .seat)) ∷ 11 when not (dominates (v .session .label) (v .entity .label)) ∷ 13 when either (not (has (v .found .rights .reads) (q .entity))) (not (v .found .reached)) ∷ 16 when has (v .session .reading) (q .entity) ∷ []) ⌝ }
 {
     if !v.session.live {
         return 5;
@@ -28,7 +28,7 @@ pub fn openr_refusal(q: Request, v: View) -> u8
     if !labels::dominates(v.session.label, v.entity.label) {
         return 11;
     }
-    if !bitset::has64(v.rights.reads, q.entity) | !v.reached {
+    if !bitset::has64(v.found.rights.reads, q.entity) | !v.found.reached {
         return 13;
     }
     if bitset::has64(v.session.reading, q.entity) {
@@ -38,7 +38,7 @@ pub fn openr_refusal(q: Request, v: View) -> u8
 }
 
 pub fn openw_refusal(q: Request, v: View) -> u8
-    ensures { λ n. ⌜ n ≡ first (5 when not (v .session .live) ∷ 7 when not (v .entity .live) ∷ 10 when ltb (sessionLevel (q .seat)) (entityLevel (q .entity)) ∷ 11 when not (sameLabel (v .session .label) (v .entity .label)) ∷ 13 when either (not (has (v .rights .writes) (q .entity))) (not (v .reached)) ∷ 16 when has (v .session .writing) (q .entity) ∷ []) ⌝ }
+    ensures { λ n. ⌜ n ≡ first (5 when not (v .session .live) ∷ 7 when not (v .entity .live) ∷ 10 when ltb (sessionLevel (q .seat)) (entityLevel (q .entity)) ∷ 11 when not (sameLabel (v .session .label) (v .entity .label)) ∷ 13 when either (not (has (v .found .rights .writes) (q .entity))) (not (v .found .reached)) ∷ 16 when has (v .session .writing) (q .entity) ∷ []) ⌝ }
 {
     if !v.session.live {
         return 5;
@@ -52,7 +52,7 @@ pub fn openw_refusal(q: Request, v: View) -> u8
     if !labels::same(v.session.label, v.entity.label) {
         return 11;
     }
-    if !bitset::has64(v.rights.writes, q.entity) | !v.reached {
+    if !bitset::has64(v.found.rights.writes, q.entity) | !v.found.reached {
         return 13;
     }
     if bitset::has64(v.session.writing, q.entity) {

@@ -21,7 +21,7 @@ ghost use Rattle.guard.specs.Inside.{usersAfter, setAfter, grantedAfter,
 
 // grant and revoke are refused alike.
 pub fn rights_refusal(q: Request, v: View) -> u8
-    ensures { λ n. ⌜ n ≡ first (5 when not (v .session .live) ∷ 7 when either (not (v .entity .live)) (not (v .live)) ∷ 10 when either (ltb (sessionLevel (q .seat)) (entityLevel (q .entity))) (ltb (roleLevel (q .role)) (entityLevel (q .entity))) ∷ 13 when not (has (v .rights .owns) (q .entity)) ∷ []) ⌝ }
+    ensures { λ n. ⌜ n ≡ first (5 when not (v .session .live) ∷ 7 when either (not (v .entity .live)) (not (v .live)) ∷ 10 when either (ltb (sessionLevel (q .seat)) (entityLevel (q .entity))) (ltb (roleLevel (q .role)) (entityLevel (q .entity))) ∷ 13 when not (has (v .found .rights .owns) (q .entity)) ∷ []) ⌝ }
 {
     if !v.session.live {
         return 5;
@@ -34,7 +34,7 @@ pub fn rights_refusal(q: Request, v: View) -> u8
     {
         return 10;
     }
-    if !bitset::has64(v.rights.owns, q.entity) {
+    if !bitset::has64(v.found.rights.owns, q.entity) {
         return 13;
     }
     0

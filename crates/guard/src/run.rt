@@ -10,7 +10,7 @@ use crate::rows;
 use crate::scan;
 use crate::sessions;
 use crate::sound::tree;
-use crate::view::View;
+use crate::view;
 ghost use Rattle.guard.specs.Batch.{RunsBatch};
 
 impl Tables {
@@ -46,22 +46,9 @@ impl Tables {
             let o = look::parent_of(q.call, at.parent, entity.parent);
             let parent = self.entities[o];
             // What the scans find.
-            let rights = scan::gather(&grants, look::asking(q.call, session.roles));
-            let reached = scan::reached(&keys, q.call, e, rights.executes);
-            let child = scan::kin(&keys, q.call, e, o, q.name);
+            let found = scan::find(&keys, &grants, q, session.roles, e, o);
             // The decision.
-            let v = View {
-                fits: at.fits,
-                session,
-                user,
-                live: role.live,
-                users: role.users,
-                entity,
-                parent,
-                rights,
-                reached,
-                child,
-            };
+            let v = view::seen(at, session, user, role, entity, parent, found);
             let n = judge::judge(q, v);
             answers[i] = n;
             i += 1;
@@ -70,8 +57,7 @@ impl Tables {
                 let changed = change::change_of(q.call);
                 match changed {
                     Change::Session => {
-                        let s2 = sessions::after(q, session);
-                        self.sessions[x] = s2;
+                        self.sessions[x] = sessions::after(q, session);
                     }
                     Change::Create => {
                         let f2 = entities::made(q);
@@ -86,12 +72,10 @@ impl Tables {
                         self.entities[e] = f2;
                         keys[e] = tree::key(f2);
                         let all = self.roles;
-                        let all2 = roles::without_entity(all, q.entity);
-                        self.roles = all2;
+                        self.roles = roles::without_entity(all, q.entity);
                         scan::clear(&mut grants, e);
                         let seats = self.sessions;
-                        let seats2 = sessions::without_entity(seats, q.entity);
-                        self.sessions = seats2;
+                        self.sessions = sessions::without_entity(seats, q.entity);
                     }
                     Change::Rename => {
                         let f2 = entities::renamed(q.name, entity);
@@ -108,8 +92,7 @@ impl Tables {
                         self.roles[r] = p2;
                         scan::put(&mut grants, r, p2);
                         let seats = self.sessions;
-                        let seats2 = sessions::without_role(seats, q.role);
-                        self.sessions = seats2;
+                        self.sessions = sessions::without_role(seats, q.role);
                     }
                 }
             }

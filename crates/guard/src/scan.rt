@@ -1,5 +1,6 @@
 // What 13, 14 and 15 ask of the tables, scanned over two columns: for each entity its parent and its name as one number
 // (`keys`, sound/tree), and for each role its four sets of entities (`grants`). A function that took the records would copy them.
+use crate::Request;
 use crate::Role;
 use crate::Tables;
 use crate::kinds;
@@ -12,7 +13,7 @@ ghost use Prim.Native.Nat.{_<_};
 ghost use mathlib.Core.Path.{_≡_};
 ghost use lib.ListN.{length};
 ghost use Rattle.bitset.specs.Sets.{has};
-ghost use Rattle.guard.specs.Scan.{Grants, Granted, Cleared, Gathered, climbsBy, reachedBy, nameBy, childBy, kinBy};
+ghost use Rattle.guard.specs.Scan.{Grants, Granted, Cleared, Gathered, climbsBy, reachedBy, nameBy, childBy, kinBy, FoundBy};
 
 // How many sets the column of the roles has: four for each.
 const GRANTS: usize = 4 * ROLES;
@@ -23,6 +24,14 @@ pub struct Rights {
     pub writes: u64,
     pub executes: u64,
     pub owns: u64,
+}
+
+// What the scans find: the rights of the session, whether it reaches the entity, and what 14 and 15 ask; each where the kind
+// asks for it.
+pub struct Found {
+    pub rights: Rights,
+    pub reached: bool,
+    pub child: bool,
 }
 
 impl Tables {
@@ -68,7 +77,7 @@ pub fn clear(grants: &mut [u64; GRANTS], e: usize) -> usize
 }
 
 // The rights that the roles held give, together.
-pub fn gather(grants: &[u64; GRANTS], held: u16) -> Rights
+fn gather(grants: &[u64; GRANTS], held: u16) -> Rights
     ensures { λ g. ⌜ Gathered (now (grants .entry)) held g ⌝ }
 {
     let mut reads = 0u64;
@@ -121,7 +130,7 @@ fn climbs(keys: &[u32; ENTITIES], through: u64, e: usize) -> bool
     at % BLOCK == 0
 }
 
-pub fn reached(keys: &[u32; ENTITIES], call: u32, e: usize, through: u64) -> bool
+fn reached(keys: &[u32; ENTITIES], call: u32, e: usize, through: u64) -> bool
     requires { ⌜ e < 64 ⌝ }
     ensures { λ b. ⌜ b ≡ reachedBy (now (keys .entry)) call e through ⌝ }
 {
@@ -164,7 +173,7 @@ fn child_in(keys: &[u32; ENTITIES], p: usize) -> bool
 }
 
 // What 14 and 15 ask: delete whether `e` has a child, create and rename whether a child of `o` has the name.
-pub fn kin(keys: &[u32; ENTITIES], call: u32, e: usize, o: usize, name: u32) -> bool
+fn kin(keys: &[u32; ENTITIES], call: u32, e: usize, o: usize, name: u32) -> bool
     requires { ⌜ (e < 64) × (o < 64) ⌝ }
     ensures { λ b. ⌜ b ≡ kinBy (now (keys .entry)) call e o name ⌝ }
 {
@@ -175,4 +184,26 @@ pub fn kin(keys: &[u32; ENTITIES], call: u32, e: usize, o: usize, name: u32) -> 
         return name_in(keys, o, name);
     }
     false
+}
+
+// What a request with entity `e` and parent `o` asks of the tables, by a session that holds `held`.
+pub fn find(
+    keys: &[u32; ENTITIES],
+    grants: &[u64; GRANTS],
+    q: Request,
+    held: u16,
+    e: usize,
+    o: usize,
+) -> Found
+    requires { ⌜ (e < 64) × (o < 64) ⌝ }
+    ensures { λ f. ⌜ FoundBy (now (keys .entry)) (now (grants .entry)) q held e o f ⌝ }
+{
+    let rights = gather(grants, look::asking(q.call, held));
+    let reached = reached(keys, q.call, e, rights.executes);
+    let child = kin(keys, q.call, e, o, q.name);
+    Found {
+        rights,
+        reached,
+        child,
+    }
 }

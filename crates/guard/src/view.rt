@@ -1,14 +1,17 @@
 // What a request looks at, as one small record: its number is decided by this record alone, and the tables themselves are
 // never copied for it.
 use crate::Entity;
+use crate::Role;
 use crate::Session;
 use crate::User;
-use crate::scan::Rights;
+use crate::look::Places;
+use crate::scan::Found;
+ghost use mathlib.Core.Path.{_≡_};
+ghost use Rattle.guard.specs.Inside.{viewOf};
 
 // The records that a request concerns: the acting session, the user, the marks of the role, the entity, and the parent
 // (create: the one named; else the entity's). A number past its range has some other record in its place, and `fits` says
-// whether one that the kind uses is. `rights` are those of the session, `reached` tells the way up, `child` what 14 and 15
-// ask: each where the kind asks for it.
+// whether one that the kind uses is. `found` is what the scans found.
 pub struct View {
     pub fits: bool,
     pub session: Session,
@@ -17,7 +20,28 @@ pub struct View {
     pub users: u16,
     pub entity: Entity,
     pub parent: Entity,
-    pub rights: Rights,
-    pub reached: bool,
-    pub child: bool,
+    pub found: Found,
+}
+
+pub fn seen(
+    at: Places,
+    session: Session,
+    user: User,
+    role: Role,
+    entity: Entity,
+    parent: Entity,
+    found: Found,
+) -> View
+    ensures { λ v. ⌜ v ≡ viewOf at session user role entity parent found ⌝ }
+{
+    View {
+        fits: at.fits,
+        session,
+        user,
+        live: role.live,
+        users: role.users,
+        entity,
+        parent,
+        found,
+    }
 }

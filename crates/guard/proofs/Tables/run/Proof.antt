@@ -62,16 +62,16 @@ turn-at c = c .before .before
 parent-place : (c : At tie.After-parent-of) → c .parent-of .result < 64
 parent-place c = parent-in _ (turn-at (looked c) .before .loop .inv .2 .isSound) _ _ (looked c .look-up .ensures) _ (c .parent-of .ensures)
 
-abbrev place : At tie.After-kin → At tie.After-look-up
-place c = looked (c .before .before .before .before .before .before .before .before)
+abbrev place : At tie.After-seen → At tie.After-look-up
+place c = looked (c .before .before .before .before .before)
 
 abbrev turn : At tie.After-judge → At tie.In-loop
 turn c = turn-at (place (c .before))
 
-abbrev tables : At tie.After-kin → Tables
+abbrev tables : At tie.After-seen → Tables
 tables c = turn-at (place c) .before .loop .self
 
-abbrev asked : At tie.After-kin → Request
+abbrev asked : At tie.After-seen → Request
 asked c = place c .before .request .result
 
 abbrev began : At tie.In-loop → At tie.After-count
@@ -87,24 +87,22 @@ within : (c : At tie.In-loop) → c .before .loop .i < length (old-of c)
 within c = omega (arith, c .loop-test .taken, room (began c))
 
 -- ---- the decision
-sure : (c : At tie.After-kin) → sound (tables c) ≡ true
+sure : (c : At tie.After-seen) → sound (tables c) ≡ true
 sure c = turn-at (place c) .before .loop .inv .2 .isSound
 
-keys-at : (c : At tie.After-kin) → Keys (tables c) (turn-at (place c) .before .loop .keys)
+keys-at : (c : At tie.After-seen) → Keys (tables c) (turn-at (place c) .before .loop .keys)
 keys-at c = turn-at (place c) .before .loop .inv .2 .keys
 
-grants-at : (c : At tie.After-kin) → Grants (tables c) (turn-at (place c) .before .loop .grants)
+grants-at : (c : At tie.After-seen) → Grants (tables c) (turn-at (place c) .before .loop .grants)
 grants-at c = turn-at (place c) .before .loop .inv .2 .grants
 
 judged : (c : At tie.After-judge) → c .judge .result ≡ number (ruleOf (asked (c .before))) (tables (c .before)) (asked (c .before))
 judged c =
-    let k = c .before in
-    let way = k .before .before in
-    let gathered = way .before .before in
-    let asking = gathered .before in
-    let up = asking .before .before .before in
+    let s = c .before in
+    let f = s .before in
+    let up = f .before .before .before .before in
     c .judge .ensures _
-    (seen-of _ (sure k) _ _ (place k .look-up .ensures) _ (up .parent-of .ensures) _ _ (keys-at k) (grants-at k) _ _ (asking .asking .ensures) (gathered .gather .ensures) _ _ (way .reached .ensures) (k .kin .ensures))
+    (seen-of _ (sure s) _ _ (place s .look-up .ensures) _ (up .parent-of .ensures) _ _ (keys-at s) (grants-at s) _ (f .find .ensures) _ (s .seen .ensures))
 
 -- the next turn holds, by what the tables and the columns are then
 turned : (c : At tie.After-judge) (u : Tables) → Stepped (tables (c .before)) (asked (c .before)) u (c .judge .result) → (k g : List ℕ) → Keys u k → Grants u g
@@ -169,7 +167,7 @@ same-length : tie.Need-same-length Inv-loop μ-loop
 same-length c = let refuse = c .before .before in rw (refuse .refuse .ensures .1) (simp (length-append, length-replicate, length-drop) (omega (arith, room (counted (refuse .before .before .before)))))
 
 returns-2 : tie.Need-returns-2 Inv-loop μ-loop
-returns-2 c =
+returns-2 c = 
     let refuse = c .before .before in
     let test = refuse .before .before in
     unsound-batch _ _ _ _ _ (sym (test .before .sound-by .ensures) ∙ not-true _ (test .if2 .taken)) (counted (test .before) .count .ensures) (refuse .refuse .ensures .1)
@@ -219,20 +217,14 @@ mul-parent c = omega (arith, parent-place c)
 element-copy-out-parent : tie.Need-element-copy-out-parent Inv-loop μ-loop
 element-copy-out-parent c = parent-place c
 
-asking-requires : tie.Need-asking-requires Inv-loop μ-loop
-asking-requires c κs = search needs
+find-requires : tie.Need-find-requires Inv-loop μ-loop
+find-requires c κs = let up = c .before .before .before in (looked up .look-up .ensures .entity .small, parent-place up)
 
-gather-requires : tie.Need-gather-requires Inv-loop μ-loop
-gather-requires c κs = search needs
-
-reached-requires : tie.Need-reached-requires Inv-loop μ-loop
-reached-requires c κs = looked (c .before .before .before .before .before) .look-up .ensures .entity .small
-
-kin-requires : tie.Need-kin-requires Inv-loop μ-loop
-kin-requires c κs = let up = c .before .before .before .before .before .before .before in (looked up .look-up .ensures .entity .small, parent-place up)
+seen-requires : tie.Need-seen-requires Inv-loop μ-loop
+seen-requires c κs = search needs
 
 judge-requires : tie.Need-judge-requires Inv-loop μ-loop
-judge-requires c κs = place c .look-up .ensures .fits
+judge-requires c κs = rw (c .seen .ensures) (place c .look-up .ensures .fits)
 
 slice-write-answers : tie.Need-slice-write-answers Inv-loop μ-loop
 slice-write-answers c = let l = turn c in rw (held-length _ _ _ _ _ _ _ _ (l .before .loop .inv .2) (omega (arith, within l))) (within l)
@@ -249,17 +241,17 @@ enum-told c = search needs
 after-requires : tie.Need-after-requires Inv-loop μ-loop
 after-requires c κs = fits (c .before .before .before)
 
-mul-s2 : tie.Need-mul-s2 Inv-loop μ-loop
-mul-s2 c = omega (arith, near (c .before .before .before .before) .seat .small)
+mul-t65 : tie.Need-mul-t65 Inv-loop μ-loop
+mul-t65 c = omega (arith, near (c .before .before .before .before) .seat .small)
 
-element-set-from-s2 : tie.Need-element-set-from-s2 Inv-loop μ-loop
-element-set-from-s2 c = near (c .before .before .before .before) .seat .small
+element-set-from-self : tie.Need-element-set-from-self Inv-loop μ-loop
+element-set-from-self c = near (c .before .before .before .before) .seat .small
 
 loop-less : tie.Need-loop-less Inv-loop μ-loop
 loop-less c = omega (arith, turn (c .before .before .before .before .before) .loop-test .taken)
 
 loop-again : tie.Need-loop-again Inv-loop μ-loop
-loop-again c =
+loop-again c = 
     let d = c .before .before .before .before in
     turned (d .before) _ (does-so d _ (session-stored _ _ (zero d) _ (near d) (told-session (c .before)) _ (c .after .ensures))) _ _
     (keys-other _ _ (keys-at (d .before .before)) _ refl)
@@ -302,7 +294,7 @@ loop-less-2 : tie.Need-loop-less-2 Inv-loop μ-loop
 loop-less-2 c = omega (arith, turn (c .before .before .before .before .before .before .before .before .before) .loop-test .taken)
 
 loop-again-2 : tie.Need-loop-again-2 Inv-loop μ-loop
-loop-again-2 c =
+loop-again-2 c = 
     let d = c .before .before .before .before .before .before .before .before in
     let own = c .before .before in
     let key = own .before in
@@ -345,7 +337,7 @@ loop-less-3 : tie.Need-loop-less-3 Inv-loop μ-loop
 loop-less-3 c = omega (arith, turn (c .before .before .before .before .before .before .before .before .before .before .before .before) .loop-test .taken)
 
 loop-again-3 : tie.Need-loop-again-3 Inv-loop μ-loop
-loop-again-3 c =
+loop-again-3 c = 
     let d = c .before .before .before .before .before .before .before .before .before .before .before in
     let clear = c .before .before in
     let roles = clear .before .before in
@@ -381,7 +373,7 @@ loop-less-4 : tie.Need-loop-less-4 Inv-loop μ-loop
 loop-less-4 c = omega (arith, turn (c .before .before .before .before .before .before) .loop-test .taken)
 
 loop-again-4 : tie.Need-loop-again-4 Inv-loop μ-loop
-loop-again-4 c =
+loop-again-4 c = 
     let d = c .before .before .before .before .before in
     let f = c .before in
     turned (d .before) _ (does-so d _ (rename-stored _ _ (zero d) _ (near d) (told-rename (f .before)) _ (f .renamed .ensures))) _ _
@@ -407,7 +399,7 @@ loop-less-5 : tie.Need-loop-less-5 Inv-loop μ-loop
 loop-less-5 c = omega (arith, turn (c .before .before .before .before .before .before .before) .loop-test .taken)
 
 loop-again-5 : tie.Need-loop-again-5 Inv-loop μ-loop
-loop-again-5 c =
+loop-again-5 c = 
     let d = c .before .before .before .before .before .before in
     let p = c .before .before in
     turned (d .before) _ (does-so d _ (role-stored _ _ (zero d) _ (near d) (sure (d .before .before)) (told-role (p .before) .0) (told-role (p .before) .1) _ (p .after2 .ensures))) _ _
@@ -436,7 +428,7 @@ loop-less-6 : tie.Need-loop-less-6 Inv-loop μ-loop
 loop-less-6 c = omega (arith, turn (c .before .before .before .before .before .before .before .before .before) .loop-test .taken)
 
 loop-again-6 : tie.Need-loop-again-6 Inv-loop μ-loop
-loop-again-6 c =
+loop-again-6 c = 
     let d = c .before .before .before .before .before .before .before .before in
     let put = c .before .before in
     let p = put .before .before in
@@ -485,18 +477,16 @@ run-spec =
     parent-of-requires
     mul-parent
     element-copy-out-parent
-    asking-requires
-    gather-requires
-    reached-requires
-    kin-requires
+    find-requires
+    seen-requires
     judge-requires
     slice-write-answers
     add-i
     change-of-requires
     enum-told
     after-requires
-    mul-s2
-    element-set-from-s2
+    mul-t65
+    element-set-from-self
     loop-less
     loop-again
     enum-told-2
