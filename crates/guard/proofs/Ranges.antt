@@ -1,6 +1,7 @@
 -- The numbers that a request's kind uses, where all of them are in range.
 --     span                    a property of each number from one on, so many of them
 --     past-nine, past-five    none of some numbers
+--     is-nine                 of 7, 8 and 9 neither of the first two
 --     asks-past               no kind past revoke asks for rights
 --     ranges-at, of-ranges    the ranges of the rule at the request's number
 --     fits-take, fits-open, fits-grant, fits-list, fits-make, fits-none      the ranges as the code tests them, where several kinds are alike
@@ -53,6 +54,9 @@ past-nine n h a b c = past 9 n (past 8 n (past 7 n h a) b) c
 
 pub past-five : (n : ℕ) → (n ≡ 0 → ⊥) → (n ≡ 1 → ⊥) → (n ≡ 2 → ⊥) → (n ≡ 3 → ⊥) → (n ≡ 4 → ⊥) → (n ≡ 5 → ⊥) → 6 ≤ n
 past-five n a b c d e f = past 5 n (past 4 n (past 3 n (past 2 n (past 1 n (past 0 n (omega arith) a) b) c) d) e) f
+
+pub is-nine : (n : ℕ) → 7 ≤ n → n ≤ 9 → (n ≡ 7 → ⊥) → (n ≡ 8 → ⊥) → n ≡ 9
+is-nine n h m a b = omega (arith, past 8 n (past 7 n h a) b)
 
 -- no kind past revoke asks for rights
 pub asks-past : (call : ℕ) → 12 ≤ call → asksRights call ≡ false

@@ -19,14 +19,14 @@ use Rattle.guard.specs.Refusals.{first}
 use Rattle.guard.specs.Requests.{rules, ruleOf, created, login, logout, take, drop, openr, openw, close, create, delete, rename, grant, revoke, list, unlist, make, unmake}
 use Rattle.guard.specs.Step.{inRanges}
 use Rattle.guard.specs.Kind as kind
-use Rattle.guard.specs.Inside.{number, Placed, changeOf, sessionAfter, usersAfter, roleAfter, owning}
+use Rattle.guard.specs.Inside.{number, Placed, changeOf, sessionAfter, entityAfter, usersAfter, roleAfter, owning}
 use Rattle.guard.specs.declared.Session.{Session}
 use Rattle.guard.specs.declared.Role.{Role}
 use Rattle.guard.specs.declared.Entity.{Entity}
 use Rattle.guard.specs.declared.Tables.{Tables}
 use Rattle.guard.specs.declared.Request.{Request}
 use Rattle.guard.specs.declared.change.Change.{Change}
-use Rattle.guard.specs.declared.change.Change.the-variants.{Session as OfSession, Create as OfCreate, Delete as OfDelete, Rename as OfRename, Role as OfRole, Unmake as OfUnmake}
+use Rattle.guard.specs.declared.change.Change.the-variants.{Session as OfSession, Entity as OfEntity, Role as OfRole}
 use Rattle.guard.specs.declared.look.Places.{Places}
 use Rattle.guard.proofs.Laws.Refusals.{unmet}
 use Rattle.guard.proofs.Laws.Sound.{sound-e}
@@ -37,29 +37,17 @@ use Rattle.guard.proofs.Answers.{done-in-range, done-allowed}
 -- ---- which kinds a change stands for
 abbrev pub Told : Change → ℕ → Type 0
 Told OfSession n = n ≤ 6
-Told OfCreate n = n ≡ 7
-Told OfDelete n = n ≡ 8
-Told OfRename n = n ≡ 9
-Told OfRole n = (10 ≤ n) × (n ≡ 15 → ⊥)
-Told OfUnmake n = n ≡ 15
-
-past-nine : (n : ℕ) → 7 ≤ n → (n ≡ 7 → ⊥) → (n ≡ 8 → ⊥) → (n ≡ 9 → ⊥) → 10 ≤ n
-past-nine n l a b c = omega (arith, a, b, c)
+Told OfEntity n = (7 ≤ n) × (n ≤ 9)
+Told OfRole n = 10 ≤ n
 
 told-of : (n : ℕ) → Told (changeOf n) n
 unfolding changeOf
-told-of n = go (leb n 6) refl (eqb n 7) refl (eqb n 8) refl (eqb n 9) refl (eqb n 15) refl
+told-of n = go (leb n 6) refl (leb n 9) refl
   where
-    go : (a : Bool) → leb n 6 ≡ a → (b : Bool) → eqb n 7 ≡ b → (c : Bool) → eqb n 8 ≡ c → (d : Bool) → eqb n 9 ≡ d → (e : Bool) → eqb n 15 ≡ e
-        → Told (cond (leb n 6) OfSession (cond (eqb n 7) OfCreate (cond (eqb n 8) OfDelete (cond (eqb n 9) OfRename (cond (eqb n 15) OfUnmake OfRole))))) n
-    go true ha b hb c hc d hd e he = rw ha (leb-true n 6 ha)
-    go false ha true hb c hc d hd e he = rw (ha, hb) (eqb-true n 7 hb)
-    go false ha false hb true hc d hd e he = rw (ha, hb, hc) (eqb-true n 8 hc)
-    go false ha false hb false hc true hd e he = rw (ha, hb, hc, hd) (eqb-true n 9 hd)
-    go false ha false hb false hc false hd true he = rw (ha, hb, hc, hd, he) (eqb-true n 15 he)
-    go false ha false hb false hc false hd false he =
-        rw (ha, hb, hc, hd, he)
-        (past-nine n (leb-false n 6 ha) (eqb-false n 7 hb) (eqb-false n 8 hc) (eqb-false n 9 hd), eqb-false n 15 he)
+    go : (a : Bool) → leb n 6 ≡ a → (b : Bool) → leb n 9 ≡ b → Told (cond (leb n 6) OfSession (cond (leb n 9) OfEntity OfRole)) n
+    go true ha b hb = rw ha (leb-true n 6 ha)
+    go false ha true hb = rw (ha, hb) (leb-false n 6 ha, leb-true n 9 hb)
+    go false ha false hb = rw (ha, hb) (leb-false n 9 hb)
 
 pub told : (c d : Change) (n : ℕ) → d ≡ changeOf n → d ≡ c → Told c n
 told c d n h k = subst (λ (x : Change). Told x n) (sym h ∙ k) (told-of n)
@@ -120,22 +108,22 @@ module _ (t : Tables) (q : Request) (z : 0 ≡ number (ruleOf q) t q) where
         (q .call) (omega arith) (omega arith) refl)
 
     -- ---- the entity
-    pub create-stored : q .call ≡ kind.create → (f : Entity) (r : Role) → f ≡ created q → r ≡ owning (q .entity) (roleAt t (p .role))
+    pub create-stored : q .call ≡ kind.create → (f : Entity) (r : Role) → f ≡ entityAfter q (entityAt t (p .entity)) → r ≡ owning (q .entity) (roleAt t (p .role))
         → Done (withRoles (withEntities t (set (t .entities) (p .entity) f)) (set (t .roles) (p .role) r))
-    unfolding rules create atRole atEntity
+    unfolding entityAfter rules create atRole atEntity
     create-stored c f r hf hr =
         let i = in-create q ok c in
-        rw (rule-at q 7 c, hf, hr, owned (q .entity) (roleAt t (p .role)), P .role .same (i .role), P .entity .same (i .entity))
+        rw (rule-at q 7 c, hf, hr, c, owned (q .entity) (roleAt t (p .role)), P .role .same (i .role), P .entity .same (i .entity))
 
-    pub delete-stored : q .call ≡ kind.delete → (f : Entity) → f ≡ noEntity
+    pub delete-stored : q .call ≡ kind.delete → (f : Entity) → f ≡ entityAfter q (entityAt t (p .entity))
         → Done (withSessions (withRoles (withEntities t (set (t .entities) (p .entity) f)) (map (clearRights (q .entity)) (t .roles))) (map (closeBoth (q .entity)) (t .sessions)))
-    unfolding rules delete eachSession eachRole atEntity
-    delete-stored c f hf = rw (rule-at q 8 c, hf, P .entity .same (in-delete q ok c .1))
+    unfolding entityAfter rules delete eachSession eachRole atEntity
+    delete-stored c f hf = rw (rule-at q 8 c, hf, c, P .entity .same (in-delete q ok c .1))
 
-    pub rename-stored : q .call ≡ kind.rename → (f : Entity) → f ≡ renameTo (q .name) (entityAt t (p .entity))
+    pub rename-stored : q .call ≡ kind.rename → (f : Entity) → f ≡ entityAfter q (entityAt t (p .entity))
         → Done (withEntities t (set (t .entities) (p .entity) f))
-    unfolding rules rename atEntity
-    rename-stored c f hf = rw (rule-at q 9 c, hf, P .entity .same (in-rename q ok c .1))
+    unfolding entityAfter rules rename atEntity
+    rename-stored c f hf = rw (rule-at q 9 c, hf, c, P .entity .same (in-rename q ok c .1))
 
     -- ---- the role
     abbrev RoleDone : ℕ → Type 0
@@ -179,7 +167,7 @@ module _ (t : Tables) (q : Request) (z : 0 ≡ number (ruleOf q) t q) where
         rw same
         (span RoleDone 10 5 (grant-done, (revoke-done, (list-done, (unlist-done, (make-done sure, tt))))) (q .call) low (omega (arith, known, other)) refl)
 
-    pub unmake-stored : q .call ≡ kind.unmake → (r : Role) → r ≡ noRole
+    pub unmake-stored : q .call ≡ kind.unmake → (r : Role) → r ≡ roleAfter q (roleAt t (p .role))
         → Done (withSessions (withRoles t (set (t .roles) (p .role) r)) (map (dropRole (q .role)) (t .sessions)))
-    unfolding rules unmake eachSession atRole
-    unmake-stored c r hr = rw (rule-at q 15 c, hr, P .role .same (in-unmake q ok c .1))
+    unfolding roleAfter rules unmake eachSession atRole
+    unmake-stored c r hr = rw (rule-at q 15 c, hr, c, P .role .same (in-unmake q ok c .1))

@@ -9,12 +9,12 @@ use lib.ListN.{getD}
 use Rattle.bitset.specs.Tests.{every, either}
 use Rattle.bitset.specs.Sets.{has, contains, with, without}
 use Rattle.guard.specs.Level.{userCount, sessionCount, roleCount, entityCount, isRoot}
-use Rattle.guard.specs.Tables.{noSession, userAt, sessionAt, roleAt, entityAt, hasRight, read, write, execute, own}
+use Rattle.guard.specs.Tables.{noSession, noRole, noEntity, userAt, sessionAt, roleAt, entityAt, hasRight, read, write, execute, own}
 use Rattle.guard.specs.Chain.{reaches}
-use Rattle.guard.specs.Edits.{takeRole, dropRole, openReading, openWriting, closeBoth, putIn}
+use Rattle.guard.specs.Edits.{takeRole, dropRole, openReading, openWriting, closeBoth, putIn, renameTo}
 use Rattle.guard.specs.Refusals.{_when_, first}
 use Rattle.guard.specs.Conditions.{nameTaken, hasChildren, recordedParent}
-use Rattle.guard.specs.Requests.{Rule, fieldInRange, loggedIn}
+use Rattle.guard.specs.Requests.{Rule, fieldInRange, loggedIn, created}
 use Rattle.guard.specs.Step.{inRanges}
 use Rattle.guard.specs.Kind as kind
 use Rattle.guard.specs.declared.User.{User}
@@ -25,7 +25,7 @@ use Rattle.guard.specs.declared.Tables.{Tables}
 use Rattle.guard.specs.declared.Request.{Request}
 use Rattle.guard.specs.declared.look.Places.{Places}
 use Rattle.guard.specs.declared.change.Change.{Change}
-use Rattle.guard.specs.declared.change.Change.the-variants.{Session as OfSession, Create as OfCreate, Delete as OfDelete, Rename as OfRename, Role as OfRole, Unmake as OfUnmake}
+use Rattle.guard.specs.declared.change.Change.the-variants.{Session as OfSession, Entity as OfEntity, Role as OfRole}
 use Rattle.guard.specs.declared.scan.Rights.{Rights}
 use Rattle.guard.specs.declared.scan.Found.{Found}
 use Rattle.guard.specs.declared.view.View.{View}
@@ -104,11 +104,7 @@ pub record Seen (t : Tables) (q : Request) (v : View) : Type 0 where
 -- which records a kind changes: a session; an entity, with a role (create) or every role and session (delete); a role, with
 -- every session (unmake)
 unfoldable pub changeOf : ℕ → Change
-changeOf call =
-    cond (leb call kind.close) OfSession
-    (cond (eqb call kind.create) OfCreate
-    (cond (eqb call kind.delete) OfDelete
-    (cond (eqb call kind.rename) OfRename (cond (eqb call kind.unmake) OfUnmake OfRole))))
+changeOf call = cond (leb call kind.close) OfSession (cond (leb call kind.rename) OfEntity OfRole)
 
 -- the acting session s after a request of the first seven kinds
 unfoldable pub sessionAfter : Request → Session → Session
@@ -122,6 +118,11 @@ sessionAfter q s =
     ∷ openWriting (q .entity) s
     ∷ [])
     (q .call) (closeBoth (q .entity) s)
+
+-- the entity f after create, delete or rename
+unfoldable pub entityAfter : Request → Entity → Entity
+entityAfter q f =
+    cond (eqb (q .call) kind.create) (created q) (cond (eqb (q .call) kind.delete) noEntity (renameTo (q .name) f))
 
 -- the entities of one right after grant or revoke, where it is named
 unfoldable pub setAfter : Bool → Bool → ℕ → ℕ → ℕ
@@ -144,11 +145,12 @@ unfoldable pub usersAfter : Request → ℕ → ℕ
 usersAfter q users =
     cond (eqb (q .call) kind.list) (with users (q .user)) (cond (eqb (q .call) kind.unlist) (without users (q .user)) users)
 
--- the role p after grant, revoke, list, unlist or make
+-- the role p after grant, revoke, unmake, list, unlist or make
 unfoldable pub roleAfter : Request → Role → Role
 roleAfter q p =
     cond (eqb (q .call) kind.grant) (grantedAfter true (q .rights) (q .entity) p)
     (cond (eqb (q .call) kind.revoke) (grantedAfter false (q .rights) (q .entity) p)
+    (cond (eqb (q .call) kind.unmake) noRole
     (record {
       live = true;
       users = usersAfter q (p .users);
@@ -156,7 +158,7 @@ roleAfter q p =
       writes = p .writes;
       executes = p .executes;
       owns = p .owns;
-    }))
+    })))
 
 -- the role p with own on e
 abbrev pub owning : ℕ → Role → Role

@@ -4,15 +4,11 @@ ghost use Prim.Native.Nat.{_<_};
 ghost use mathlib.Core.Path.{_≡_};
 ghost use Rattle.guard.specs.Inside.{changeOf};
 
-// The acting session; an entity and a role; an entity, every role and every session; an entity; a role; a role and every
-// session.
+// The acting session; the entity (create also a role, delete every role and session); the role (unmake also every session).
 pub enum Change {
     Session,
-    Create,
-    Delete,
-    Rename,
+    Entity,
     Role,
-    Unmake,
 }
 
 pub fn change_of(call: u32) -> Change
@@ -20,10 +16,7 @@ pub fn change_of(call: u32) -> Change
 {
     match call {
         kinds::LOGIN..=kinds::CLOSE => Change::Session,
-        kinds::CREATE => Change::Create,
-        kinds::DELETE => Change::Delete,
-        kinds::RENAME => Change::Rename,
-        kinds::UNMAKE => Change::Unmake,
+        kinds::CREATE..=kinds::RENAME => Change::Entity,
         _ => Change::Role,
     }
 }

@@ -2,12 +2,13 @@
 use crate::Entity;
 use crate::Label;
 use crate::Request;
+use crate::kinds;
 use crate::labels;
 use crate::sizes;
 use crate::view::View;
 ghost use Prim.Native.Nat.{_≤_, _<_};
 ghost use mathlib.Core.Path.{_≡_};
-ghost use mathlib.Core.Bool.{not};
+ghost use mathlib.Core.Bool.{true, not};
 ghost use mathlib.Core.List.{[], _∷_};
 ghost use lib.Dec.{ltb, eqb};
 ghost use Rattle.bitset.specs.Tests.{either};
@@ -19,6 +20,8 @@ ghost use Rattle.guard.specs.Edits.{renameTo};
 ghost use Rattle.guard.specs.Refusals.{first, _when_};
 ghost use Rattle.guard.specs.Conditions.{labelAsked};
 ghost use Rattle.guard.specs.Requests.{created};
+ghost use Rattle.guard.specs.Step.{inRanges};
+ghost use Rattle.guard.specs.Inside.{entityAfter};
 
 // The refusals of create up to 9: what has to be there, and what not.
 fn create_refusal_to_9(v: View) -> u8
@@ -103,7 +106,7 @@ pub fn change_refusal(q: Request, v: View, last: u8) -> u8
 }
 
 // The entity that a create makes.
-pub fn made(q: Request) -> Entity
+fn made(q: Request) -> Entity
     requires { ⌜ (q .kind ≤ 1) × (q .parent < 64) × (q .name ≤ 65535) × (q .level ≤ 3) × (q .cats ≤ 255) ⌝ }
     ensures { λ n. ⌜ n ≡ created q ⌝ }
 {
@@ -117,7 +120,7 @@ pub fn made(q: Request) -> Entity
     }
 }
 
-pub fn renamed(name: u32, f: Entity) -> Entity
+fn renamed(name: u32, f: Entity) -> Entity
     requires { ⌜ name ≤ 65535 ⌝ }
     ensures { λ n. ⌜ n ≡ renameTo name f ⌝ }
 {
@@ -126,7 +129,7 @@ pub fn renamed(name: u32, f: Entity) -> Entity
     n
 }
 
-pub fn empty() -> Entity
+fn empty() -> Entity
     ensures { λ n. ⌜ n ≡ noEntity ⌝ }
 {
     let none = Label { cats: 0, grade: 0 };
@@ -137,4 +140,18 @@ pub fn empty() -> Entity
         name: 0,
         label: none,
     }
+}
+
+// Entity `f` after a create, a delete or a rename.
+pub fn after(q: Request, f: Entity) -> Entity
+    requires { ⌜ (7 ≤ q .call) × (q .call ≤ 9) × (inRanges q ≡ true) ⌝ }
+    ensures { λ n. ⌜ n ≡ entityAfter q f ⌝ }
+{
+    if q.call == kinds::CREATE {
+        return made(q);
+    }
+    if q.call == kinds::DELETE {
+        return empty();
+    }
+    renamed(q.name, f)
 }

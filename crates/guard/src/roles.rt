@@ -147,7 +147,20 @@ fn granted(given: bool, rights: u32, e: u32, p: Role) -> Role
     n
 }
 
-// Role `p` after a grant, a revoke, a list, an unlist or a make. A dead role of sound tables is empty already, so that a make
+fn empty() -> Role
+    ensures { λ n. ⌜ n ≡ noRole ⌝ }
+{
+    Role {
+        live: false,
+        users: 0,
+        reads: 0,
+        writes: 0,
+        executes: 0,
+        owns: 0,
+    }
+}
+
+// Role `p` after a request on a role. A dead role of sound tables is empty already, so that a make
 // only marks it.
 pub fn after(q: Request, p: Role) -> Role
     requires { ⌜ inRanges q ≡ true ⌝ }
@@ -158,6 +171,9 @@ pub fn after(q: Request, p: Role) -> Role
     }
     if q.call == kinds::REVOKE {
         return granted(false, q.rights, q.entity, p);
+    }
+    if q.call == kinds::UNMAKE {
+        return empty();
     }
     let mut n = p;
     n.live = true;
@@ -173,19 +189,6 @@ pub fn owning(e: u32, p: Role) -> Role
     let mut n = p;
     n.owns = bitset::with64(p.owns, e);
     n
-}
-
-pub fn empty() -> Role
-    ensures { λ n. ⌜ n ≡ noRole ⌝ }
-{
-    Role {
-        live: false,
-        users: 0,
-        reads: 0,
-        writes: 0,
-        executes: 0,
-        owns: 0,
-    }
 }
 
 // Role `p` without rights on entity `e`.

@@ -4,6 +4,7 @@ use crate::change;
 use crate::change::Change;
 use crate::entities;
 use crate::judge;
+use crate::kinds;
 use crate::look;
 use crate::roles;
 use crate::rows;
@@ -59,40 +60,30 @@ impl Tables {
                     Change::Session => {
                         self.sessions[x] = sessions::after(q, session);
                     }
-                    Change::Create => {
-                        let f2 = entities::made(q);
+                    Change::Entity => {
+                        let f2 = entities::after(q, entity);
                         self.entities[e] = f2;
                         keys[e] = tree::key(f2);
-                        let p2 = roles::owning(q.entity, role);
-                        self.roles[r] = p2;
-                        scan::put(&mut grants, r, p2);
-                    }
-                    Change::Delete => {
-                        let f2 = entities::empty();
-                        self.entities[e] = f2;
-                        keys[e] = tree::key(f2);
-                        let all = self.roles;
-                        self.roles = roles::without_entity(all, q.entity);
-                        scan::clear(&mut grants, e);
-                        let seats = self.sessions;
-                        self.sessions = sessions::without_entity(seats, q.entity);
-                    }
-                    Change::Rename => {
-                        let f2 = entities::renamed(q.name, entity);
-                        self.entities[e] = f2;
-                        keys[e] = tree::key(f2);
+                        if q.call == kinds::CREATE {
+                            let p2 = roles::owning(q.entity, role);
+                            self.roles[r] = p2;
+                            scan::put(&mut grants, r, p2);
+                        } else if q.call == kinds::DELETE {
+                            let all = self.roles;
+                            self.roles = roles::without_entity(all, q.entity);
+                            scan::clear(&mut grants, e);
+                            let seats = self.sessions;
+                            self.sessions = sessions::without_entity(seats, q.entity);
+                        }
                     }
                     Change::Role => {
                         let p2 = roles::after(q, role);
                         self.roles[r] = p2;
                         scan::put(&mut grants, r, p2);
-                    }
-                    Change::Unmake => {
-                        let p2 = roles::empty();
-                        self.roles[r] = p2;
-                        scan::put(&mut grants, r, p2);
-                        let seats = self.sessions;
-                        self.sessions = sessions::without_role(seats, q.role);
+                        if q.call == kinds::UNMAKE {
+                            let seats = self.sessions;
+                            self.sessions = sessions::without_role(seats, q.role);
+                        }
                     }
                 }
             }

@@ -15,9 +15,9 @@ use Rattle.guard.specs.Inside.{number, Placed}
 use Rattle.guard.specs.Scan.{Keys, Grants}
 use Rattle.guard.specs.declared.Tables.{Tables}
 use Rattle.guard.specs.declared.Request.{Request}
-use Rattle.guard.specs.declared.change.Change.the-variants.{Session as OfSession, Create as OfCreate, Delete as OfDelete, Rename as OfRename, Role as OfRole, Unmake as OfUnmake}
+use Rattle.guard.specs.declared.change.Change.the-variants.{Session as OfSession, Entity as OfEntity, Role as OfRole}
 use Rattle.guard.proofs.Laws.Sound.{Sound, sound-e}
-use Rattle.guard.proofs.Ranges.{in-create, in-delete, in-rename}
+use Rattle.guard.proofs.Ranges.{is-nine, in-create, in-delete}
 use Rattle.guard.proofs.Logs.{batch-room, batch-rows}
 use Rattle.guard.proofs.Columns.{keys-set, keys-other, grants-other, grants-role, grants-each}
 use Rattle.guard.proofs.Seen.{parent-in, seen-of}
@@ -133,20 +133,11 @@ does-so c u e = does _ _ _ (sure (c .before .before)) (judged (c .before)) (c .i
 told-session : (c : At tie.After-enum-told) → asked (c .before .before .before .before .before) .call ≤ 6
 told-session c = told OfSession _ _ (c .before .before .change-of .ensures) (c .enum-told .given .1)
 
-told-create : (c : At tie.After-enum-told2) → asked (c .before .before .before .before .before) .call ≡ 7
-told-create c = told OfCreate _ _ (c .before .before .change-of .ensures) (c .enum-told2 .given .1)
+told-entity : (c : At tie.After-enum-told2) → (7 ≤ asked (c .before .before .before .before .before) .call) × (asked (c .before .before .before .before .before) .call ≤ 9)
+told-entity c = told OfEntity _ _ (c .before .before .change-of .ensures) (c .enum-told2 .given .1)
 
-told-delete : (c : At tie.After-enum-told3) → asked (c .before .before .before .before .before) .call ≡ 8
-told-delete c = told OfDelete _ _ (c .before .before .change-of .ensures) (c .enum-told3 .given .1)
-
-told-rename : (c : At tie.After-enum-told4) → asked (c .before .before .before .before .before) .call ≡ 9
-told-rename c = told OfRename _ _ (c .before .before .change-of .ensures) (c .enum-told4 .given .1)
-
-told-unmake : (c : At tie.After-enum-told6) → asked (c .before .before .before .before .before) .call ≡ 15
-told-unmake c = told OfUnmake _ _ (c .before .before .change-of .ensures) (c .enum-told6 .given .1)
-
-told-role : (c : At tie.After-enum-told5) → (10 ≤ asked (c .before .before .before .before .before) .call) × (asked (c .before .before .before .before .before) .call ≡ 15 → ⊥)
-told-role c = told OfRole _ _ (c .before .before .change-of .ensures) (c .enum-told5 .given .1)
+told-role : (c : At tie.After-enum-told3) → 10 ≤ asked (c .before .before .before .before .before) .call
+told-role c = told OfRole _ _ (c .before .before .change-of .ensures) (c .enum-told3 .given .1)
 
 count-requires : tie.Need-count-requires Inv-loop μ-loop
 count-requires c κs = search needs
@@ -241,8 +232,8 @@ enum-told c = search needs
 after-requires : tie.Need-after-requires Inv-loop μ-loop
 after-requires c κs = fits (c .before .before .before)
 
-mul-t65 : tie.Need-mul-t65 Inv-loop μ-loop
-mul-t65 c = omega (arith, near (c .before .before .before .before) .seat .small)
+mul-t62 : tie.Need-mul-t62 Inv-loop μ-loop
+mul-t62 c = omega (arith, near (c .before .before .before .before) .seat .small)
 
 element-set-from-self : tie.Need-element-set-from-self Inv-loop μ-loop
 element-set-from-self c = near (c .before .before .before .before) .seat .small
@@ -260,8 +251,8 @@ loop-again c =
 enum-told-2 : tie.Need-enum-told-2 Inv-loop μ-loop
 enum-told-2 c = search needs
 
-made-requires : tie.Need-made-requires Inv-loop μ-loop
-made-requires c κs = let r = in-create _ (fits (c .before .before .before)) (told-create c) in (r .kind, r .parent, r .name, r .level, r .cats)
+after-requires-2 : tie.Need-after-requires-2 Inv-loop μ-loop
+after-requires-2 c κs = (told-entity c .0, told-entity c .1, fits (c .before .before .before))
 
 mul-f2 : tie.Need-mul-f2 Inv-loop μ-loop
 mul-f2 c = omega (arith, near (c .before .before .before .before) .entity .small)
@@ -279,112 +270,75 @@ array-write-keys : tie.Need-array-write-keys Inv-loop μ-loop
 array-write-keys c = near (c .before .before .before .before .before) .entity .small
 
 owning-requires : tie.Need-owning-requires Inv-loop μ-loop
-owning-requires c κs = in-create _ (fits (c .before .before .before .before .before)) (told-create (c .before .before)) .entity
+owning-requires c κs = in-create _ (fits (c .before .before .before .before .before .before .before)) (c .if4 .taken) .entity
 
 mul-p2 : tie.Need-mul-p2 Inv-loop μ-loop
-mul-p2 c = omega (arith, near (c .before .before .before .before .before .before) .role .small)
+mul-p2 c = omega (arith, near (c .before .before .before .before .before .before .before .before) .role .small)
 
 element-set-from-p2 : tie.Need-element-set-from-p2 Inv-loop μ-loop
-element-set-from-p2 c = near (c .before .before .before .before .before .before) .role .small
+element-set-from-p2 c = near (c .before .before .before .before .before .before .before .before) .role .small
 
 put-requires : tie.Need-put-requires Inv-loop μ-loop
-put-requires c κs = (near (c .before .before .before .before .before .before .before) .role .small, grants-at (c .before .before .before .before .before .before .before .before .before) .long)
+put-requires c κs = (near (c .before .before .before .before .before .before .before .before .before) .role .small, grants-at (c .before .before .before .before .before .before .before .before .before .before .before) .long)
 
 loop-less-2 : tie.Need-loop-less-2 Inv-loop μ-loop
-loop-less-2 c = omega (arith, turn (c .before .before .before .before .before .before .before .before .before) .loop-test .taken)
+loop-less-2 c = omega (arith, turn (c .before .before .before .before .before .before .before .before .before .before .before) .loop-test .taken)
 
 loop-again-2 : tie.Need-loop-again-2 Inv-loop μ-loop
 loop-again-2 c = 
-    let d = c .before .before .before .before .before .before .before .before in
+    let d = c .before .before .before .before .before .before .before .before .before .before in
     let own = c .before .before in
-    let key = own .before in
+    let is = own .before in
+    let key = is .before .before in
     let f = key .before in
-    turned (d .before) _ (does-so d _ (create-stored _ _ (zero d) _ (near d) (told-create (f .before)) _ _ (f .made .ensures) (own .owning .ensures))) _ _
+    turned (d .before) _ (does-so d _ (create-stored _ _ (zero d) _ (near d) (is .if4 .taken) _ _ (f .after2 .ensures) (own .owning .ensures))) _ _
     (keys-set _ _ (keys-at (d .before .before)) _ (many d .manyEntities) _ (near d .entity .small) _ _ (key .key .ensures) refl)
     (grants-role _ _ (grants-at (d .before .before)) _ (many d .manyRoles) _ (near d .role .small) _ _ (c .put .ensures) refl)
-
-enum-told-3 : tie.Need-enum-told-3 Inv-loop μ-loop
-enum-told-3 c = search needs
-
-empty-requires : tie.Need-empty-requires Inv-loop μ-loop
-empty-requires c κs = search needs
-
-mul-f2-2 : tie.Need-mul-f2-2 Inv-loop μ-loop
-mul-f2-2 c = omega (arith, near (c .before .before .before .before) .entity .small)
-
-element-set-from-f2-2 : tie.Need-element-set-from-f2-2 Inv-loop μ-loop
-element-set-from-f2-2 c = near (c .before .before .before .before) .entity .small
-
-key-requires-2 : tie.Need-key-requires-2 Inv-loop μ-loop
-key-requires-2 c κs = search needs
-
-mul-keys-2 : tie.Need-mul-keys-2 Inv-loop μ-loop
-mul-keys-2 c = omega (arith, near (c .before .before .before .before .before) .entity .small)
-
-array-write-keys-2 : tie.Need-array-write-keys-2 Inv-loop μ-loop
-array-write-keys-2 c = near (c .before .before .before .before .before) .entity .small
 
 without-entity-requires : tie.Need-without-entity-requires Inv-loop μ-loop
 without-entity-requires c κs = search needs
 
 clear-requires : tie.Need-clear-requires Inv-loop μ-loop
-clear-requires c κs = (near (c .before .before .before .before .before .before .before .before) .entity .small, grants-at (c .before .before .before .before .before .before .before .before .before .before) .long)
+clear-requires c κs = (near (c .before .before .before .before .before .before .before .before .before .before .before .before) .entity .small, grants-at (c .before .before .before .before .before .before .before .before .before .before .before .before .before .before) .long)
 
 without-entity-requires-2 : tie.Need-without-entity-requires-2 Inv-loop μ-loop
 without-entity-requires-2 c κs = search needs
 
 loop-less-3 : tie.Need-loop-less-3 Inv-loop μ-loop
-loop-less-3 c = omega (arith, turn (c .before .before .before .before .before .before .before .before .before .before .before .before) .loop-test .taken)
+loop-less-3 c = omega (arith, turn (c .before .before .before .before .before .before .before .before .before .before .before .before .before .before .before .before) .loop-test .taken)
 
 loop-again-3 : tie.Need-loop-again-3 Inv-loop μ-loop
 loop-again-3 c = 
-    let d = c .before .before .before .before .before .before .before .before .before .before .before in
+    let d = c .before .before .before .before .before .before .before .before .before .before .before .before .before .before .before in
     let clear = c .before .before in
     let roles = clear .before .before in
-    let key = roles .before .before in
+    let is = roles .before .before in
+    let key = is .before .before .before .before in
     let f = key .before in
     rw (roles .without-entity .ensures, c .without-entity2 .ensures)
-    (turned (d .before) _ (does-so d _ (delete-stored _ _ (zero d) _ (near d) (told-delete (f .before)) _ (f .empty .ensures))) _ _
-    (keys-set _ _ (keys-at (d .before .before)) _ (many d .manyEntities) _ (near d .entity .small) _ _ (key .key2 .ensures) refl)
-    (grants-each _ _ (grants-at (d .before .before)) _ _ _ (rw (near d .entity .same (in-delete _ (fits d) (told-delete (f .before)) .1)) at (clear .clear .ensures)) refl))
-
-enum-told-4 : tie.Need-enum-told-4 Inv-loop μ-loop
-enum-told-4 c = search needs
-
-renamed-requires : tie.Need-renamed-requires Inv-loop μ-loop
-renamed-requires c κs = in-rename _ (fits (c .before .before .before)) (told-rename c) .3
-
-mul-f2-3 : tie.Need-mul-f2-3 Inv-loop μ-loop
-mul-f2-3 c = omega (arith, near (c .before .before .before .before) .entity .small)
-
-element-set-from-f2-3 : tie.Need-element-set-from-f2-3 Inv-loop μ-loop
-element-set-from-f2-3 c = near (c .before .before .before .before) .entity .small
-
-key-requires-3 : tie.Need-key-requires-3 Inv-loop μ-loop
-key-requires-3 c κs = search needs
-
-mul-keys-3 : tie.Need-mul-keys-3 Inv-loop μ-loop
-mul-keys-3 c = omega (arith, near (c .before .before .before .before .before) .entity .small)
-
-array-write-keys-3 : tie.Need-array-write-keys-3 Inv-loop μ-loop
-array-write-keys-3 c = near (c .before .before .before .before .before) .entity .small
+    (turned (d .before) _ (does-so d _ (delete-stored _ _ (zero d) _ (near d) (is .if5 .taken) _ (f .after2 .ensures))) _ _
+    (keys-set _ _ (keys-at (d .before .before)) _ (many d .manyEntities) _ (near d .entity .small) _ _ (key .key .ensures) refl)
+    (grants-each _ _ (grants-at (d .before .before)) _ _ _ (rw (near d .entity .same (in-delete _ (fits d) (is .if5 .taken) .1)) at (clear .clear .ensures)) refl))
 
 loop-less-4 : tie.Need-loop-less-4 Inv-loop μ-loop
-loop-less-4 c = omega (arith, turn (c .before .before .before .before .before .before) .loop-test .taken)
+loop-less-4 c = omega (arith, turn (c .before .before .before .before .before .before .before .before .before .before) .loop-test .taken)
 
 loop-again-4 : tie.Need-loop-again-4 Inv-loop μ-loop
 loop-again-4 c = 
-    let d = c .before .before .before .before .before in
-    let f = c .before in
-    turned (d .before) _ (does-so d _ (rename-stored _ _ (zero d) _ (near d) (told-rename (f .before)) _ (f .renamed .ensures))) _ _
-    (keys-set _ _ (keys-at (d .before .before)) _ (many d .manyEntities) _ (near d .entity .small) _ _ (c .key3 .ensures) refl)
+    let d = c .before .before .before .before .before .before .before .before .before in
+    let other = c .before .before in
+    let key = other .before .before in
+    let f = key .before in
+    let told = told-entity (f .before) in
+    turned (d .before) _ (does-so d _ (rename-stored _ _ (zero d) _ (near d) (is-nine _ (told .0) (told .1) (other .if4 .left) (c .if5 .left)) _ (f .after2 .ensures))) _ _
+    (keys-set _ _ (keys-at (d .before .before)) _ (many d .manyEntities) _ (near d .entity .small) _ _ (key .key .ensures) refl)
     (grants-other _ _ (grants-at (d .before .before)) _ refl)
 
-enum-told-5 : tie.Need-enum-told-5 Inv-loop μ-loop
-enum-told-5 c = search needs
+enum-told-3 : tie.Need-enum-told-3 Inv-loop μ-loop
+enum-told-3 c = search needs
 
-after-requires-2 : tie.Need-after-requires-2 Inv-loop μ-loop
-after-requires-2 c κs = fits (c .before .before .before)
+after-requires-3 : tie.Need-after-requires-3 Inv-loop μ-loop
+after-requires-3 c κs = fits (c .before .before .before)
 
 mul-p2-2 : tie.Need-mul-p2-2 Inv-loop μ-loop
 mul-p2-2 c = omega (arith, near (c .before .before .before .before) .role .small)
@@ -395,34 +349,22 @@ element-set-from-p2-2 c = near (c .before .before .before .before) .role .small
 put-requires-2 : tie.Need-put-requires-2 Inv-loop μ-loop
 put-requires-2 c κs = (near (c .before .before .before .before .before) .role .small, grants-at (c .before .before .before .before .before .before .before) .long)
 
+without-role-requires : tie.Need-without-role-requires Inv-loop μ-loop
+without-role-requires c κs = search needs
+
 loop-less-5 : tie.Need-loop-less-5 Inv-loop μ-loop
-loop-less-5 c = omega (arith, turn (c .before .before .before .before .before .before .before) .loop-test .taken)
+loop-less-5 c = omega (arith, turn (c .before .before .before .before .before .before .before .before .before .before .before) .loop-test .taken)
 
 loop-again-5 : tie.Need-loop-again-5 Inv-loop μ-loop
 loop-again-5 c = 
-    let d = c .before .before .before .before .before .before in
-    let p = c .before .before in
-    turned (d .before) _ (does-so d _ (role-stored _ _ (zero d) _ (near d) (sure (d .before .before)) (told-role (p .before) .0) (told-role (p .before) .1) _ (p .after2 .ensures))) _ _
+    let d = c .before .before .before .before .before .before .before .before .before .before in
+    let is = c .before .before in
+    let put = is .before .before in
+    let p = put .before .before in
+    rw (c .without-role .ensures)
+    (turned (d .before) _ (does-so d _ (unmake-stored _ _ (zero d) _ (near d) (is .if6 .taken) _ (p .after3 .ensures))) _ _
     (keys-other _ _ (keys-at (d .before .before)) _ refl)
-    (grants-role _ _ (grants-at (d .before .before)) _ (many d .manyRoles) _ (near d .role .small) _ _ (c .put2 .ensures) refl)
-
-enum-told-6 : tie.Need-enum-told-6 Inv-loop μ-loop
-enum-told-6 c = search needs
-
-empty-requires-2 : tie.Need-empty-requires-2 Inv-loop μ-loop
-empty-requires-2 c κs = search needs
-
-mul-p2-3 : tie.Need-mul-p2-3 Inv-loop μ-loop
-mul-p2-3 c = omega (arith, near (c .before .before .before .before) .role .small)
-
-element-set-from-p2-3 : tie.Need-element-set-from-p2-3 Inv-loop μ-loop
-element-set-from-p2-3 c = near (c .before .before .before .before) .role .small
-
-put-requires-3 : tie.Need-put-requires-3 Inv-loop μ-loop
-put-requires-3 c κs = (near (c .before .before .before .before .before) .role .small, grants-at (c .before .before .before .before .before .before .before) .long)
-
-without-role-requires : tie.Need-without-role-requires Inv-loop μ-loop
-without-role-requires c κs = search needs
+    (grants-role _ _ (grants-at (d .before .before)) _ (many d .manyRoles) _ (near d .role .small) _ _ (put .put2 .ensures) refl))
 
 loop-less-6 : tie.Need-loop-less-6 Inv-loop μ-loop
 loop-less-6 c = omega (arith, turn (c .before .before .before .before .before .before .before .before .before) .loop-test .taken)
@@ -432,10 +374,9 @@ loop-again-6 c =
     let d = c .before .before .before .before .before .before .before .before in
     let put = c .before .before in
     let p = put .before .before in
-    rw (c .without-role .ensures)
-    (turned (d .before) _ (does-so d _ (unmake-stored _ _ (zero d) _ (near d) (told-unmake (p .before)) _ (p .empty2 .ensures))) _ _
+    turned (d .before) _ (does-so d _ (role-stored _ _ (zero d) _ (near d) (sure (d .before .before)) (told-role (p .before)) (c .if6 .left) _ (p .after3 .ensures))) _ _
     (keys-other _ _ (keys-at (d .before .before)) _ refl)
-    (grants-role _ _ (grants-at (d .before .before)) _ (many d .manyRoles) _ (near d .role .small) _ _ (put .put3 .ensures) refl))
+    (grants-role _ _ (grants-at (d .before .before)) _ (many d .manyRoles) _ (near d .role .small) _ _ (put .put2 .ensures) refl)
 
 loop-less-7 : tie.Need-loop-less-7 Inv-loop μ-loop
 loop-less-7 c = omega (arith, turn (c .before) .loop-test .taken)
@@ -485,12 +426,12 @@ run-spec =
     change-of-requires
     enum-told
     after-requires
-    mul-t65
+    mul-t62
     element-set-from-self
     loop-less
     loop-again
     enum-told-2
-    made-requires
+    after-requires-2
     mul-f2
     element-set-from-f2
     key-requires
@@ -502,40 +443,21 @@ run-spec =
     put-requires
     loop-less-2
     loop-again-2
-    enum-told-3
-    empty-requires
-    mul-f2-2
-    element-set-from-f2-2
-    key-requires-2
-    mul-keys-2
-    array-write-keys-2
     without-entity-requires
     clear-requires
     without-entity-requires-2
     loop-less-3
     loop-again-3
-    enum-told-4
-    renamed-requires
-    mul-f2-3
-    element-set-from-f2-3
-    key-requires-3
-    mul-keys-3
-    array-write-keys-3
     loop-less-4
     loop-again-4
-    enum-told-5
-    after-requires-2
+    enum-told-3
+    after-requires-3
     mul-p2-2
     element-set-from-p2-2
     put-requires-2
+    without-role-requires
     loop-less-5
     loop-again-5
-    enum-told-6
-    empty-requires-2
-    mul-p2-3
-    element-set-from-p2-3
-    put-requires-3
-    without-role-requires
     loop-less-6
     loop-again-6
     loop-less-7

@@ -20,14 +20,21 @@ returns-2 : tie.Need-returns-2
 unfolding roleAfter
 returns-2 c = rw (ne-eqb _ _ (c .before .before .before .if1 .left), eq-eqb _ _ (c .before .if2 .taken), c .granted2 .ensures)
 
-users-after-requires : tie.Need-users-after-requires
-users-after-requires c κs = search needs
+empty-requires : tie.Need-empty-requires
+empty-requires c κs = search needs
 
 returns-3 : tie.Need-returns-3
 unfolding roleAfter
-returns-3 c = rw (ne-eqb _ _ (c .before .before .before .if1 .left), ne-eqb _ _ (c .before .if2 .left), c .users-after .ensures)
+returns-3 c = rw (ne-eqb _ _ (c .before .before .before .before .before .if1 .left), ne-eqb _ _ (c .before .before .before .if2 .left), eq-eqb _ _ (c .before .if3 .taken), c .empty .ensures)
+
+users-after-requires : tie.Need-users-after-requires
+users-after-requires c κs = search needs
+
+returns-4 : tie.Need-returns-4
+unfolding roleAfter
+returns-4 c = rw (ne-eqb _ _ (c .before .before .before .before .before .if1 .left), ne-eqb _ _ (c .before .before .before .if2 .left), ne-eqb _ _ (c .before .if3 .left), c .users-after .ensures)
 
 pub after-spec : {M : Type 1} → statement M
 after-spec =
     tie.close
-    (tie.spec granted-requires returns granted-requires-2 returns-2 users-after-requires returns-3)
+    (tie.spec granted-requires returns granted-requires-2 returns-2 empty-requires returns-3 users-after-requires returns-4)
