@@ -66,8 +66,7 @@ module _ (t : Tables) (ok : sound t ≡ true) (q : Request) (p : Places) (P : Pl
         rights : asksRights (q .call) ≡ true → q .seat < 16 → RightsOf t (q .seat) (f .rights)
         rights a s =
             let same : p .seat ≡ q .seat = P .seat .same s in
-            let roles : cond (asksRights (q .call)) (sessionAt t (p .seat) .roles) 0 ≡ sessionAt t (q .seat) .roles = rw (a, same) in
-            rights-of t ok grants G (q .seat) (f .rights) (rw roles at (found .rights))
+            rights-of t ok grants G (q .seat) (f .rights) (rw same at (found .rights a))
 
         reached-so : asksWay (q .call) ≡ true → q .seat < 16 → q .entity < 64 → f .reached ≡ reaches t (q .seat) (q .entity)
         unfolding reachedBy asksRights either

@@ -4,7 +4,7 @@
 --   grants    for each role four sets of entities, one for each right: those of role r stand from 4 r on
 use Prim.Native.Nat.{ℕ, _+_, _*_, _/_, _%_, _<_}
 use mathlib.Core.Path.{_≡_}
-use mathlib.Core.Bool.{Bool, false, cond}
+use mathlib.Core.Bool.{Bool, true, false, cond}
 use mathlib.Core.List.{List, [], _∷_}
 use lib.Dec.{eqb}
 use lib.ListN.{length, getD}
@@ -74,8 +74,12 @@ unfoldable pub kinBy : List ℕ → ℕ → ℕ → ℕ → ℕ → Bool
 kinBy keys call e o name =
     cond (eqb call kind.delete) (childBy keys e) (cond (asksName call) (nameBy keys o name) false)
 
+abbrev pub foundNothing : Found
+foundNothing =
+    record { rights = record { reads = 0; writes = 0; executes = 0; owns = 0 }; reached = false; child = false }
+
 -- what a request asks of the tables, by a session that holds `held`
 pub record FoundBy (keys grants : List ℕ) (q : Request) (held e o : ℕ) (f : Found) : Type 0 where
-  pub rights : Gathered grants (cond (asksRights (q .call)) held 0) (f .rights)
+  pub rights : asksRights (q .call) ≡ true → Gathered grants held (f .rights)
   pub reached : f .reached ≡ reachedBy keys (q .call) e (f .rights .executes)
   pub child : f .child ≡ kinBy keys (q .call) e o (q .name)

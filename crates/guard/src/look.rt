@@ -99,14 +99,14 @@ pub fn asks_name(call: u32) -> bool
     (call == kinds::CREATE) | (call == kinds::RENAME)
 }
 
-// The roles held, for a kind that asks for rights; none for another.
-pub fn asking(call: u32, held: u16) -> u16
-    ensures { λ h. ⌜ h ≡ cond (asksRights call) held 0 ⌝ }
+// The kinds that ask for rights; the others ask nothing of the tables beside the records.
+pub fn asks_rights(call: u32) -> bool
+    ensures { λ b. ⌜ b ≡ asksRights call ⌝ }
 {
     match call {
-        kinds::OPENR | kinds::OPENW => held,
-        kinds::CREATE | kinds::DELETE | kinds::RENAME => held,
-        kinds::GRANT | kinds::REVOKE => held,
-        _ => 0,
+        kinds::OPENR | kinds::OPENW => true,
+        kinds::CREATE | kinds::DELETE | kinds::RENAME => true,
+        kinds::GRANT | kinds::REVOKE => true,
+        _ => false,
     }
 }

@@ -13,7 +13,7 @@ ghost use Prim.Native.Nat.{_<_};
 ghost use mathlib.Core.Path.{_≡_};
 ghost use lib.ListN.{length};
 ghost use Rattle.bitset.specs.Sets.{has};
-ghost use Rattle.guard.specs.Scan.{Grants, Granted, Cleared, Gathered, climbsBy, reachedBy, nameBy, childBy, kinBy, FoundBy};
+ghost use Rattle.guard.specs.Scan.{Grants, Granted, Cleared, Gathered, climbsBy, reachedBy, nameBy, childBy, kinBy, foundNothing, FoundBy};
 
 // How many sets the column of the roles has: four for each.
 const GRANTS: usize = 4 * ROLES;
@@ -186,6 +186,22 @@ fn kin(keys: &[u32; ENTITIES], call: u32, e: usize, o: usize, name: u32) -> bool
     false
 }
 
+fn nothing() -> Found
+    ensures { λ f. ⌜ f ≡ foundNothing ⌝ }
+{
+    let rights = Rights {
+        reads: 0,
+        writes: 0,
+        executes: 0,
+        owns: 0,
+    };
+    Found {
+        rights,
+        reached: false,
+        child: false,
+    }
+}
+
 // What a request with entity `e` and parent `o` asks of the tables, by a session that holds `held`.
 pub fn find(
     keys: &[u32; ENTITIES],
@@ -198,7 +214,10 @@ pub fn find(
     requires { ⌜ (e < 64) × (o < 64) ⌝ }
     ensures { λ f. ⌜ FoundBy (now (keys .entry)) (now (grants .entry)) q held e o f ⌝ }
 {
-    let rights = gather(grants, look::asking(q.call, held));
+    if !look::asks_rights(q.call) {
+        return nothing();
+    }
+    let rights = gather(grants, held);
     let reached = reached(keys, q.call, e, rights.executes);
     let child = kin(keys, q.call, e, o, q.name);
     Found {

@@ -158,7 +158,7 @@ same-length : tie.Need-same-length Inv-loop μ-loop
 same-length c = let refuse = c .before .before in rw (refuse .refuse .ensures .1) (simp (length-append, length-replicate, length-drop) (omega (arith, room (counted (refuse .before .before .before)))))
 
 returns-2 : tie.Need-returns-2 Inv-loop μ-loop
-returns-2 c = 
+returns-2 c =
     let refuse = c .before .before in
     let test = refuse .before .before in
     unsound-batch _ _ _ _ _ (sym (test .before .sound-by .ensures) ∙ not-true _ (test .if2 .taken)) (counted (test .before) .count .ensures) (refuse .refuse .ensures .1)
@@ -242,7 +242,7 @@ loop-less : tie.Need-loop-less Inv-loop μ-loop
 loop-less c = omega (arith, turn (c .before .before .before .before .before) .loop-test .taken)
 
 loop-again : tie.Need-loop-again Inv-loop μ-loop
-loop-again c = 
+loop-again c =
     let d = c .before .before .before .before in
     turned (d .before) _ (does-so d _ (session-stored _ _ (zero d) _ (near d) (told-session (c .before)) _ (c .after .ensures))) _ _
     (keys-other _ _ (keys-at (d .before .before)) _ refl)
@@ -285,7 +285,7 @@ loop-less-2 : tie.Need-loop-less-2 Inv-loop μ-loop
 loop-less-2 c = omega (arith, turn (c .before .before .before .before .before .before .before .before .before .before .before) .loop-test .taken)
 
 loop-again-2 : tie.Need-loop-again-2 Inv-loop μ-loop
-loop-again-2 c = 
+loop-again-2 c =
     let d = c .before .before .before .before .before .before .before .before .before .before in
     let own = c .before .before in
     let is = own .before in
@@ -308,7 +308,7 @@ loop-less-3 : tie.Need-loop-less-3 Inv-loop μ-loop
 loop-less-3 c = omega (arith, turn (c .before .before .before .before .before .before .before .before .before .before .before .before .before .before .before .before) .loop-test .taken)
 
 loop-again-3 : tie.Need-loop-again-3 Inv-loop μ-loop
-loop-again-3 c = 
+loop-again-3 c =
     let d = c .before .before .before .before .before .before .before .before .before .before .before .before .before .before .before in
     let clear = c .before .before in
     let roles = clear .before .before in
@@ -324,7 +324,7 @@ loop-less-4 : tie.Need-loop-less-4 Inv-loop μ-loop
 loop-less-4 c = omega (arith, turn (c .before .before .before .before .before .before .before .before .before .before) .loop-test .taken)
 
 loop-again-4 : tie.Need-loop-again-4 Inv-loop μ-loop
-loop-again-4 c = 
+loop-again-4 c =
     let d = c .before .before .before .before .before .before .before .before .before in
     let other = c .before .before in
     let key = other .before .before in
@@ -356,7 +356,7 @@ loop-less-5 : tie.Need-loop-less-5 Inv-loop μ-loop
 loop-less-5 c = omega (arith, turn (c .before .before .before .before .before .before .before .before .before .before .before) .loop-test .taken)
 
 loop-again-5 : tie.Need-loop-again-5 Inv-loop μ-loop
-loop-again-5 c = 
+loop-again-5 c =
     let d = c .before .before .before .before .before .before .before .before .before .before in
     let is = c .before .before in
     let put = is .before .before in
@@ -370,7 +370,7 @@ loop-less-6 : tie.Need-loop-less-6 Inv-loop μ-loop
 loop-less-6 c = omega (arith, turn (c .before .before .before .before .before .before .before .before .before) .loop-test .taken)
 
 loop-again-6 : tie.Need-loop-again-6 Inv-loop μ-loop
-loop-again-6 c = 
+loop-again-6 c =
     let d = c .before .before .before .before .before .before .before .before in
     let put = c .before .before in
     let p = put .before .before in
