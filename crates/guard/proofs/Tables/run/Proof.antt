@@ -130,6 +130,23 @@ does-so : (c : At tie.Then3) (u : Tables) → u ≡ ruleOf (asked (c .before .be
     → Stepped (tables (c .before .before)) (asked (c .before .before)) u (c .before .judge .result)
 does-so c u e = does _ _ _ (sure (c .before .before)) (judged (c .before)) (c .if3 .taken) u e
 
+-- the places of the stores: where the answer is 0, from where the entity's key or the role's sets are stored; where the key is
+-- stored, from the tests that follow it
+abbrev entity-done : At tie.After-key → At tie.Then3
+entity-done c = c .before .before .before .before .before
+
+abbrev role-done : At tie.After-put2 → At tie.Then3
+role-done c = c .before .before .before .before .before .before
+
+abbrev created : At tie.Then4 → At tie.After-key
+created c = c .before .before
+
+abbrev deleted : At tie.Then5 → At tie.After-key
+deleted c = c .before .before .before .before
+
+abbrev renamed : At tie.Else5 → At tie.After-key
+renamed c = c .before .before .before .before
+
 told-session : (c : At tie.After-enum-told) → asked (c .before .before .before .before .before) .call ≤ 6
 told-session c = told OfSession _ _ (c .before .before .change-of .ensures) (c .enum-told .given .1)
 
@@ -270,27 +287,27 @@ array-write-keys : tie.Need-array-write-keys Inv-loop μ-loop
 array-write-keys c = near (c .before .before .before .before .before) .entity .small
 
 owning-requires : tie.Need-owning-requires Inv-loop μ-loop
-owning-requires c κs = in-create _ (fits (c .before .before .before .before .before .before .before)) (c .if4 .taken) .entity
+owning-requires c κs = in-create _ (fits (entity-done (created c))) (c .if4 .taken) .entity
 
 mul-p2 : tie.Need-mul-p2 Inv-loop μ-loop
-mul-p2 c = omega (arith, near (c .before .before .before .before .before .before .before .before) .role .small)
+mul-p2 c = omega (arith, near (entity-done (created (c .before))) .role .small)
 
 element-set-from-p2 : tie.Need-element-set-from-p2 Inv-loop μ-loop
-element-set-from-p2 c = near (c .before .before .before .before .before .before .before .before) .role .small
+element-set-from-p2 c = near (entity-done (created (c .before))) .role .small
 
 put-requires : tie.Need-put-requires Inv-loop μ-loop
-put-requires c κs = (near (c .before .before .before .before .before .before .before .before .before) .role .small, grants-at (c .before .before .before .before .before .before .before .before .before .before .before) .long)
+put-requires c κs = let d = entity-done (created (c .before .before)) in (near d .role .small, grants-at (d .before .before) .long)
 
 loop-less-2 : tie.Need-loop-less-2 Inv-loop μ-loop
-loop-less-2 c = omega (arith, turn (c .before .before .before .before .before .before .before .before .before .before .before) .loop-test .taken)
+loop-less-2 c = let d = entity-done (created (c .before .before .before)) in omega (arith, turn (d .before) .loop-test .taken)
 
 loop-again-2 : tie.Need-loop-again-2 Inv-loop μ-loop
 loop-again-2 c =
-    let d = c .before .before .before .before .before .before .before .before .before .before in
     let own = c .before .before in
     let is = own .before in
-    let key = is .before .before in
+    let key = created is in
     let f = key .before in
+    let d = entity-done key in
     turned (d .before) _ (does-so d _ (create-stored _ _ (zero d) _ (near d) (is .if4 .taken) _ _ (f .after2 .ensures) (own .owning .ensures))) _ _
     (keys-set _ _ (keys-at (d .before .before)) _ (many d .manyEntities) _ (near d .entity .small) _ _ (key .key .ensures) refl)
     (grants-role _ _ (grants-at (d .before .before)) _ (many d .manyRoles) _ (near d .role .small) _ _ (c .put .ensures) refl)
@@ -299,38 +316,37 @@ without-entity-requires : tie.Need-without-entity-requires Inv-loop μ-loop
 without-entity-requires c κs = search needs
 
 clear-requires : tie.Need-clear-requires Inv-loop μ-loop
-clear-requires c κs = (near (c .before .before .before .before .before .before .before .before .before .before .before .before) .entity .small, grants-at (c .before .before .before .before .before .before .before .before .before .before .before .before .before .before) .long)
+clear-requires c κs = let d = entity-done (deleted (c .before .before .before)) in (near d .entity .small, grants-at (d .before .before) .long)
 
 without-entity-requires-2 : tie.Need-without-entity-requires-2 Inv-loop μ-loop
 without-entity-requires-2 c κs = search needs
 
 loop-less-3 : tie.Need-loop-less-3 Inv-loop μ-loop
-loop-less-3 c = omega (arith, turn (c .before .before .before .before .before .before .before .before .before .before .before .before .before .before .before .before) .loop-test .taken)
+loop-less-3 c = let d = entity-done (deleted (c .before .before .before .before .before .before)) in omega (arith, turn (d .before) .loop-test .taken)
 
 loop-again-3 : tie.Need-loop-again-3 Inv-loop μ-loop
 loop-again-3 c =
-    let d = c .before .before .before .before .before .before .before .before .before .before .before .before .before .before .before in
     let clear = c .before .before in
     let roles = clear .before .before in
     let is = roles .before .before in
-    let key = is .before .before .before .before in
+    let key = deleted is in
     let f = key .before in
+    let d = entity-done key in
     rw (roles .without-entity .ensures, c .without-entity2 .ensures)
     (turned (d .before) _ (does-so d _ (delete-stored _ _ (zero d) _ (near d) (is .if5 .taken) _ (f .after2 .ensures))) _ _
     (keys-set _ _ (keys-at (d .before .before)) _ (many d .manyEntities) _ (near d .entity .small) _ _ (key .key .ensures) refl)
     (grants-each _ _ (grants-at (d .before .before)) _ _ _ (rw (near d .entity .same (in-delete _ (fits d) (is .if5 .taken) .1)) at (clear .clear .ensures)) refl))
 
 loop-less-4 : tie.Need-loop-less-4 Inv-loop μ-loop
-loop-less-4 c = omega (arith, turn (c .before .before .before .before .before .before .before .before .before .before) .loop-test .taken)
+loop-less-4 c = let d = entity-done (renamed c) in omega (arith, turn (d .before) .loop-test .taken)
 
 loop-again-4 : tie.Need-loop-again-4 Inv-loop μ-loop
 loop-again-4 c =
-    let d = c .before .before .before .before .before .before .before .before .before in
-    let other = c .before .before in
-    let key = other .before .before in
+    let key = renamed c in
     let f = key .before in
+    let d = entity-done key in
     let told = told-entity (f .before) in
-    turned (d .before) _ (does-so d _ (rename-stored _ _ (zero d) _ (near d) (is-nine _ (told .0) (told .1) (other .if4 .left) (c .if5 .left)) _ (f .after2 .ensures))) _ _
+    turned (d .before) _ (does-so d _ (rename-stored _ _ (zero d) _ (near d) (is-nine _ (told .0) (told .1) (c .before .before .if4 .left) (c .if5 .left)) _ (f .after2 .ensures))) _ _
     (keys-set _ _ (keys-at (d .before .before)) _ (many d .manyEntities) _ (near d .entity .small) _ _ (key .key .ensures) refl)
     (grants-other _ _ (grants-at (d .before .before)) _ refl)
 
@@ -347,33 +363,33 @@ element-set-from-p2-2 : tie.Need-element-set-from-p2-2 Inv-loop μ-loop
 element-set-from-p2-2 c = near (c .before .before .before .before) .role .small
 
 put-requires-2 : tie.Need-put-requires-2 Inv-loop μ-loop
-put-requires-2 c κs = (near (c .before .before .before .before .before) .role .small, grants-at (c .before .before .before .before .before .before .before) .long)
+put-requires-2 c κs = let d = c .before .before .before .before .before in (near d .role .small, grants-at (d .before .before) .long)
 
 without-role-requires : tie.Need-without-role-requires Inv-loop μ-loop
 without-role-requires c κs = search needs
 
 loop-less-5 : tie.Need-loop-less-5 Inv-loop μ-loop
-loop-less-5 c = omega (arith, turn (c .before .before .before .before .before .before .before .before .before .before .before) .loop-test .taken)
+loop-less-5 c = let d = role-done (c .before .before .before .before) in omega (arith, turn (d .before) .loop-test .taken)
 
 loop-again-5 : tie.Need-loop-again-5 Inv-loop μ-loop
 loop-again-5 c =
-    let d = c .before .before .before .before .before .before .before .before .before .before in
     let is = c .before .before in
     let put = is .before .before in
     let p = put .before .before in
+    let d = role-done put in
     rw (c .without-role .ensures)
     (turned (d .before) _ (does-so d _ (unmake-stored _ _ (zero d) _ (near d) (is .if6 .taken) _ (p .after3 .ensures))) _ _
     (keys-other _ _ (keys-at (d .before .before)) _ refl)
     (grants-role _ _ (grants-at (d .before .before)) _ (many d .manyRoles) _ (near d .role .small) _ _ (put .put2 .ensures) refl))
 
 loop-less-6 : tie.Need-loop-less-6 Inv-loop μ-loop
-loop-less-6 c = omega (arith, turn (c .before .before .before .before .before .before .before .before .before) .loop-test .taken)
+loop-less-6 c = let d = role-done (c .before .before) in omega (arith, turn (d .before) .loop-test .taken)
 
 loop-again-6 : tie.Need-loop-again-6 Inv-loop μ-loop
 loop-again-6 c =
-    let d = c .before .before .before .before .before .before .before .before in
     let put = c .before .before in
     let p = put .before .before in
+    let d = role-done put in
     turned (d .before) _ (does-so d _ (role-stored _ _ (zero d) _ (near d) (sure (d .before .before)) (told-role (p .before)) (c .if6 .left) _ (p .after3 .ensures))) _ _
     (keys-other _ _ (keys-at (d .before .before)) _ refl)
     (grants-role _ _ (grants-at (d .before .before)) _ (many d .manyRoles) _ (near d .role .small) _ _ (put .put2 .ensures) refl)

@@ -40,7 +40,7 @@ returns-4 : tie.Need-returns-4
 returns-4 c = refuted _ _ _ (c .before .have-own-keys .ensures) (λ h. names-pass _ h _ (c .before .before .before .before .before .before .before .before .pre)) (c .if4 .taken)
 
 live-set-requires : tie.Need-live-set-requires
-live-set-requires c κs = let two = c .before .before .before .before in keys-small _ _ (c .before .before .before .before .before .before .before .before .pre) (met _ _ (two .before .entities-ok .ensures) (two .if2 .left))
+live-set-requires c κs = let two = c .before .before .before .before in keys-small _ _ (two .before .before .before .before .pre) (met _ _ (two .before .entities-ok .ensures) (two .if2 .left))
 
 roles-ok-requires : tie.Need-roles-ok-requires
 roles-ok-requires c κs = search needs

@@ -34,15 +34,15 @@ has64-requires-2 c κs = search needs
 
 returns-4 : tie.Need-returns-4
 unfolding either
-returns-4 c = rw (← c .before .before .before .before .before .before .before .made .ensures, ← c .before .before .has64 .ensures, ← c .before .has642 .ensures) (search refusing depth 14 fits 4000)
+returns-4 c = let sets = c .before in rw (← sets .before .before .before .before .before .before .made .ensures, ← sets .before .has64 .ensures, ← sets .has642 .ensures) (search refusing depth 14 fits 4000)
 
 returns-5 : tie.Need-returns-5
 unfolding either
-returns-5 c = rw (← c .before .before .before .before .before .before .before .before .made .ensures, ← c .before .before .before .has64 .ensures, ← c .before .before .has642 .ensures) (search refusing depth 14 fits 4000)
+returns-5 c = let sets = c .before .before in rw (← sets .before .before .before .before .before .before .made .ensures, ← sets .before .has64 .ensures, ← sets .has642 .ensures) (search refusing depth 14 fits 4000)
 
 returns-6 : tie.Need-returns-6
 unfolding either
-returns-6 c = rw (← c .before .before .before .before .before .before .before .before .made .ensures, ← c .before .before .before .has64 .ensures, ← c .before .before .has642 .ensures) (search refusing depth 14 fits 4000)
+returns-6 c = let sets = c .before .before in rw (← sets .before .before .before .before .before .before .made .ensures, ← sets .before .has64 .ensures, ← sets .has642 .ensures) (search refusing depth 14 fits 4000)
 
 pub create-refusal-from-10-spec : {M : Type 1} → statement M
 create-refusal-from-10-spec =

@@ -36,7 +36,10 @@ returns-7 : tie.Need-returns-7
 returns-7 c = fits-open _ (c .before .if1 .left) (c .if2 .taken)
 
 returns-8 : tie.Need-returns-8
-returns-8 c = fits-grant _ (past-nine _ (c .before .before .before .if2 .left) (c .before .before .before .before .before .match .rest .0 .0 .1) (c .before .before .before .before .before .match .rest .0 .1) (c .before .before .before .before .before .match .rest .1)) (c .before .before .if3 .taken)
+returns-8 c =
+    let past = c .before .before .before in
+    let rest = past .before .before .match .rest in
+    fits-grant _ (past-nine _ (past .if2 .left) (rest .0 .0 .1) (rest .0 .1) (rest .1)) (c .before .before .if3 .taken)
 
 returns-9 : tie.Need-returns-9
 returns-9 c = fits-list _ (c .before .if3 .left) (c .if4 .taken)

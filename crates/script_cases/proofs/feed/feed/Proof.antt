@@ -39,13 +39,23 @@ work-requires : tie.Need-work-requires Inv-loop μ-loop
 work-requires c κs = search needs
 
 same-length-4 : tie.Need-same-length-4 Inv-loop μ-loop
-same-length-4 c = omega (arith, c .before .before .before .before .before .before .before .before .work .kept .1 .0, c .before .before .before .before .before .before .before .before .before .before .before .before .before .before .before .before .supply .kept .1 .1 .1 .1 .0, c .before .before .before .before .before .before .before .before .before .before .before .before .before .before .before .before .before .before .before .loop .inv .0)
+same-length-4 c =
+    let worked = c .before .before .before .before .before .before .before .before in
+    let supplied = worked .before .before .before .before .before .before .before .before in
+    let turn = supplied .before .before .before in
+    omega (arith, worked .work .kept .1 .0, supplied .supply .kept .1 .1 .1 .1 .0, turn .loop .inv .0)
 
 same-length-5 : tie.Need-same-length-5 Inv-loop μ-loop
-same-length-5 c = omega (arith, c .before .before .before .before .before .before .before .before .work .kept .1 .1 .1 .1 .0, c .before .before .before .before .before .before .before .before .before .before .before .before .before .before .before .before .before .before .before .loop .inv .1 .0)
+same-length-5 c =
+    let worked = c .before .before .before .before .before .before .before .before in
+    let turn = worked .before .before .before .before .before .before .before .before .before .before .before in
+    omega (arith, worked .work .kept .1 .1 .1 .1 .0, turn .loop .inv .1 .0)
 
 same-length-6 : tie.Need-same-length-6 Inv-loop μ-loop
-same-length-6 c = omega (arith, c .before .before .before .before .before .before .before .before .work .kept .1 .1 .1 .1 .1 .0, c .before .before .before .before .before .before .before .before .before .before .before .before .before .before .before .before .before .before .before .loop .inv .1 .1)
+same-length-6 c =
+    let worked = c .before .before .before .before .before .before .before .before in
+    let turn = worked .before .before .before .before .before .before .before .before .before .before .before in
+    omega (arith, worked .work .kept .1 .1 .1 .1 .1 .0, turn .loop .inv .1 .1)
 
 returns-2 : tie.Need-returns-2 Inv-loop μ-loop
 returns-2 c = search needs
@@ -57,7 +67,11 @@ loop-less : tie.Need-loop-less Inv-loop μ-loop
 loop-less c = search needs
 
 loop-again : tie.Need-loop-again Inv-loop μ-loop
-loop-again c = (omega (arith, c .before .before .before .before .before .before .before .before .before .work .kept .1 .0, c .before .before .before .before .before .before .before .before .before .before .before .before .before .before .before .before .before .supply .kept .1 .1 .1 .1 .0, c .before .before .before .before .before .before .before .before .before .before .before .before .before .before .before .before .before .before .before .before .loop .inv .0), (omega (arith, c .before .before .before .before .before .before .before .before .before .work .kept .1 .1 .1 .1 .0, c .before .before .before .before .before .before .before .before .before .before .before .before .before .before .before .before .before .before .before .before .loop .inv .1 .0), omega (arith, c .before .before .before .before .before .before .before .before .before .work .kept .1 .1 .1 .1 .1 .0, c .before .before .before .before .before .before .before .before .before .before .before .before .before .before .before .before .before .before .before .before .loop .inv .1 .1)))
+loop-again c =
+    let worked = c .before .before .before .before .before .before .before .before .before in
+    let supplied = worked .before .before .before .before .before .before .before .before in
+    let turn = supplied .before .before .before in
+    (omega (arith, worked .work .kept .1 .0, supplied .supply .kept .1 .1 .1 .1 .0, turn .loop .inv .0), (omega (arith, worked .work .kept .1 .1 .1 .1 .0, turn .loop .inv .1 .0), omega (arith, worked .work .kept .1 .1 .1 .1 .1 .0, turn .loop .inv .1 .1)))
 
 same-length-7 : tie.Need-same-length-7 Inv-loop μ-loop
 same-length-7 c = search needs

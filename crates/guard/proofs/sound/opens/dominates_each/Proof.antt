@@ -68,9 +68,10 @@ loop-less c = rw (c .without64 .ensures) (without-less _ _ (low (c .before .befo
 
 loop-again : tie.Need-loop-again Inv-loop μ-loop
 loop-again c =
-    let b = c .before .before .before .before .before .before .loop .inv in
+    let l = c .before .before .before .before .before .before .loop in
+    let b = l .inv in
     rw (c .without64 .ensures) (
-      omega (arith, without-le (c .before .before .before .before .before .before .loop .m) (trailingZeros 64 (c .before .before .before .before .before .before .loop .m)), b .0),
+      omega (arith, without-le (l .m) (trailingZeros 64 (l .m)), b .0),
       b .1 ∙ members-next _ _ _ (every-i _ (le-leb _ _ (c .before .before .before .if1 .left), (left-none _ _ _ (c .before .before .minus8 .ensures) (c .before .if2 .left), tt))),
     )
 

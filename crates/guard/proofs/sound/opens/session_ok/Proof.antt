@@ -37,8 +37,12 @@ labels-allowed-requires c κs = search needs
 
 returns-4 : tie.Need-returns-4
 returns-4 c =
-    let a = c .before .before .before .before .before .before .before .before .args in
-    session-last (a .labels .now) (a .roles) (a .level) (a .s) _ _ _ _ (of-not-false (a .s .live) (c .before .before .before .before .before .before .if1 .left)) (c .before .before .before .before .before .session-in-range .ensures) (c .before .before .before .before .contains16 .ensures) (c .before .before .before .if2 .left) (c .before .before .levels-allowed .ensures) (c .before .if3 .left) (c .labels-allowed .ensures)
+    let levels = c .before .before in
+    let held = levels .before .before in
+    let range = held .before in
+    let live = range .before in
+    let a = live .before .before .args in
+    session-last (a .labels .now) (a .roles) (a .level) (a .s) _ _ _ _ (of-not-false (a .s .live) (live .if1 .left)) (range .session-in-range .ensures) (held .contains16 .ensures) (levels .before .if2 .left) (levels .levels-allowed .ensures) (c .before .if3 .left) (c .labels-allowed .ensures)
 
 pub session-ok-spec : {M : Type 1} → statement M
 session-ok-spec =
