@@ -1,7 +1,6 @@
 -- Logs, request by request, as a run over rows goes.
 --     run-snoc, answers-snoc, length-answers      one request more at the end of a log
 --     store-more, ones-store        the next answer, stored in its place
---     length-requests               as many as there are rows
 --     batch-room, batch-rows        a batch has room for its answers, and each of its rows is whole
 --     all-refused                   on unsound tables every answer is 1, and the tables stay
 -- Assumes nothing.
@@ -36,11 +35,6 @@ pub length-answers : (t : Tables) (log : List Request) → length (answers t log
 unfolding answers
 length-answers t [] = refl
 length-answers t (q ∷ log) = ap suc (length-answers (next t q) log)
-
-pub length-requests : (n : ℕ) (rows : List ℕ) → length (requests n rows) ≡ n
-unfolding requests
-length-requests zero rows = refl
-length-requests (suc n) rows = length-append (requests n rows) _ ∙ rw (length-requests n rows) (add-one n)
 
 -- the next answer, stored behind those that are there
 pub store-more : (l old : List ℕ) (i v : ℕ) → length l ≡ i → i < length old → set (l ++ drop i old) i v ≡ (l ++ (v ∷ [])) ++ drop (i + 1) old

@@ -13,18 +13,20 @@ use native.Mathlib.Numerals.{add-one}
 use native.Mathlib.Omega.{arith}
 use lib.ListN.{length, getD, set, drop, replicate, length-append, length-drop}
 use borrow.Author.Tests.{eq-eqb, ne-eqb}
+use Rattle.guard.specs.Fresh.{tabulate}
 use Rattle.guard.specs.Sound.{sound}
 use Rattle.guard.specs.Refusals.{first}
 use Rattle.guard.specs.Requests.{ruleOf}
 use Rattle.guard.specs.Step.{inRanges, answer, next, step, run, answers}
-use Rattle.guard.specs.Batch.{requestAt, requests, batchLength, RunsBatch}
+use Rattle.guard.specs.Batch.{rowOf, requestAt, requests, batchLength, RunsBatch}
 use Rattle.guard.specs.Inside.{number}
 use Rattle.guard.specs.Scan.{Keys, Grants}
 use Rattle.guard.specs.declared.Tables.{Tables}
 use Rattle.guard.specs.declared.Request.{Request}
 use Rattle.guard.specs.declared.Outcome.{Outcome}
 use Rattle.guard.proofs.Kept.{sound-next}
-use Rattle.guard.proofs.Logs.{run-snoc, answers-snoc, length-answers, length-requests, store-more, all-refused}
+use Rattle.guard.proofs.Filling.{length-tabulate}
+use Rattle.guard.proofs.Logs.{run-snoc, answers-snoc, length-answers, store-more, all-refused}
 
 -- ---- a number, and where it is 0 what the rule does, are the step
 pub record Stepped (t : Tables) (q : Request) (u : Tables) (n : ℕ) : Type 0 where
@@ -53,16 +55,16 @@ pub record Held (t₀ : Tables) (rows old : List ℕ) (i : ℕ) (t : Tables) (sa
   pub grants : Grants t g
 
 pub held-none : (t : Tables) (rows old keys grants : List ℕ) → sound t ≡ true → Keys t keys → Grants t grants → Held t rows old 0 t old keys grants
-unfolding run answers requests
+unfolding run answers tabulate
 held-none t rows old keys grants h K G = record { ran = refl; isSound = h; answered = refl; keys = K; grants = G }
 
 module _ (t₀ : Tables) (rows old : List ℕ) (i : ℕ) (t : Tables) (said keys grants : List ℕ) (held : Held t₀ rows old i t said keys grants) where
   one-more : requests (i + 1) rows ≡ requests i rows ++ (requestAt rows i ∷ [])
-  unfolding requests
+  unfolding tabulate
   one-more = rw add-one
 
   passed : length (answers t₀ (requests i rows)) ≡ i
-  passed = length-answers t₀ (requests i rows) ∙ length-requests i rows
+  passed = length-answers t₀ (requests i rows) ∙ length-tabulate (requestAt rows) i
 
   pub held-more : (q : Request) → q ≡ requestAt rows i → i < length old → (u : Tables) (n : ℕ) → Stepped t q u n → (keys′ grants′ : List ℕ) → Keys u keys′ → Grants u grants′
       → Held t₀ rows old (i + 1) u (set said i n) keys′ grants′
@@ -86,7 +88,7 @@ module _ (t₀ : Tables) (rows old : List ℕ) (i : ℕ) (t : Tables) (said keys
 
 -- ---- of no request
 pub no-batch : (t : Tables) (rows old : List ℕ) → 0 ≡ batchLength (length rows) (length old) → RunsBatch t rows old old t
-unfolding requests run answers
+unfolding tabulate run answers
 no-batch t rows old h = record { tables = rw (← h); answered = rw (← h) }
 
 -- ---- on unsound tables
@@ -96,28 +98,13 @@ unsound-batch t rows old new n h e same =
     let (stays, ones) = all-refused t (requests (batchLength (length rows) (length old)) rows) h in
     record {
       tables = sym stays;
-      answered = same ∙ rw (e, ones, length-requests (batchLength (length rows) (length old)) rows);
+      answered = same ∙ rw (e, ones, length-tabulate (requestAt rows) (batchLength (length rows) (length old)));
     }
 
 -- ---- a batch of one request
-abbrev pub rowOf : Request → List ℕ
-rowOf q =
-    q .call
-    ∷ q .seat
-    ∷ q .user
-    ∷ q .role
-    ∷ q .entity
-    ∷ q .parent
-    ∷ q .kind
-    ∷ q .name
-    ∷ q .level
-    ∷ q .cats
-    ∷ q .rights
-    ∷ []
-
 pub one-request : (t u : Tables) (q : Request) (rows old new : List ℕ) (o : ℕ) → rows ≡ rowOf q → old ≡ 0 ∷ [] → RunsBatch t rows old new u → o ≡ getD new 0 0
     → _≡_ {A = Outcome} (record { tables = u; answer = o }) (step t q)
-unfolding batchLength requests requestAt run answers step
+unfolding batchLength tabulate requestAt run answers step
 one-request t u q rows old new o row room h first =
     let after : u ≡ next t q = h .tables ∙ rw (row, room) in
     let told : new ≡ answer t q ∷ [] = h .answered ∙ rw (row, room) in

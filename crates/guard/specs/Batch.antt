@@ -1,10 +1,11 @@
 -- A batch: requests handed over as rows of numbers, made one after the other.
-use Prim.Native.Nat.{ℕ, zero, suc, _+_, _*_, _/_}
+use Prim.Native.Nat.{ℕ, _+_, _*_, _/_}
 use mathlib.Core.Path.{_≡_}
 use mathlib.Core.Bool.{cond}
 use mathlib.Core.List.{List, [], _∷_, _++_}
 use lib.Dec.{leb}
 use lib.ListN.{length, getD, drop}
+use Rattle.guard.specs.Fresh.{tabulate}
 use Rattle.guard.specs.Step.{run, answers}
 use Rattle.guard.specs.Methods.{request}
 use Rattle.guard.specs.declared.Tables.{Tables}
@@ -13,6 +14,10 @@ use Rattle.guard.specs.declared.Request.{Request}
 -- A request is a row of eleven numbers, in the order of the record's fields.
 abbrev pub rowLength : ℕ
 rowLength = 11
+
+abbrev pub rowOf : Request → List ℕ
+rowOf q =
+    q .call ∷ q .seat ∷ q .user ∷ q .role ∷ q .entity ∷ q .parent ∷ q .kind ∷ q .name ∷ q .level ∷ q .cats ∷ q .rights ∷ []
 
 -- the number in column j of row i
 abbrev pub cell : List ℕ → ℕ → ℕ → ℕ
@@ -23,9 +28,8 @@ requestAt rows i =
     request (cell rows i 0) (cell rows i 1) (cell rows i 2) (cell rows i 3) (cell rows i 4) (cell rows i 5) (cell rows i 6) (cell rows i 7) (cell rows i 8) (cell rows i 9) (cell rows i 10)
 
 -- the requests of the first n rows
-unfoldable pub requests : ℕ → List ℕ → List Request
-requests zero rows = []
-requests (suc n) rows = requests n rows ++ (requestAt rows n ∷ [])
+abbrev pub requests : ℕ → List ℕ → List Request
+requests n rows = tabulate n (requestAt rows)
 
 -- as many as stand whole in so many numbers and have room for their answers
 unfoldable pub batchLength : ℕ → ℕ → ℕ

@@ -11,6 +11,7 @@ use Rattle.bitset.specs.Sets.{has, contains, with, without}
 use Rattle.guard.specs.Level.{userCount, sessionCount, roleCount, entityCount, isRoot}
 use Rattle.guard.specs.Tables.{noSession, noRole, noEntity, userAt, sessionAt, roleAt, entityAt, hasRight, read, write, execute, own}
 use Rattle.guard.specs.Chain.{reaches}
+use Rattle.guard.specs.Sound.{topName}
 use Rattle.guard.specs.Edits.{takeRole, dropRole, openReading, openWriting, closeBoth, putIn, renameTo}
 use Rattle.guard.specs.Refusals.{_when_, first}
 use Rattle.guard.specs.Conditions.{nameTaken, hasChildren, recordedParent}
@@ -95,8 +96,8 @@ pub record Seen (t : Tables) (q : Request) (v : View) : Type 0 where
   pub parent : q .call ≡ kind.create → q .parent < entityCount → v .parent ≡ entityAt t (q .parent)
   pub rights : asksRights (q .call) ≡ true → q .seat < sessionCount → RightsOf t (q .seat) (v .found .rights)
   pub reached : asksWay (q .call) ≡ true → q .seat < sessionCount → q .entity < entityCount → v .found .reached ≡ reaches t (q .seat) (q .entity)
-  pub created : q .call ≡ kind.create → q .parent < entityCount → 1 ≤ q .name → q .name ≤ 65535 → v .found .child ≡ nameTaken t q (q .parent)
-  pub renamed : q .call ≡ kind.rename → q .entity < entityCount → 1 ≤ q .name → q .name ≤ 65535
+  pub created : q .call ≡ kind.create → q .parent < entityCount → 1 ≤ q .name → q .name ≤ topName → v .found .child ≡ nameTaken t q (q .parent)
+  pub renamed : q .call ≡ kind.rename → q .entity < entityCount → 1 ≤ q .name → q .name ≤ topName
       → v .found .child ≡ nameTaken t q (recordedParent t q)
   pub deleted : q .call ≡ kind.delete → q .entity < entityCount → isRoot (q .entity) ≡ false → v .found .child ≡ hasChildren t q
 

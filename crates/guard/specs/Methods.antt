@@ -1,5 +1,6 @@
 -- The request that each method of the tables makes: its number, its arguments, and 0 in the fields that it does not use.
 use Prim.Native.Nat.{ℕ}
+use Rattle.guard.specs.Kind.{login, logout, create, rename}
 use Rattle.guard.specs.declared.Request.{Request}
 
 -- the fields in the order of the record: call, seat, user, role, entity, parent, kind, name, level, cats, rights
@@ -20,29 +21,29 @@ request call seat user role entity parent kind name level cats rights =
     }
 
 abbrev pub loginRequest : ℕ → ℕ → ℕ → ℕ → Request
-loginRequest seat user level cats = request 0 seat user 0 0 0 0 0 level cats 0
+loginRequest seat user level cats = request login seat user 0 0 0 0 0 level cats 0
 
 abbrev pub logoutRequest : ℕ → Request
-logoutRequest seat = request 1 seat 0 0 0 0 0 0 0 0 0
+logoutRequest seat = request logout seat 0 0 0 0 0 0 0 0 0
 
--- take 2, drop 3, make 14, unmake 15: a seat and a role
+-- take, drop, make, unmake: a seat and a role
 abbrev pub roleRequest : ℕ → ℕ → ℕ → Request
 roleRequest call seat role = request call seat 0 role 0 0 0 0 0 0 0
 
--- openr 4, openw 5, close 6, delete 8: a seat and an entity
+-- openr, openw, close, delete: a seat and an entity
 abbrev pub entityRequest : ℕ → ℕ → ℕ → Request
 entityRequest call seat entity = request call seat 0 0 entity 0 0 0 0 0 0
 
 abbrev pub createRequest : ℕ → ℕ → ℕ → ℕ → ℕ → ℕ → ℕ → ℕ → Request
-createRequest seat entity kind parent name level cats role = request 7 seat 0 role entity parent kind name level cats 0
+createRequest seat entity kind parent name level cats role = request create seat 0 role entity parent kind name level cats 0
 
 abbrev pub renameRequest : ℕ → ℕ → ℕ → Request
-renameRequest seat entity name = request 9 seat 0 0 entity 0 0 name 0 0 0
+renameRequest seat entity name = request rename seat 0 0 entity 0 0 name 0 0 0
 
--- grant 10, revoke 11: a seat, a role, an entity and rights
+-- grant, revoke: a seat, a role, an entity and rights
 abbrev pub rightsRequest : ℕ → ℕ → ℕ → ℕ → ℕ → Request
 rightsRequest call seat role entity rights = request call seat 0 role entity 0 0 0 0 0 rights
 
--- list 12, unlist 13: a seat, a role and a user
+-- list, unlist: a seat, a role and a user
 abbrev pub listRequest : ℕ → ℕ → ℕ → ℕ → Request
 listRequest call seat role user = request call seat user role 0 0 0 0 0 0 0

@@ -43,7 +43,7 @@ pub record Granted (old : List ℕ) (r : ℕ) (p : Role) (new : List ℕ) : Type
 
 pub record Cleared (old : List ℕ) (e : ℕ) (new : List ℕ) : Type 0 where
   pub long : length new ≡ 4 * roleCount
-  pub each : (j : ℕ) → j < 64 → getD new j 0 ≡ without (getD old j 0) e
+  pub each : (j : ℕ) → j < 4 * roleCount → getD new j 0 ≡ without (getD old j 0) e
 
 -- ---- the scans
 -- one of the roles held has the right k on e

@@ -129,7 +129,7 @@ fn renamed(name: u32, f: Entity) -> Entity
     n
 }
 
-fn empty() -> Entity
+pub fn empty() -> Entity
     ensures { λ n. ⌜ n ≡ noEntity ⌝ }
 {
     let none = Label { cats: 0, grade: 0 };

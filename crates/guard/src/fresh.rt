@@ -3,11 +3,15 @@ use crate::Entity;
 use crate::Label;
 use crate::Outcome;
 use crate::Role;
-use crate::Session;
 use crate::Tables;
 use crate::User;
+use crate::entities;
+use crate::roles;
+use crate::sessions;
 use crate::sizes::BLOCK;
+use crate::sizes::CONTAINER;
 use crate::sizes::ENTITIES;
+use crate::sizes::LEVEL_ROLES;
 use crate::sizes::ROLES;
 use crate::sizes::SESSIONS;
 use crate::sizes::USERS;
@@ -15,12 +19,15 @@ ghost use mathlib.Core.Path.{_≡_};
 ghost use Prim.Native.Nat.{_<_};
 ghost use Rattle.guard.specs.Fresh.{freshRole, freshEntity, tabulate, fresh, build};
 
+// How many roles a level has, as an index.
+const LEVEL: usize = LEVEL_ROLES as usize;
+
 fn fresh_role(r: usize) -> Role
     requires { ⌜ r < 16 ⌝ }
     ensures { λ p. ⌜ p ≡ freshRole r ⌝ }
 {
-    if r % 4 == 0 {
-        let root = bitset::with64(0, (r / 4 * 16) as u32);
+    if r % LEVEL == 0 {
+        let root = bitset::with64(0, (r / LEVEL * BLOCK) as u32);
         return Role {
             live: true,
             users: 1,
@@ -30,50 +37,30 @@ fn fresh_role(r: usize) -> Role
             owns: root,
         };
     }
-    Role {
-        live: false,
-        users: 0,
-        reads: 0,
-        writes: 0,
-        executes: 0,
-        owns: 0,
-    }
+    roles::empty()
 }
 
 fn fresh_entity(e: usize) -> Entity
     requires { ⌜ e < 64 ⌝ }
     ensures { λ n. ⌜ n ≡ freshEntity e ⌝ }
 {
-    let none = Label { cats: 0, grade: 0 };
     if e % BLOCK == 0 {
+        let none = Label { cats: 0, grade: 0 };
         return Entity {
             live: true,
-            kind: 1,
+            kind: CONTAINER,
             parent: e as u8,
             name: 0,
             label: none,
         };
     }
-    Entity {
-        live: false,
-        kind: 0,
-        parent: 0,
-        name: 0,
-        label: none,
-    }
+    entities::empty()
 }
 
 fn fresh_roles() -> [Role; ROLES]
     ensures { λ l. ⌜ l ≡ tabulate 16 freshRole ⌝ }
 {
-    let dead = Role {
-        live: false,
-        users: 0,
-        reads: 0,
-        writes: 0,
-        executes: 0,
-        owns: 0,
-    };
+    let dead = roles::empty();
     let mut roles = [dead; ROLES];
     let mut i = 0usize;
     while i < ROLES {
@@ -87,14 +74,7 @@ fn fresh_roles() -> [Role; ROLES]
 fn fresh_entities() -> [Entity; ENTITIES]
     ensures { λ l. ⌜ l ≡ tabulate 64 freshEntity ⌝ }
 {
-    let none = Label { cats: 0, grade: 0 };
-    let dead = Entity {
-        live: false,
-        kind: 0,
-        parent: 0,
-        name: 0,
-        label: none,
-    };
+    let dead = entities::empty();
     let mut entities = [dead; ENTITIES];
     let mut i = 0usize;
     while i < ENTITIES {
@@ -108,15 +88,7 @@ fn fresh_entities() -> [Entity; ENTITIES]
 fn fresh_over(users: [User; USERS]) -> Tables
     ensures { λ t. ⌜ t ≡ fresh users ⌝ }
 {
-    let none = Label { cats: 0, grade: 0 };
-    let dead = Session {
-        live: false,
-        user: 0,
-        label: none,
-        roles: 0,
-        reading: 0,
-        writing: 0,
-    };
+    let dead = sessions::empty();
     let sessions = [dead; SESSIONS];
     let roles = fresh_roles();
     let entities = fresh_entities();

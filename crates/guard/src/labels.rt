@@ -1,5 +1,6 @@
 // Labels: a grade and a set of eight categories.
 use crate::Label;
+use crate::sizes::TOP_GRADE;
 ghost use Prim.Native.Nat.{_≤_};
 ghost use mathlib.Core.Path.{_≡_};
 ghost use Rattle.guard.specs.Label.{labelInRange, dominates as dominatesOf, sameLabel, label};
@@ -22,7 +23,7 @@ pub fn same(a: Label, b: Label) -> bool
 pub fn in_range(a: Label) -> bool
     ensures { λ r. ⌜ r ≡ labelInRange a ⌝ }
 {
-    a.grade <= 3
+    a.grade <= TOP_GRADE
 }
 
 // The label asked for, in a host's wider numbers.

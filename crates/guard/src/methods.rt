@@ -3,8 +3,10 @@
 use crate::Outcome;
 use crate::Request;
 use crate::Tables;
+use crate::kinds;
 ghost use mathlib.Core.Path.{_≡_};
 ghost use Rattle.guard.specs.Step.{step};
+ghost use Rattle.guard.specs.Kind.{take, drop, openr, openw, close, delete, grant, revoke, list, unlist, make, unmake};
 ghost use Rattle.guard.specs.Methods.{request, loginRequest, logoutRequest, roleRequest, entityRequest, createRequest, renameRequest, rightsRequest, listRequest};
 
 // A request with 0 in every field.
@@ -28,7 +30,7 @@ impl Tables {
         ensures { λ o. ⌜ o ≡ step self (loginRequest seat user level cats) ⌝ }
     {
         let mut q = BLANK;
-        q.call = 0;
+        q.call = kinds::LOGIN;
         q.seat = seat;
         q.user = user;
         q.level = level;
@@ -41,17 +43,17 @@ impl Tables {
         ensures { λ o. ⌜ o ≡ step self (logoutRequest seat) ⌝ }
     {
         let mut q = BLANK;
-        q.call = 1;
+        q.call = kinds::LOGOUT;
         q.seat = seat;
         self.step(q)
     }
 
     // The seat holds the role.
     pub fn take(self, seat: u32, role: u32) -> Outcome
-        ensures { λ o. ⌜ o ≡ step self (roleRequest 2 seat role) ⌝ }
+        ensures { λ o. ⌜ o ≡ step self (roleRequest take seat role) ⌝ }
     {
         let mut q = BLANK;
-        q.call = 2;
+        q.call = kinds::TAKE;
         q.seat = seat;
         q.role = role;
         self.step(q)
@@ -59,10 +61,10 @@ impl Tables {
 
     // The seat no longer holds the role.
     pub fn drop(self, seat: u32, role: u32) -> Outcome
-        ensures { λ o. ⌜ o ≡ step self (roleRequest 3 seat role) ⌝ }
+        ensures { λ o. ⌜ o ≡ step self (roleRequest drop seat role) ⌝ }
     {
         let mut q = BLANK;
-        q.call = 3;
+        q.call = kinds::DROP;
         q.seat = seat;
         q.role = role;
         self.step(q)
@@ -70,10 +72,10 @@ impl Tables {
 
     // The seat has the entity open for reading.
     pub fn openr(self, seat: u32, entity: u32) -> Outcome
-        ensures { λ o. ⌜ o ≡ step self (entityRequest 4 seat entity) ⌝ }
+        ensures { λ o. ⌜ o ≡ step self (entityRequest openr seat entity) ⌝ }
     {
         let mut q = BLANK;
-        q.call = 4;
+        q.call = kinds::OPENR;
         q.seat = seat;
         q.entity = entity;
         self.step(q)
@@ -81,10 +83,10 @@ impl Tables {
 
     // The seat has the entity open for writing.
     pub fn openw(self, seat: u32, entity: u32) -> Outcome
-        ensures { λ o. ⌜ o ≡ step self (entityRequest 5 seat entity) ⌝ }
+        ensures { λ o. ⌜ o ≡ step self (entityRequest openw seat entity) ⌝ }
     {
         let mut q = BLANK;
-        q.call = 5;
+        q.call = kinds::OPENW;
         q.seat = seat;
         q.entity = entity;
         self.step(q)
@@ -92,10 +94,10 @@ impl Tables {
 
     // The seat has the entity open in no way.
     pub fn close(self, seat: u32, entity: u32) -> Outcome
-        ensures { λ o. ⌜ o ≡ step self (entityRequest 6 seat entity) ⌝ }
+        ensures { λ o. ⌜ o ≡ step self (entityRequest close seat entity) ⌝ }
     {
         let mut q = BLANK;
-        q.call = 6;
+        q.call = kinds::CLOSE;
         q.seat = seat;
         q.entity = entity;
         self.step(q)
@@ -116,7 +118,7 @@ impl Tables {
         ensures { λ o. ⌜ o ≡ step self (createRequest seat entity kind parent name level cats role) ⌝ }
     {
         let mut q = BLANK;
-        q.call = 7;
+        q.call = kinds::CREATE;
         q.seat = seat;
         q.role = role;
         q.entity = entity;
@@ -130,10 +132,10 @@ impl Tables {
 
     // The entity, all rights on it and all opens of it go.
     pub fn delete(self, seat: u32, entity: u32) -> Outcome
-        ensures { λ o. ⌜ o ≡ step self (entityRequest 8 seat entity) ⌝ }
+        ensures { λ o. ⌜ o ≡ step self (entityRequest delete seat entity) ⌝ }
     {
         let mut q = BLANK;
-        q.call = 8;
+        q.call = kinds::DELETE;
         q.seat = seat;
         q.entity = entity;
         self.step(q)
@@ -144,7 +146,7 @@ impl Tables {
         ensures { λ o. ⌜ o ≡ step self (renameRequest seat entity name) ⌝ }
     {
         let mut q = BLANK;
-        q.call = 9;
+        q.call = kinds::RENAME;
         q.seat = seat;
         q.entity = entity;
         q.name = name;
@@ -153,10 +155,10 @@ impl Tables {
 
     // The role has the rights on the entity.
     pub fn grant(self, seat: u32, role: u32, entity: u32, rights: u32) -> Outcome
-        ensures { λ o. ⌜ o ≡ step self (rightsRequest 10 seat role entity rights) ⌝ }
+        ensures { λ o. ⌜ o ≡ step self (rightsRequest grant seat role entity rights) ⌝ }
     {
         let mut q = BLANK;
-        q.call = 10;
+        q.call = kinds::GRANT;
         q.seat = seat;
         q.role = role;
         q.entity = entity;
@@ -166,10 +168,10 @@ impl Tables {
 
     // The role has none of the rights on the entity.
     pub fn revoke(self, seat: u32, role: u32, entity: u32, rights: u32) -> Outcome
-        ensures { λ o. ⌜ o ≡ step self (rightsRequest 11 seat role entity rights) ⌝ }
+        ensures { λ o. ⌜ o ≡ step self (rightsRequest revoke seat role entity rights) ⌝ }
     {
         let mut q = BLANK;
-        q.call = 11;
+        q.call = kinds::REVOKE;
         q.seat = seat;
         q.role = role;
         q.entity = entity;
@@ -179,10 +181,10 @@ impl Tables {
 
     // The role lists the user.
     pub fn list(self, seat: u32, role: u32, user: u32) -> Outcome
-        ensures { λ o. ⌜ o ≡ step self (listRequest 12 seat role user) ⌝ }
+        ensures { λ o. ⌜ o ≡ step self (listRequest list seat role user) ⌝ }
     {
         let mut q = BLANK;
-        q.call = 12;
+        q.call = kinds::LIST;
         q.seat = seat;
         q.user = user;
         q.role = role;
@@ -191,10 +193,10 @@ impl Tables {
 
     // The role no longer lists the user.
     pub fn unlist(self, seat: u32, role: u32, user: u32) -> Outcome
-        ensures { λ o. ⌜ o ≡ step self (listRequest 13 seat role user) ⌝ }
+        ensures { λ o. ⌜ o ≡ step self (listRequest unlist seat role user) ⌝ }
     {
         let mut q = BLANK;
-        q.call = 13;
+        q.call = kinds::UNLIST;
         q.seat = seat;
         q.user = user;
         q.role = role;
@@ -203,10 +205,10 @@ impl Tables {
 
     // The role is made, empty.
     pub fn make(self, seat: u32, role: u32) -> Outcome
-        ensures { λ o. ⌜ o ≡ step self (roleRequest 14 seat role) ⌝ }
+        ensures { λ o. ⌜ o ≡ step self (roleRequest make seat role) ⌝ }
     {
         let mut q = BLANK;
-        q.call = 14;
+        q.call = kinds::MAKE;
         q.seat = seat;
         q.role = role;
         self.step(q)
@@ -214,10 +216,10 @@ impl Tables {
 
     // The role and every holding of it go.
     pub fn unmake(self, seat: u32, role: u32) -> Outcome
-        ensures { λ o. ⌜ o ≡ step self (roleRequest 15 seat role) ⌝ }
+        ensures { λ o. ⌜ o ≡ step self (roleRequest unmake seat role) ⌝ }
     {
         let mut q = BLANK;
-        q.call = 15;
+        q.call = kinds::UNMAKE;
         q.seat = seat;
         q.role = role;
         self.step(q)

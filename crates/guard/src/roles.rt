@@ -147,7 +147,7 @@ fn granted(given: bool, rights: u32, e: u32, p: Role) -> Role
     n
 }
 
-fn empty() -> Role
+pub fn empty() -> Role
     ensures { λ n. ⌜ n ≡ noRole ⌝ }
 {
     Role {

@@ -2,9 +2,9 @@
 use crate::Request;
 ghost use Prim.Native.Nat.{_+_, _*_, _≤_};
 ghost use mathlib.Core.Path.{_≡_};
-ghost use mathlib.Core.List.{[], _∷_, _++_};
+ghost use mathlib.Core.List.{_++_};
 ghost use lib.ListN.{length, drop, replicate};
-ghost use Rattle.guard.specs.Batch.{rowLength, requestAt, batchLength};
+ghost use Rattle.guard.specs.Batch.{rowLength, rowOf, requestAt, batchLength};
 
 // How many numbers a row has.
 pub const ROW: usize = 11;
@@ -40,7 +40,7 @@ pub fn request(rows: &[u32], i: usize) -> Request
 
 // A request as a row.
 pub fn row(q: Request) -> [u32; ROW]
-    ensures { λ r. ⌜ r ≡ q .call ∷ q .seat ∷ q .user ∷ q .role ∷ q .entity ∷ q .parent ∷ q .kind ∷ q .name ∷ q .level ∷ q .cats ∷ q .rights ∷ [] ⌝ }
+    ensures { λ r. ⌜ r ≡ rowOf q ⌝ }
 {
     [
         q.call,

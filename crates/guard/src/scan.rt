@@ -7,16 +7,20 @@ use crate::kinds;
 use crate::look;
 use crate::sizes::BLOCK;
 use crate::sizes::ENTITIES;
+use crate::sizes::ENTITY_END;
 use crate::sizes::LEVEL_ENTITIES;
 use crate::sizes::ROLES;
+use crate::sound::tree::NAMES;
 ghost use Prim.Native.Nat.{_<_};
 ghost use mathlib.Core.Path.{_≡_};
 ghost use lib.ListN.{length};
 ghost use Rattle.bitset.specs.Sets.{has};
 ghost use Rattle.guard.specs.Scan.{Grants, Granted, Cleared, Gathered, climbsBy, reachedBy, nameBy, childBy, kinBy, foundNothing, FoundBy};
 
-// How many sets the column of the roles has: four for each.
-const GRANTS: usize = 4 * ROLES;
+// A role has four sets, one for each right; how many the column of the roles has.
+const SETS: usize = 4;
+
+const GRANTS: usize = SETS * ROLES;
 
 // The entities on which a session has each right.
 pub struct Rights {
@@ -55,7 +59,7 @@ pub fn put(grants: &mut [u64; GRANTS], r: usize, p: Role) -> usize
     requires { ⌜ (r < 16) × (length (now grants) ≡ 64) ⌝ }
     ensures { λ n. ⌜ Granted (now (grants .entry)) r p (now (grants .exit)) ⌝ }
 {
-    let b = 4 * r;
+    let b = SETS * r;
     grants[b] = p.reads;
     grants[b + 1] = p.writes;
     grants[b + 2] = p.executes;
@@ -87,7 +91,7 @@ fn gather(grants: &[u64; GRANTS], held: u16) -> Rights
     let mut left = held;
     while left != 0 {
         let r = u16::trailing_zeros(left);
-        let b = 4 * r as usize;
+        let b = SETS * r as usize;
         reads = reads | grants[b];
         writes = writes | grants[b + 1];
         executes = executes | grants[b + 2];
@@ -121,7 +125,7 @@ fn climbs(keys: &[u32; ENTITIES], through: u64, e: usize) -> bool
         if at % BLOCK == 0 {
             return true;
         }
-        at = (keys[at] / 65536 % 64) as usize;
+        at = (keys[at] / NAMES % ENTITY_END) as usize;
         if !is_in(through, at) {
             return false;
         }
@@ -145,7 +149,7 @@ fn name_in(keys: &[u32; ENTITIES], p: usize, name: u32) -> bool
     requires { ⌜ p < 64 ⌝ }
     ensures { λ b. ⌜ b ≡ nameBy (now (keys .entry)) p name ⌝ }
 {
-    let key = (p as u32) * 65536 + name % 65536;
+    let key = (p as u32) * NAMES + name % NAMES;
     let first = p / BLOCK * BLOCK;
     let mut found = false;
     let mut m = 0usize;
@@ -166,7 +170,7 @@ fn child_in(keys: &[u32; ENTITIES], p: usize) -> bool
     let mut found = false;
     let mut m = 0usize;
     while m < BLOCK {
-        found = found | (keys[first + m] / 65536 == parent);
+        found = found | (keys[first + m] / NAMES == parent);
         m += 1;
     }
     found

@@ -99,7 +99,7 @@ fn entered(q: Request) -> Session
     }
 }
 
-fn empty() -> Session
+pub fn empty() -> Session
     ensures { λ s. ⌜ s ≡ noSession ⌝ }
 {
     let none = Label { cats: 0, grade: 0 };

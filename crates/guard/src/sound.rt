@@ -21,6 +21,8 @@ ghost use Rattle.guard.specs.Tested.{entityTest, grantableIn, roleTest, 
 ghost use Rattle.guard.specs.Scan.{Keys};
 use crate::Tables;
 use crate::sizes::ENTITIES;
+use crate::sizes::LEVEL_ROLES;
+use crate::sizes::LEVEL_SEATS;
 use crate::sizes::ROLES;
 use crate::sizes::SEAT_END;
 use crate::sizes::USERS;
@@ -67,7 +69,7 @@ impl Tables {
         let mut e: u8 = 0;
         while e < ENTITY_COUNT {
             let n = self.entities[e as usize];
-            let p = self.entities[(n.parent % 64) as usize];
+            let p = self.entities[(n.parent % ENTITY_COUNT) as usize];
             if !entity_ok(e, n, p) {
                 return false;
             }
@@ -112,7 +114,7 @@ impl Tables {
         let mut r: u8 = 0;
         while r < ROLE_COUNT {
             let p = self.roles[r as usize];
-            let set = live & to_level((r / 4) as u32);
+            let set = live & to_level((r as u32) / LEVEL_ROLES);
             if !role_ok(set, r, p) {
                 return Roles { ok: false, live: 0 };
             }
@@ -131,7 +133,7 @@ impl Tables {
         let mut s: u32 = 0;
         while s < SEAT_END {
             let x = self.sessions[s as usize];
-            if !session_ok(labels, roles, s / 4, x) {
+            if !session_ok(labels, roles, s / LEVEL_SEATS, x) {
                 return false;
             }
             s += 1;

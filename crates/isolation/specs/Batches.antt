@@ -1,5 +1,5 @@
 -- The isolation rule over the code: for what `Tables::run` of the guard hands back. Its contract is `RunsBatch`
--- (guard/src/batch.rt), so each premise below is what a host has who called it.
+-- (guard/src/run.rt), so each premise below is what a host has who called it.
 -- Assumes nothing.
 use Prim.Native.Nat.{ℕ, _≤_}
 use mathlib.Core.Path.{_≡_, refl, sym, ap, _∙_}

@@ -17,9 +17,10 @@ use native.Mathlib.Omega.{arith}
 use borrow.Author.Tests.{le-leb}
 use borrow.Rule.Slice.PartMut.{putMid}
 use Rattle.guard.specs.Step.{run, answers}
-use Rattle.guard.specs.Batch.{rowLength, requests, batchLength, batch, RunsBatch}
+use Rattle.guard.specs.Batch.{rowLength, requestAt, requests, batchLength, batch, RunsBatch}
 use Rattle.guard.specs.declared.Tables.{Tables}
 use Rattle.guard.specs.declared.Request.{Request}
+use Rattle.guard.proofs.Filling.{length-tabulate}
 use Rattle.guard.proofs.Logs.{length-answers}
 use Rattle.script.specs.Report.{lineText, lastLine}
 use Rattle.script.specs.Slices.{after, written, Put}
@@ -29,7 +30,7 @@ use Rattle.script.specs.declared.runner.Runner.{Runner}
 use Rattle.script.specs.declared.batch.Gathered.{Gathered}
 use Rattle.script.proofs.Texts.{put-nil, put-then, line-length}
 use Rattle.script.proofs.ValuesInTurn.{to-end}
-use Rattle.script.proofs.RequestRows.{requests-count, requests-take}
+use Rattle.script.proofs.RequestRows.{requests-take}
 use Rattle.script.proofs.LeftToTell.{rest-lines}
 use Rattle.script.proofs.PieceLoop.{ran, worked, stepped, tail-back}
 use Rattle.script.proofs.LinesInBatch.{asked-snoc, asked-few, texts-snoc, texts-given, texts-length}
@@ -146,7 +147,7 @@ module _ (r : Runner) (piece old new : List ℕ) (end : Bool) (g : Gathered) (u 
   there = rw (ran-tables rows (g .count) did (took .stored) (omega (arith, few)))
 
   enough : asked asks ≤ length (answers (r .tables) log)
-  enough = omega (arith, took .count, length-answers (r .tables) log, requests-count (g .count) rows)
+  enough = omega (arith, took .count, length-answers (r .tables) log, length-tabulate (requestAt rows) (g .count))
 
   words : texts (r .done + 1) asks told ≡ texts (r .done + 1) asks (answers (r .tables) log)
   words =

@@ -14,9 +14,11 @@ use native.Mathlib.Omega.{arith}
 use lib.Dec.{leb}
 use borrow.Author.Tests.{leb-false}
 use Rattle.guard.specs.Step.{answer, next, run, answers}
-use Rattle.guard.specs.Batch.{rowLength, requests}
+use Rattle.guard.specs.Fresh.{tabulate}
+use Rattle.guard.specs.Batch.{rowLength, requestAt, requests}
 use Rattle.guard.specs.declared.Tables.{Tables}
 use Rattle.guard.specs.declared.Request.{Request}
+use Rattle.guard.proofs.Filling.{length-tabulate}
 use Rattle.guard.proofs.Logs.{run-snoc, answers-snoc, length-answers}
 use Rattle.script.specs.Line.{readLine}
 use Rattle.script.specs.Report.{lineText, lastLine}
@@ -30,7 +32,7 @@ use Rattle.script.specs.declared.batch.Gathered.{Gathered}
 use Rattle.script.proofs.ValuesInTurn.{after-drop, to-end}
 use Rattle.script.proofs.Lines.{before-append, after-append}
 use Rattle.script.proofs.LeftToTell.{put-put, line-on}
-use Rattle.script.proofs.RequestRows.{requestsOf, requests-count, requests-on}
+use Rattle.script.proofs.RequestRows.{requestsOf, requests-on}
 use Rattle.script.proofs.LinesInBatch.{line-in, asked-snoc, asked-few, texts-snoc, texts-given}
 
 -- ---- one line on
@@ -87,7 +89,7 @@ pub record Taken (at s : List ℕ) (before : Bool) (rows : List ℕ) (marks : Li
       (fromLine header (bench (run t (requests count rows)) shut) (n + lines) (drop used s ++ more))
 
 pub taken-none : (at s : List ℕ) (shut : Bool) (rows : List ℕ) (marks : List Bool) → Taken at s shut rows marks 0 0 0 shut
-unfolding asked texts run requests
+unfolding asked texts run tabulate
 taken-none at s shut rows marks =
     record {
       within = omega arith;
@@ -137,7 +139,7 @@ module _ {at s part : List ℕ} {first shut : Bool} {rows : List ℕ} {marks : L
             let u : Tables = run t log in
             let so-far : List ℕ = texts (n + 1) (take lines marks) (answers t log) in
             let line : List ℕ = lineText (n + lines + 1) (answerTo u (x .asked)) in
-            let e : asked (take lines marks) ≡ length log = sym (h .counted) ∙ sym (requests-count count rows) in
+            let e : asked (take lines marks) ≡ length log = sym (h .counted) ∙ sym (length-tabulate (requestAt rows) count) in
             h .goes header o t n (omega (arith, k)) more
             ∙ ap (λ (v : List ℕ). toldFirst so-far (fromLine header (bench u shut) (n + lines) (v ++ more))) (sym p)
             ∙ ap (toldFirst so-far) (batch-on header u shut (n + lines) part more (is header o) a (omega (arith, k)) (omega (arith, len, l)))

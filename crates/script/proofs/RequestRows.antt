@@ -1,5 +1,4 @@
 -- Requests as rows of numbers.
---     requests-count       so many rows, so many requests
 --     requests-take        the first rows by themselves
 --     requests-on          what a line adds, stored behind the rows before it
 -- Assumes nothing.
@@ -11,10 +10,11 @@ use lib.Seq.{sets-eq, length-take-le, getD-take, getD-append-add}
 use native.Mathlib.Nat.{add-zero}
 use native.Mathlib.Numerals.{add-one}
 use native.Mathlib.Omega.{arith}
-use Rattle.guard.specs.Batch.{rowLength, requestAt, requests}
+use Rattle.guard.specs.Fresh.{tabulate}
+use Rattle.guard.specs.Batch.{rowLength, rowOf, requestAt, requests}
 use Rattle.guard.specs.declared.Request.{Request}
 use Rattle.script.specs.Slices.{written}
-use Rattle.script.specs.LineBatch.{isRequest, rowOf, numbersOf, one}
+use Rattle.script.specs.LineBatch.{isRequest, numbersOf, one}
 use Rattle.script.specs.declared.line.Line.{Line}
 use Rattle.script.specs.declared.line.Line.the-variants.{Ask, SetUser, Bad}
 
@@ -24,11 +24,6 @@ requestsOf (Ask q) = q ∷ []
 requestsOf (SetUser user level cats ceiling) = []
 requestsOf Bad = []
 
-pub requests-count : (n : ℕ) (rows : List ℕ) → length (requests n rows) ≡ n
-unfolding requests
-requests-count zero rows = refl
-requests-count (suc n) rows = omega (arith, length-append (requests n rows) (requestAt rows n ∷ []), requests-count n rows)
-
 -- ---- rows that are the same numbers
 request-same : (a b : List ℕ) (n : ℕ) → ((j : ℕ) → j < 11 → getD a (11 * n + j) 0 ≡ getD b (11 * n + j) 0) → requestAt a n ≡ requestAt b n
 unfolding requestAt
@@ -36,7 +31,7 @@ request-same a b n h =
     rw (h 0 (omega arith), h 1 (omega arith), h 2 (omega arith), h 3 (omega arith), h 4 (omega arith), h 5 (omega arith), h 6 (omega arith), h 7 (omega arith), h 8 (omega arith), h 9 (omega arith), h 10 (omega arith))
 
 requests-same : (n : ℕ) (a b : List ℕ) → ((k : ℕ) → k < 11 * n → getD a k 0 ≡ getD b k 0) → requests n a ≡ requests n b
-unfolding requests
+unfolding tabulate
 requests-same zero a b h = refl
 requests-same (suc n) a b h =
     ap₂ (λ (l : List Request) (q : Request). l ++ (q ∷ [])) (requests-same n a b (λ k l. h k (omega arith))) (request-same a b n (λ j l. h (11 * n + j) (omega arith)))
@@ -80,7 +75,7 @@ module _ (rows : List ℕ) (n : ℕ) (q : Request) (h : rowLength * n + rowLengt
       rw (here 0 (omega arith), here 1 (omega arith), here 2 (omega arith), here 3 (omega arith), here 4 (omega arith), here 5 (omega arith), here 6 (omega arith), here 7 (omega arith), here 8 (omega arith), here 9 (omega arith), here 10 (omega arith))
 
   requests-more : requests (n + 1) after-it ≡ requests n rows ++ (q ∷ [])
-  unfolding requests
+  unfolding tabulate
   requests-more =
       rw add-one
       (ap₂ (λ (l : List Request) (p : Request). l ++ (p ∷ [])) (requests-same n after-it rows (written-before rows (rowOf q) (11 * n) (omega arith))) stored)

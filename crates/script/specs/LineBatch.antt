@@ -6,9 +6,8 @@ use mathlib.Core.Bool.{Bool, true, false, not}
 use mathlib.Core.List.{List, [], _∷_, _++_}
 use lib.ListN.{length, take, drop, getD}
 use Rattle.guard.specs.Step.{run, answers}
-use Rattle.guard.specs.Batch.{rowLength, requests}
+use Rattle.guard.specs.Batch.{rowLength, rowOf, requests}
 use Rattle.guard.specs.declared.Tables.{Tables}
-use Rattle.guard.specs.declared.Request.{Request}
 use Rattle.script.specs.Report.{unreadAnswer, lineText, lineRoom, lastLine}
 use Rattle.script.specs.Slices.{Ordered}
 use Rattle.script.specs.Run.{bench, toldFirst, fromLine}
@@ -25,11 +24,6 @@ unfoldable pub isRequest : Line → Bool
 isRequest (Ask q) = true
 isRequest (SetUser user level cats ceiling) = false
 isRequest Bad = false
-
--- a request as a row: its numbers in the order of the record's fields
-abbrev pub rowOf : Request → List ℕ
-rowOf q =
-    q .call ∷ q .seat ∷ q .user ∷ q .role ∷ q .entity ∷ q .parent ∷ q .kind ∷ q .name ∷ q .level ∷ q .cats ∷ q .rights ∷ []
 
 unfoldable pub numbersOf : Line → List ℕ
 numbersOf (Ask q) = rowOf q

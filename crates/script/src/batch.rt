@@ -10,8 +10,8 @@ ghost use mathlib.Core.Path.{_≡_};
 ghost use lib.ListN.{length, take};
 ghost use Rattle.script.specs.Report.{lineRoom, lastLine};
 ghost use Rattle.script.specs.Slices.{written, Put};
-ghost use Rattle.guard.specs.Batch.{rowLength};
-ghost use Rattle.script.specs.LineBatch.{one, said, texts, isRequest, isAllowed, rowOf, numbersOf, Most, Batched};
+ghost use Rattle.guard.specs.Batch.{rowLength, rowOf};
+ghost use Rattle.script.specs.LineBatch.{one, said, texts, isRequest, isAllowed, numbersOf, Most, Batched};
 
 // How many requests some lines ask, how many lines these are, how many bytes of input they took, and whether `user` is shut
 // out after them.

@@ -3,6 +3,7 @@
 --     apart, rising   .. with 1 and 2 before them they are distinct and none is 0, and they rise
 --     answer-none, answer-leads   0 exactly when no condition is met, and n exactly when n's is met and none before it
 --     answer-lowest, answer-met   the answer is the lowest number that applies and whose condition is met
+--     numbered        the rule at each number that has a name (Kind) is the request of that name
 --     unknown-answer  a request of none of the sixteen kinds: 2 on sound tables
 --     unsound-answer  unsound tables: 1, whatever is asked
 -- Assumes nothing.
@@ -12,13 +13,14 @@ use mathlib.Core.Bool.{Bool, true, false, not, and-false}
 use mathlib.Core.List.{List, [], _∷_, map}
 use mathlib.Core.Logic.{_↔_}
 use lib.Dec.{ltb}
-use lib.ListN.{List·getD-eq-default}
+use lib.ListN.{getD, List·getD-eq-default}
 use borrow.Author.Tests.{le-ltb}
 use Rattle.bitset.specs.Tests.{every}
 use Rattle.guard.specs.Sound.{sound}
 use Rattle.guard.specs.Refusals.{Refusal, _when_, first}
 use Rattle.guard.specs.Requests.{Rule, fieldInRange, requestCount, login, logout, take, drop, openr, openw, close, create, delete, rename, grant, revoke, list, unlist, make, unmake, unknown, rules, ruleOf}
 use Rattle.guard.specs.Step.{inRanges, answer}
+use Rattle.guard.specs.Kind as kind
 use Rattle.guard.specs.declared.Tables.{Tables}
 use Rattle.guard.specs.declared.Request.{Request}
 use Rattle.guard.proofs.Laws.Refusals.{conditionOf, distinct, first-none, Leads, first-leads, first-met, risingFrom, first-lowest}
@@ -91,6 +93,27 @@ answer-none t q = first-none (conditions (ruleOf q) t q) (apart t q)
 pub answer-leads : (t : Tables) (q : Request) (n : ℕ) → (n ≡ 0 → ⊥) → (answer t q ≡ n ↔ Leads n (conditions (ruleOf q) t q))
 unfolding answer
 answer-leads t q n h = first-leads (conditions (ruleOf q) t q) (apart t q) n h
+
+-- ---- the names of the numbers
+pub numbered :
+    (getD rules kind.login unknown ≡ login)
+    × (getD rules kind.logout unknown ≡ logout)
+    × (getD rules kind.take unknown ≡ take)
+    × (getD rules kind.drop unknown ≡ drop)
+    × (getD rules kind.openr unknown ≡ openr)
+    × (getD rules kind.openw unknown ≡ openw)
+    × (getD rules kind.close unknown ≡ close)
+    × (getD rules kind.create unknown ≡ create)
+    × (getD rules kind.delete unknown ≡ delete)
+    × (getD rules kind.rename unknown ≡ rename)
+    × (getD rules kind.grant unknown ≡ grant)
+    × (getD rules kind.revoke unknown ≡ revoke)
+    × (getD rules kind.list unknown ≡ list)
+    × (getD rules kind.unlist unknown ≡ unlist)
+    × (getD rules kind.make unknown ≡ make)
+    × (getD rules kind.unmake unknown ≡ unmake)
+unfolding rules
+numbered = (refl, refl, refl, refl, refl, refl, refl, refl, refl, refl, refl, refl, refl, refl, refl, refl)
 
 -- ---- a request of none of the sixteen kinds
 pub unknown-rule : (q : Request) → requestCount ≤ q .call → ruleOf q ≡ unknown

@@ -10,16 +10,22 @@ ghost use Rattle.guard.specs.Tested.{keyOf, ownKey, ends, parentByKey, l
 use crate::Entity;
 use crate::sizes::BLOCK;
 use crate::sizes::ENTITIES;
+use crate::sizes::ENTITY_END;
 use crate::sizes::LEVEL_ENTITIES;
 
-// The parent above the name. 256 stands for the parent of what is not live, which no live entity has.
+// How many names there are: a key is the parent times this, and the name.
+pub const NAMES: u32 = 65536;
+
+// The key of what is not live: 256 for a parent, which no live entity has.
+const DEAD: u32 = 256 * NAMES;
+
 pub fn key(n: Entity) -> u32
     ensures { λ r. ⌜ r ≡ keyOf n ⌝ }
 {
     if !n.live {
-        return 16777216;
+        return DEAD;
     }
-    (n.parent as u32) * 65536 + (n.name as u32)
+    (n.parent as u32) * NAMES + (n.name as u32)
 }
 
 // The entities that are live: of a key, bit 24 alone tells it.
@@ -48,7 +54,7 @@ fn has_own_key(keys: &[u32; ENTITIES], e: usize) -> bool
     ensures { λ r. ⌜ r ≡ ownKey (now (keys .entry)) e ⌝ }
 {
     let k = keys[e];
-    if k % 65536 == 0 {
+    if k % NAMES == 0 {
         return true;
     }
     let first = e / BLOCK * BLOCK;
@@ -85,7 +91,7 @@ fn ends_at_root(keys: &[u32; ENTITIES], e: usize) -> bool
         if at % BLOCK == 0 {
             return true;
         }
-        at = (keys[at] / 65536 % 64) as usize;
+        at = (keys[at] / NAMES % ENTITY_END) as usize;
         left -= 1;
     }
     at % BLOCK == 0

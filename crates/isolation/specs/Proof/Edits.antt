@@ -73,7 +73,7 @@ entityTable L =
       new = λ t u l m s e. record { users = s .users; sessions = s .sessions; roles = s .roles; entities = e };
     }
 
--- ---- a member putIn into a set, or out of it: below k it is not seen, from k on it moves down by k
+-- ---- a member put into a set, or out of it: below k it is not seen, from k on it moves down by k
 put-below : (inside : Bool) (k s e : ℕ) → e < k → from k (putIn inside e s) ≡ from k s
 unfolding putIn
 put-below true = with-below

@@ -15,8 +15,11 @@ Inv-loop entities₀ i₀ entities i = (i ≤ 64) × (entities ≡ filled 64 fre
 abbrev μ-loop : tie.MeasureT-loop
 μ-loop entities₀ i₀ entities i = 64 - i
 
+empty-requires : tie.Need-empty-requires Inv-loop μ-loop
+empty-requires c κs = search needs
+
 loop-holds : tie.Need-loop-holds Inv-loop μ-loop
-loop-holds c = (search needs, filled-none 64 freshEntity noEntity)
+loop-holds c = (search needs, rw (c .empty .ensures) (filled-none 64 freshEntity noEntity))
 
 fresh-entity-requires : tie.Need-fresh-entity-requires Inv-loop μ-loop
 fresh-entity-requires c κs = search needs
@@ -45,6 +48,7 @@ fresh-entities-spec =
     (tie.spec
     Inv-loop
     μ-loop
+    empty-requires
     loop-holds
     fresh-entity-requires
     mul-entities

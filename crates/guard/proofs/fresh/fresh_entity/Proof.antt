@@ -12,9 +12,12 @@ returns : tie.Need-returns
 unfolding freshEntity
 returns c = rw (eq-eqb _ _ (c .if1 .taken))
 
+empty-requires : tie.Need-empty-requires
+empty-requires c κs = search needs
+
 returns-2 : tie.Need-returns-2
 unfolding freshEntity
-returns-2 c = rw (ne-eqb _ _ (c .if1 .left))
+returns-2 c = rw (ne-eqb _ _ (c .before .if1 .left), c .empty .ensures)
 
 pub fresh-entity-spec : {M : Type 1} → statement M
-fresh-entity-spec = tie.close (tie.spec cast-t5 returns returns-2)
+fresh-entity-spec = tie.close (tie.spec cast-t5 returns empty-requires returns-2)

@@ -25,9 +25,12 @@ returns c =
     let e : c .before .before .args .r / 4 * 16 ≡ 16 * (c .before .before .args .r / 4) = omega arith in
     rw (eq-eqb _ _ (c .before .if1 .taken), c .with64 .ensures, e)
 
+empty-requires : tie.Need-empty-requires
+empty-requires c κs = search needs
+
 returns-2 : tie.Need-returns-2
 unfolding freshRole
-returns-2 c = rw (ne-eqb _ _ (c .if1 .left))
+returns-2 c = rw (ne-eqb _ _ (c .before .if1 .left), c .empty .ensures)
 
 pub fresh-role-spec : {M : Type 1} → statement M
-fresh-role-spec = tie.close (tie.spec mul-with64 cast-with64 with64-requires returns returns-2)
+fresh-role-spec = tie.close (tie.spec mul-with64 cast-with64 with64-requires returns empty-requires returns-2)

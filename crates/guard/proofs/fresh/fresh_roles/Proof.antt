@@ -15,8 +15,11 @@ Inv-loop roles₀ i₀ roles i = (i ≤ 16) × (roles ≡ filled 16 freshRole no
 abbrev μ-loop : tie.MeasureT-loop
 μ-loop roles₀ i₀ roles i = 16 - i
 
+empty-requires : tie.Need-empty-requires Inv-loop μ-loop
+empty-requires c κs = search needs
+
 loop-holds : tie.Need-loop-holds Inv-loop μ-loop
-loop-holds c = (search needs, filled-none 16 freshRole noRole)
+loop-holds c = (search needs, rw (c .empty .ensures) (filled-none 16 freshRole noRole))
 
 fresh-role-requires : tie.Need-fresh-role-requires Inv-loop μ-loop
 fresh-role-requires c κs = search needs
@@ -45,6 +48,7 @@ fresh-roles-spec =
     (tie.spec
     Inv-loop
     μ-loop
+    empty-requires
     loop-holds
     fresh-role-requires
     mul-roles
