@@ -28,7 +28,7 @@ under-mask : (w s : ℕ) → s < 2 ^ w → bitAnd s (2 ^ w - 1) ≡ s
 under-mask w s h = and-mask s w ∙ mod-eq-of-lt h
 
 -- so the complement takes from the mask
-complement : (w m : ℕ) → m < 2 ^ w → 2 ^ w - 1 - m ≡ minus (2 ^ w - 1) m
+pub complement : (w m : ℕ) → m < 2 ^ w → 2 ^ w - 1 - m ≡ minus (2 ^ w - 1) m
 complement w m h = omega (arith, minus-add-meet (2 ^ w - 1) m, and-comm (2 ^ w - 1) m ∙ under-mask w m h)
 
 meet-minus : (s t m : ℕ) → bitAnd s (minus t m) ≡ minus (bitAnd s t) m

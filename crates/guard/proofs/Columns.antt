@@ -19,7 +19,7 @@ use lib.ListN.{length, getD, set, length-set, List·getD-map}
 use lib.Seq.{getD-set-same, getD-set-other}
 use borrow.Author.Tests.{eqb-true, eq-eqb}
 use Rattle.bitset.specs.Tests.{every, some}
-use Rattle.bitset.specs.Tests.Laws.{both, clash, is-false, not-of-false, of-not-true, every-i, every-at, some-i, some-e, some-no-i, some-cong}
+use Rattle.bitset.specs.Tests.Laws.{both, clash, is-false, not-of-false, of-not-true, every-i, every-at, some-i, some-e, some-no-i, some-cong, or-l, or-r, none-below}
 use Rattle.bitset.specs.Sets.{has, contains, without, join}
 use Rattle.bitset.specs.Sets.Laws.{has-none, has-join, has-without, has-without-other, without-none}
 use Rattle.guard.specs.Level.{roleLevel, entityLevel, isRoot}
@@ -43,13 +43,6 @@ use Rattle.guard.proofs.Soundness.Keys.{key-live, key-dead, parent-of-k
 use Rattle.guard.proofs.Soundness.Whole.{numbers}
 use Rattle.guard.proofs.Ranges.{span}
 use Rattle.guard.proofs.Sweeps.{mapped, mapped-all, mapped-length}
-
-or-l : (a b : Bool) → a ≡ true → (a || b) ≡ true
-or-l a b h = rw h
-
-or-r : (a b : Bool) → b ≡ true → (a || b) ≡ true
-or-r true b h = refl
-or-r false b h = h
 
 -- ---- keys along the stores
 module _ (t : Tables) (keys : List ℕ) (K : Keys t keys) (u : Tables) where
@@ -190,11 +183,8 @@ pub record Sides (t : Tables) (r : ℕ) (g : List ℕ) : Type 0 where
   pub at : (n k : ℕ) → n < r → k < 4 → getD g (4 * n + k) 0 ≡ side (roleAt t n) k
 
 module _ (t : Tables) where
-  no-role : (n : ℕ) → n < 0 → ⊥
-  no-role n h = omega arith
-
   pub sides-none : (g : List ℕ) → length g ≡ 64 → Sides t 0 g
-  sides-none g h = record { long = h; at = λ n k l c. absurd (no-role n l) }
+  sides-none g h = record { long = h; at = λ n k l c. absurd (none-below n l) }
 
   pub sides-more : (r : ℕ) (g new : List ℕ) → Sides t r g → Granted g r (roleAt t r) new → r < 16 → Sides t (r + 1) new
   sides-more r g new h put l = record { long = put .long; at = λ n k b c. go n k b c (ℕ-discrete n r) }

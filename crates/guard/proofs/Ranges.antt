@@ -5,7 +5,7 @@
 --     asks-past               no kind past revoke asks for rights
 --     ranges-at, of-ranges    the ranges of the rule at the request's number
 --     fits-take, fits-open, fits-grant, fits-list, fits-make, fits-none      the ranges as the code tests them, where several kinds are alike
---     in-login, in-take, in-drop, in-open, in-delete, in-rename, in-rights, in-list, in-make      .. each, by the kind's number
+--     in-login .. in-unmake   .. each, by the kind
 --     InCreate, in-create     those of create
 -- Assumes nothing.
 use Prim.Native.Nat.{ℕ, zero, suc, _+_, _≤_, _<_}

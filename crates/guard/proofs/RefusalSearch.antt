@@ -1,13 +1,14 @@
 -- Laws by which a search closes the returns of a function that decides a refusal: `search refusing depth 14 fits 4000`.
 --     hit, miss, none            the first condition met, one condition passed by, and the end
---     or-left, or-right, or-neither, not-of-true, not-of-false, by-..     a test from the flags it is made of
+--     by-..                      a test from the result that it is told by
+--     refusing                   these, with the laws of tests
 -- Assumes nothing.
 use Prim.Native.Nat.{ℕ}
 use mathlib.Core.Path.{_≡_, refl, sym, _∙_}
 use mathlib.Core.Bool.{Bool, true, false, not, _&&_, _||_}
 use mathlib.Core.List.{List, [], _∷_}
 use borrow.Author.Tests.{le-leb, lt-leb, lt-ltb, le-ltb, eq-eqb, ne-eqb, not-true, not-false}
-use Rattle.bitset.specs.Tests.{either}
+use Rattle.bitset.specs.Tests.Laws.{not-of-true, not-of-false, either-l, either-r, either-none}
 use Rattle.guard.specs.Refusals.{Refusal, first, _when_}
 
 pub hit : (n : ℕ) (b : Bool) (cs : List Refusal) → b ≡ true → n ≡ first (n when b ∷ cs)
@@ -22,26 +23,6 @@ pub none : 0 ≡ first []
 unfolding first
 none = refl
 
-pub not-of-true : (a : Bool) → a ≡ true → not a ≡ false
-not-of-true a h = rw h
-
-pub not-of-false : (a : Bool) → a ≡ false → not a ≡ true
-not-of-false a h = rw h
-
-pub either-left : (a b : Bool) → a ≡ true → either a b ≡ true
-unfolding either
-either-left a b h = rw h
-
-pub either-right : (a b : Bool) → b ≡ true → either a b ≡ true
-unfolding either
-either-right true b h = refl
-either-right false b h = h
-
-pub either-neither : (a b : Bool) → a ≡ false → b ≡ false → either a b ≡ false
-unfolding either
-either-neither a b h k = rw (h, k)
-
--- a test's outcome, by what a callee says of the flag
 pub by-true : (a b : Bool) → a ≡ b → a ≡ true → b ≡ true
 by-true a b e h = sym e ∙ h
 
@@ -54,4 +35,4 @@ by-not-true a b e h = sym e ∙ not-true a h
 pub by-not-false : (a b : Bool) → a ≡ b → not a ≡ false → b ≡ true
 by-not-false a b e h = sym e ∙ not-false a h
 
-pub ruleset refusing = (hit, miss, none, not-of-true, not-of-false, either-left, either-right, either-neither, le-leb, lt-leb, lt-ltb, le-ltb, eq-eqb, ne-eqb, by-true, by-false, by-not-true, by-not-false)
+pub ruleset refusing = (hit, miss, none, not-of-true, not-of-false, either-l, either-r, either-none, le-leb, lt-leb, lt-ltb, le-ltb, eq-eqb, ne-eqb, by-true, by-false, by-not-true, by-not-false)

@@ -10,6 +10,7 @@ use mathlib.Core.List.{List, [], _∷_, _++_, append-nil}
 use lib.ListN.{length, take, drop, getD, set, length-append, length-drop, length-take}
 use lib.Seq.{take-suc-set, drop-drop, length-take-le, getD-at}
 use native.Mathlib.Numerals.{add-one}
+use native.Mathlib.Nat.{add-zero}
 use native.Mathlib.Omega.{arith}
 use lib.Dec.{leb}
 use borrow.Author.Tests.{leb-false}
@@ -95,11 +96,8 @@ taken-none at s shut rows marks =
       within = omega arith;
       moves = omega arith;
       counted = refl;
-      goes = λ header o t n h more. ap (λ (k : ℕ). fromLine header (bench t shut) k (s ++ more)) (sym (none n));
+      goes = λ header o t n h more. ap (λ (k : ℕ). fromLine header (bench t shut) k (s ++ more)) (sym (add-zero n));
     }
-  where
-    none : (n : ℕ) → n + 0 ≡ n
-    none n = omega arith
 
 module _ {at s part : List ℕ} {first shut : Bool} {rows : List ℕ} {marks : List Bool} {count lines used : ℕ} {x : Front}
     (h : Taken at s first rows marks count lines used shut) (p : part ≡ drop used s) (low : rowLength * count + rowLength ≤ length rows) (free : lines < length marks)

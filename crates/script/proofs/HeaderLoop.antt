@@ -17,12 +17,12 @@ use borrow.Author.Tests.{eqb-true, eqb-false, eq-eqb}
 use Rattle.bitset.specs.Sets.{has, with, contains}
 use Rattle.bitset.specs.Sets.Laws.{has-none, has-with-same, has-with-other, has-below, has-contains, contains-has}
 use Rattle.bitset.specs.Tests.{every, all, some}
-use Rattle.bitset.specs.Tests.Laws.{all-e, both, clash, is-false, some-none, some-more, some-i, some-e}
+use Rattle.bitset.specs.Tests.Laws.{all-e, both, clash, is-false, some-none, some-more, some-i, some-e, or-true, or-false, none-below}
 use Rattle.script.specs.Text.{values}
 use Rattle.script.specs.Names.{names, column, among, isNames}
 use Rattle.script.specs.Slices.{before, Ordered}
 use Rattle.script.proofs.ValuesInTurn.{Reached, reached-start, reached-here, reached-end, reached-over, reached-next}
-use Rattle.script.proofs.NamePlaces.{or-last, column-most, column-found, among-found, among-i, names-at, names-length, names-count, name-among}
+use Rattle.script.proofs.NamePlaces.{column-most, column-found, among-found, among-i, names-at, names-length, names-count, name-among}
 
 -- the name i stands at one of the first n places
 unfoldable pub stands : List (List ℕ) → ℕ → ℕ → Bool
@@ -31,10 +31,6 @@ stands h n i = some n (λ k. eqb (column (getD h k []) names) i)
 stands-more : (h : List (List ℕ)) (n i : ℕ) → stands h (n + 1) i ≡ (stands h n i || eqb (column (getD h n []) names) i)
 unfolding stands
 stands-more h n i = some-more n (λ k. eqb (column (getD h k []) names) i)
-
-or-none : (a : Bool) → (a || false) ≡ a
-or-none true = refl
-or-none false = refl
 
 pub every-map : {A : Type 0} (f : A → Bool) (l : List A) (d : A) → ((i : ℕ) → i < length l → f (getD l i d) ≡ true) → every (map f l) ≡ true
 unfolding every
@@ -94,10 +90,7 @@ pub record Seen (s at : List ℕ) (seen from j : ℕ) : Type 0 where
 
 pub seen-start : (s : List ℕ) → Seen s (replicate 12 0) 0 0 0
 unfolding stands
-seen-start s = record { reached = reached-start s; long = refl; place = λ k l. absurd (none k l); is = λ i l. has-none i ∙ sym (some-none _) }
-  where
-    none : (k : ℕ) → k < 0 → ⊥
-    none k l = omega arith
+seen-start s = record { reached = reached-start s; long = refl; place = λ k l. absurd (none-below k l); is = λ i l. has-none i ∙ sym (some-none _) }
 
 module _ {s at : List ℕ} {seen from j e n m : ℕ} (p : Seen s at seen from j) (f : e ≡ length (before 32 (take (length s - from) (drop from s))))
     (c : n ≡ column (take e (take (length s - from) (drop from s))) names) (w : m ≡ with seen n) where
@@ -120,8 +113,8 @@ module _ {s at : List ℕ} {seen from j e n m : ℕ} (p : Seen s at seen from j)
   is-more i l = ap (λ (x : ℕ). has x i) w ∙ go (eqb n i) refl ∙ sym (stands-more (values s) j i ∙ ap (λ (x : ℕ). stands (values s) j i || eqb x i) (sym name-here))
     where
       go : (b : Bool) → eqb n i ≡ b → has (with seen n) i ≡ (stands (values s) j i || b)
-      go true q = ap (λ (x : ℕ). has (with seen x) i) (eqb-true n i q) ∙ has-with-same seen i ∙ sym (or-last (stands (values s) j i))
-      go false q = has-with-other seen n i (λ z. eqb-false n i q (sym z)) ∙ p .is i l ∙ sym (or-none (stands (values s) j i))
+      go true q = ap (λ (x : ℕ). has (with seen x) i) (eqb-true n i q) ∙ has-with-same seen i ∙ sym (or-true (stands (values s) j i))
+      go false q = has-with-other seen n i (λ z. eqb-false n i q (sym z)) ∙ p .is i l ∙ sym (or-false (stands (values s) j i))
 
   pub seen-more : e < length (take (length s - from) (drop from s)) → j + 1 < 12 → Seen s (set at j n) m (from + e + 1) (j + 1)
   seen-more h k = record { reached = reached-next (p .reached) f h k; long = length-set at j n ∙ p .long; place = place-more; is = is-more }

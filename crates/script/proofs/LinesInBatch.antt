@@ -11,7 +11,9 @@ use mathlib.Core.Bool.{Bool, true, false, not, _||_, true≢false}
 use mathlib.Core.List.{List, [], _∷_, _++_, append-nil, append-assoc}
 use lib.ListN.{length, drop, getD, length-append}
 use lib.Seq.{getD-drop}
+use native.Mathlib.Nat.{add-zero}
 use native.Mathlib.Omega.{arith}
+use Rattle.bitset.specs.Tests.Laws.{or-true, or-false}
 use Rattle.guard.specs.Step.{run, answers}
 use Rattle.guard.specs.declared.Tables.{Tables}
 use Rattle.script.specs.Report.{answerLine, lineText}
@@ -23,14 +25,6 @@ use Rattle.script.proofs.Texts.{line-length}
 use Rattle.script.proofs.RequestRows.{requestsOf}
 
 -- ---- a line in a batch
-or-true : (a : Bool) → (a || true) ≡ true
-or-true true = refl
-or-true false = refl
-
-or-false : (a : Bool) → (a || false) ≡ a
-or-false true = refl
-or-false false = refl
-
 pub line-in : (t : Tables) (shut : Bool) (l : Line) → isAllowed shut l ≡ false
     → answerLine (bench t shut) l
     ≡ record { bench = bench (run t (requestsOf l)) (shut || isRequest l); answer = said (isRequest l) (getD (answers t (requestsOf l)) 0 0) }
@@ -62,10 +56,7 @@ asked-few (m ∷ ms) = omega (arith, one-few m, asked-few ms)
 pub texts-snoc : (n : ℕ) (ms : List Bool) (m : Bool) (given : List ℕ)
     → texts n (ms ++ (m ∷ [])) given ≡ texts n ms given ++ lineText (n + length ms) (said m (getD given (asked ms) 0))
 unfolding texts asked
-texts-snoc n [] m given = append-nil _ ∙ ap (λ (k : ℕ). lineText k (said m (getD given 0 0))) (sym (none n))
-  where
-    none : (n : ℕ) → n + 0 ≡ n
-    none n = omega arith
+texts-snoc n [] m given = append-nil _ ∙ ap (λ (k : ℕ). lineText k (said m (getD given 0 0))) (sym (add-zero n))
 texts-snoc n (p ∷ ms) m given =
     ap (λ (w : List ℕ). lineText n (said p (getD given 0 0)) ++ w) (texts-snoc (n + 1) ms m (drop (one p) given))
     ∙ sym (append-assoc (lineText n (said p (getD given 0 0))) (texts (n + 1) ms (drop (one p) given)) _)

@@ -1,5 +1,4 @@
 -- The line of names: which name stands at which place, and where each name stands.
---     or-last                                                 a test or a true one
 --     column-most, column-found, among-found, among-i         the place of a name among names
 --     names-at, names-length                                  the twelve names are different
 --     map-at                                                  an element of a list of results
@@ -17,15 +16,12 @@ use lib.Dec.{eqb, ltb}
 use lib.ListN.{length, getD}
 use borrow.Author.Tests.{eqb-true, lt-ltb, le-ltb}
 use Rattle.bitset.specs.Tests.{all}
-use Rattle.bitset.specs.Tests.Laws.{all-e, every-at, clash}
+use Rattle.bitset.specs.Tests.Laws.{all-e, every-at, clash, or-true, none-below}
 use Rattle.guard.proofs.Laws.Pigeons.{Meet, pigeons}
 use Rattle.script.specs.Text.{bytes, same}
 use Rattle.script.specs.Names.{names, column, among, isNames, under}
 use Rattle.script.specs.Slices.{Ordered}
 use Rattle.script.proofs.ByKey.{same-eq, same-self}
-
-none-below : (n : ℕ) → n < 0 → ⊥
-none-below n h = omega arith
 
 pub column-most : (p : List ℕ) (ps : List (List ℕ)) → column p ps ≤ length ps
 unfolding column
@@ -55,15 +51,11 @@ among-found p (q ∷ ps) h = go (same p q) (among-found p ps) h
     go true f k = omega arith
     go false f k = omega (arith, f k)
 
-pub or-last : (a : Bool) → (a || true) ≡ true
-or-last true = refl
-or-last false = refl
-
 pub among-i : (p : List ℕ) (ps : List (List ℕ)) (k : ℕ) → k < length ps → getD ps k [] ≡ p → among ps p ≡ true
 unfolding among
 among-i p [] k l e = absurd (none-below k l)
 among-i p (q ∷ ps) zero l e = rw (e, same-self p)
-among-i p (q ∷ ps) (suc k) l e = rw (among-i p ps k (omega arith) e) (or-last (same p q))
+among-i p (q ∷ ps) (suc k) l e = rw (among-i p ps k (omega arith) e) (or-true (same p q))
 
 -- ---- the twelve names
 names-right : all 12 (λ i. eqb (column (getD names i []) names) i) ≡ true

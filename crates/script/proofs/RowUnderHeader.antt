@@ -1,5 +1,5 @@
 -- The row of a line under a good header: each name's value, from the place where the name stands.
---     fine-at, fine-not                       each value has a form, or one has none
+--     fine-at, fine-none                      each value has a form, or one has none
 --     row-number, row-given, row-form         a name's number, whether it is given, and that it has a form
 --     row-none                                a name whose value has no form
 -- Assumes nothing.
@@ -16,13 +16,11 @@ use lib.Seq.{getD-set-same, getD-set-other}
 use borrow.Author.Tests.{leb-true, leb-false}
 use Rattle.bitset.specs.Sets.{has, with}
 use Rattle.bitset.specs.Sets.Laws.{has-none, has-with-same, has-with-other}
+use Rattle.bitset.specs.Tests.Laws.{none-below}
 use Rattle.script.specs.Names.{under}
 use Rattle.script.specs.Slices.{Ordered}
 use Rattle.script.specs.Rows.{codeAt, nameAt, codeIn, blank, gathered, marked, fine}
 use Rattle.script.proofs.NamePlaces.{placeOf, place-lt, place-at, at-lt, at-place, under-at}
-
-none-below : (n : ℕ) → n < 0 → ⊥
-none-below n h = omega arith
 
 -- ---- each value has a form
 module _ (at : List ℕ) (vs : List (List ℕ)) where

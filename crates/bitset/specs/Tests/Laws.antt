@@ -3,7 +3,9 @@
 --     not-of-true, not-of-false, of-not-true, of-not-false      a negated test
 --     Each, every-i, every-e, every-at                          a list of tests, by index, and against the list of the facts
 --     implies-i, implies-e                                      one test implies another
+--     or-l, or-r, or-true, or-false                             one test or another
 --     either-l, either-r, either-e, either-none, either-no-l, either-no-r
+--     none-below                                                no number is below 0
 --     all-none, all-more, all-i, all-e, all-cong                a test met below n
 --     some-none, some-more, some-i, some-e, some-no-i, some-no-e, some-cong
 -- Assumes nothing.
@@ -84,9 +86,19 @@ unfolding implies
 implies-e true b h k = h
 implies-e false b h k = absurd (clash false k refl)
 
-or-r : (a b : Bool) → b ≡ true → (a || b) ≡ true
+pub or-l : (a b : Bool) → a ≡ true → (a || b) ≡ true
+or-l a b h = rw h
+
+pub or-r : (a b : Bool) → b ≡ true → (a || b) ≡ true
 or-r true b h = refl
 or-r false b h = h
+
+pub or-true : (a : Bool) → (a || true) ≡ true
+or-true a = or-r a true refl
+
+pub or-false : (a : Bool) → (a || false) ≡ a
+or-false true = refl
+or-false false = refl
 
 or-e : (a b : Bool) → (a || b) ≡ true → (a ≡ true) ⊎ (b ≡ true)
 or-e true b h = inl refl
@@ -94,7 +106,7 @@ or-e false b h = inr h
 
 pub either-l : (a b : Bool) → a ≡ true → either a b ≡ true
 unfolding either
-either-l a b h = rw h
+either-l = or-l
 
 pub either-r : (a b : Bool) → b ≡ true → either a b ≡ true
 unfolding either
@@ -124,7 +136,7 @@ below n k h = go (decLt k n)
     go (yes l) = inl l
     go (no l) = inr (omega arith)
 
-none-below : (k : ℕ) → k < 0 → ⊥
+pub none-below : (k : ℕ) → k < 0 → ⊥
 none-below k h = omega arith
 
 pub all-none : (p : ℕ → Bool) → all 0 p ≡ true

@@ -7,14 +7,15 @@ use mathlib.Core.Bool.{Bool, true, false, not, cond, Bool·not-not}
 use mathlib.Core.Path.{_≡_, refl, sym, ap, _∙_}
 use native.Mathlib.Nat.{div-one, pow-suc, mod-eq-of-lt, lt-of-lt-of-le}
 use native.Mathlib.Omega.{arith}
-use lib.Bits.{bitOr, and-mask, and-comm, or-shifted}
+use lib.Bits.{bitOr, or-shifted}
 use lib.Dec.{ltb}
 use lib.Pow.{pow-mono, shl-exact}
 use borrow.Author.Tests.{eq-eqb, ne-eqb, ltb-true, ltb-false}
 use Rattle.bitset.specs.Sets.{has, minus}
-use Rattle.bitset.specs.Sets.Laws.{has-minus, minus-add-meet}
+use Rattle.bitset.specs.Sets.Laws.{has-minus}
 use Rattle.bitset.specs.Tests.{all}
 use Rattle.bitset.specs.Tests.Laws.{all-e}
+use Rattle.bitset.proofs.Words.{complement}
 use Rattle.guard.proofs.Soundness.Members.{has-half}
 
 -- the members of s are the numbers from i on, counted from i, that f does not tell
@@ -67,9 +68,6 @@ pushed-more f i s v l h m e =
 ones : (k : ℕ) → k < 64 → has 18446744073709551615 k ≡ true
 unfolding has all
 ones = all-e 64 _ refl
-
-complement : (w s : ℕ) → s < 2 ^ w → 2 ^ w - 1 - s ≡ minus (2 ^ w - 1) s
-complement w s h = omega (arith, minus-add-meet (2 ^ w - 1) s, and-comm (2 ^ w - 1) s ∙ and-mask s w ∙ mod-eq-of-lt h)
 
 pub pushed-all : (f : ℕ → Bool) (s : ℕ) → Pushed f 0 s → (k : ℕ) → k < 64 → has (18446744073709551615 - s) k ≡ f k
 pushed-all f s h k l =

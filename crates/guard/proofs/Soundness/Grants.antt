@@ -13,7 +13,7 @@ use lib.Bits.{bitAnd}
 use lib.Dec.{leb, ltb, eqb}
 use borrow.Author.Tests.{eqb-true, ltb-true, eq-eqb, lt-ltb}
 use Rattle.bitset.specs.Tests.{every, either, implies}
-use Rattle.bitset.specs.Tests.Laws.{clash, is-false, not-of-false, of-not-true, every-i, every-at, either-l, either-r, either-e, implies-i, implies-e, all-i, all-e, all-cong}
+use Rattle.bitset.specs.Tests.Laws.{clash, is-false, not-of-false, of-not-true, every-i, every-at, either-l, either-r, either-e, implies-i, implies-e, all-i, all-e, all-cong, or-l, or-r}
 use Rattle.bitset.specs.Sets.{has, join, contains}
 use Rattle.bitset.specs.Sets.Laws.{sets-ext, has-none, has-meet, has-join, has-below, join-lt, join-none, has-contains, contains-has, contains-trans, contains-le}
 use Rattle.guard.specs.Level.{roleLevel, entityLevel, isKeeper}
@@ -41,13 +41,6 @@ role-masked live m r p f = role-cong (has (bitAnd live m)) (grantableIn live r) 
     at e l = rw (has-meet, f e l) (simp and-true)
 
 -- ---- two sets joined
-or-l : (a b : Bool) → a ≡ true → (a || b) ≡ true
-or-l a b h = rw h
-
-or-r : (a b : Bool) → b ≡ true → (a || b) ≡ true
-or-r true b h = refl
-or-r false b h = h
-
 join-l : (a b : ℕ) → contains (join a b) a ≡ true
 join-l a b = has-contains _ _ (λ i h. has-join a b i ∙ or-l _ _ h)
 

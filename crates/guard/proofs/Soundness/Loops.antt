@@ -15,7 +15,7 @@ use lib.Seq.{getD-set-same, getD-set-other}
 use Rattle.bitset.specs.Sets.{has, with}
 use Rattle.bitset.specs.Sets.Laws.{has-none, has-with-same, has-with-other, with-lt}
 use Rattle.bitset.specs.Tests.{all}
-use Rattle.bitset.specs.Tests.Laws.{is-false, clash, of-not-true, of-not-false, all-e, all-more}
+use Rattle.bitset.specs.Tests.Laws.{is-false, clash, of-not-true, of-not-false, all-e, all-more, none-below}
 
 pub all-miss : (n i : ℕ) (p : ℕ → Bool) (r : Bool) → i < n → r ≡ p i → not r ≡ true → false ≡ all n p
 all-miss n i p r l e h = sym (is-false (all n p) (λ k. clash (p i) (all-e n p k i l) (sym e ∙ of-not-true r h)))
@@ -30,9 +30,6 @@ all-done n i p l k h = let e : i ≡ n = omega arith in rw e at (sym h)
 pub record Filled (f : ℕ → ℕ) (i : ℕ) (a : List ℕ) : Type 0 where
   pub long : length a ≡ 64
   pub at : (k : ℕ) → k < i → getD a k 0 ≡ f k
-
-none-below : (k : ℕ) → k < 0 → ⊥
-none-below k h = omega arith
 
 pub filled-none : (f : ℕ → ℕ) (a : List ℕ) → length a ≡ 64 → Filled f 0 a
 filled-none f a e = record { long = e; at = λ k l. absurd (none-below k l) }
