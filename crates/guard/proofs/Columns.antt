@@ -45,21 +45,21 @@ use Rattle.guard.proofs.Ranges.{span}
 use Rattle.guard.proofs.Sweeps.{mapped, mapped-all, mapped-length}
 
 -- ---- keys along the stores
-module _ (t : Tables) (keys : List ℕ) (K : Keys t keys) (u : Tables) where
-  pub keys-set : length (t .entities) ≡ 64 → (e : ℕ) → e < 64 → (f : Entity) (k : ℕ) → k ≡ keyOf f → u .entities ≡ set (t .entities) e f
-      → Keys u (set keys e k)
+module _ (old : List Entity) (keys : List ℕ) (K : Keys old keys) (new : List Entity) where
+  pub keys-set : length old ≡ 64 → (e : ℕ) → e < 64 → (f : Entity) (k : ℕ) → k ≡ keyOf f → new ≡ set old e f
+      → Keys new (set keys e k)
   keys-set long e l f k h same = record { long = simp length-set (K .long); at = λ n b. go n b (ℕ-discrete n e) }
     where
-      at : (n : ℕ) → keyOf (getD (set (t .entities) e f) n noEntity) ≡ keyOf (entityAt u n)
+      at : (n : ℕ) → keyOf (getD (set old e f) n noEntity) ≡ keyOf (getD new n noEntity)
       at n = ap (λ (l : List Entity). keyOf (getD l n noEntity)) (sym same)
 
-      go : (n : ℕ) → n < 64 → Dec (n ≡ e) → getD (set keys e k) n 0 ≡ keyOf (entityAt u n)
+      go : (n : ℕ) → n < 64 → Dec (n ≡ e) → getD (set keys e k) n 0 ≡ keyOf (getD new n noEntity)
       go n b (yes s) =
-          rw s (getD-set-same keys e k 0 (rw (K .long) l) ∙ h ∙ ap keyOf (sym (getD-set-same (t .entities) e f noEntity (rw long l))) ∙ at e)
+          rw s (getD-set-same keys e k 0 (rw (K .long) l) ∙ h ∙ ap keyOf (sym (getD-set-same old e f noEntity (rw long l))) ∙ at e)
       go n b (no s) =
-          getD-set-other keys e n k 0 s ∙ K .at n b ∙ ap keyOf (sym (getD-set-other (t .entities) e n f noEntity s)) ∙ at n
+          getD-set-other keys e n k 0 s ∙ K .at n b ∙ ap keyOf (sym (getD-set-other old e n f noEntity s)) ∙ at n
 
-  pub keys-other : u .entities ≡ t .entities → Keys u keys
+  pub keys-other : new ≡ old → Keys new keys
   keys-other h = record { long = K .long; at = λ n b. K .at n b ∙ ap (λ (l : List Entity). keyOf (getD l n noEntity)) (sym h) }
 
 -- ---- grants along the stores
@@ -76,35 +76,35 @@ none-cleared : (e : ℕ) → clearRights e noRole ≡ noRole
 unfolding clearRights setRights putIn contains
 none-cleared e = rw (without-none e)
 
-module _ (t : Tables) (grants : List ℕ) (G : Grants t grants) (u : Tables) where
-  pub grants-other : u .roles ≡ t .roles → Grants u grants
+module _ (old : List Role) (grants : List ℕ) (G : Grants old grants) (now : List Role) where
+  pub grants-other : now ≡ old → Grants now grants
   grants-other h =
       record { long = G .long; at = λ r k b c. G .at r k b c ∙ ap (λ (l : List Role). side (getD l r noRole) k) (sym h) }
 
-  pub grants-role : length (t .roles) ≡ 16 → (r : ℕ) → r < 16 → (p : Role) (new : List ℕ) → Granted grants r p new → u .roles ≡ set (t .roles) r p
-      → Grants u new
+  pub grants-role : length old ≡ 16 → (r : ℕ) → r < 16 → (p : Role) (new : List ℕ) → Granted grants r p new → now ≡ set old r p
+      → Grants now new
   grants-role long r l p new h same = record { long = h .long; at = λ n k b c. go n k b c (ℕ-discrete n r) }
     where
-      at : (n k : ℕ) → side (getD (set (t .roles) r p) n noRole) k ≡ side (roleAt u n) k
+      at : (n k : ℕ) → side (getD (set old r p) n noRole) k ≡ side (getD now n noRole) k
       at n k = ap (λ (l : List Role). side (getD l n noRole) k) (sym same)
 
-      go : (n k : ℕ) → n < 16 → k < 4 → Dec (n ≡ r) → getD new (4 * n + k) 0 ≡ side (roleAt u n) k
-      go n k b c (yes s) = rw s (h .at k c ∙ ap (λ (x : Role). side x k) (sym (getD-set-same (t .roles) r p noRole (rw long l))) ∙ at r k)
+      go : (n k : ℕ) → n < 16 → k < 4 → Dec (n ≡ r) → getD new (4 * n + k) 0 ≡ side (getD now n noRole) k
+      go n k b c (yes s) = rw s (h .at k c ∙ ap (λ (x : Role). side x k) (sym (getD-set-same old r p noRole (rw long l))) ∙ at r k)
       go n k b c (no s) =
           h .others (4 * n + k) (λ e. s (sym (fourth n k c) ∙ e))
           ∙ G .at n k b c
-          ∙ ap (λ (x : Role). side x k) (sym (getD-set-other (t .roles) r n p noRole s))
+          ∙ ap (λ (x : Role). side x k) (sym (getD-set-other old r n p noRole s))
           ∙ at n k
 
-  pub grants-each : (e : ℕ) (new : List ℕ) → Cleared grants e new → u .roles ≡ map (clearRights e) (t .roles) → Grants u new
+  pub grants-each : (e : ℕ) (new : List ℕ) → Cleared grants e new → now ≡ map (clearRights e) old → Grants now new
   grants-each e new h same = record { long = h .long; at = at }
     where
-      at : (n k : ℕ) → n < 16 → k < 4 → getD new (4 * n + k) 0 ≡ side (roleAt u n) k
+      at : (n k : ℕ) → n < 16 → k < 4 → getD new (4 * n + k) 0 ≡ side (getD now n noRole) k
       at n k b c =
           h .each (4 * n + k) (omega arith)
           ∙ ap (λ (s : ℕ). without s e) (G .at n k b c)
-          ∙ sym (side-cleared e (roleAt t n) k c)
-          ∙ ap (λ (p : Role). side p k) (sym (ap (getD (map (clearRights e) (t .roles)) n) (sym (none-cleared e)) ∙ List·getD-map (clearRights e) (t .roles) n noRole))
+          ∙ sym (side-cleared e (getD old n noRole) k c)
+          ∙ ap (λ (p : Role). side p k) (sym (ap (getD (map (clearRights e) old) n) (sym (none-cleared e)) ∙ List·getD-map (clearRights e) old n noRole))
           ∙ ap (λ (l : List Role). side (getD l n noRole) k) (sym same)
 
 -- the four sets of a role, stored one after the other
@@ -178,22 +178,22 @@ cleared-all old new e long h =
     }
 
 -- the sets of the first r roles
-pub record Sides (t : Tables) (r : ℕ) (g : List ℕ) : Type 0 where
+pub record Sides (roles : List Role) (r : ℕ) (g : List ℕ) : Type 0 where
   pub long : length g ≡ 64
-  pub at : (n k : ℕ) → n < r → k < 4 → getD g (4 * n + k) 0 ≡ side (roleAt t n) k
+  pub at : (n k : ℕ) → n < r → k < 4 → getD g (4 * n + k) 0 ≡ side (getD roles n noRole) k
 
-module _ (t : Tables) where
-  pub sides-none : (g : List ℕ) → length g ≡ 64 → Sides t 0 g
+module _ (roles : List Role) where
+  pub sides-none : (g : List ℕ) → length g ≡ 64 → Sides roles 0 g
   sides-none g h = record { long = h; at = λ n k l c. absurd (none-below n l) }
 
-  pub sides-more : (r : ℕ) (g new : List ℕ) → Sides t r g → Granted g r (roleAt t r) new → r < 16 → Sides t (r + 1) new
+  pub sides-more : (r : ℕ) (g new : List ℕ) → Sides roles r g → Granted g r (getD roles r noRole) new → r < 16 → Sides roles (r + 1) new
   sides-more r g new h put l = record { long = put .long; at = λ n k b c. go n k b c (ℕ-discrete n r) }
     where
-      go : (n k : ℕ) → n < r + 1 → k < 4 → Dec (n ≡ r) → getD new (4 * n + k) 0 ≡ side (roleAt t n) k
+      go : (n k : ℕ) → n < r + 1 → k < 4 → Dec (n ≡ r) → getD new (4 * n + k) 0 ≡ side (getD roles n noRole) k
       go n k b c (yes s) = rw s (put .at k c)
       go n k b c (no s) = put .others (4 * n + k) (λ e. s (sym (fourth n k c) ∙ e)) ∙ h .at n k (omega (arith, s)) c
 
-  pub sides-all : (r : ℕ) (g : List ℕ) → 16 ≤ r → Sides t r g → Grants t g
+  pub sides-all : (r : ℕ) (g : List ℕ) → 16 ≤ r → Sides roles r g → Grants roles g
   sides-all r g l h = record { long = h .long; at = λ n k b c. h .at n k (omega arith) c }
 
 -- ---- the rights that the roles held give
@@ -249,7 +249,7 @@ module _ (grants : List ℕ) (held k : ℕ) where
       none : (r : ℕ) → every (has 0 r ∷ has (getD grants (4 * r + k) 0) e ∷ []) ≡ false
       none r = rw (has-none r)
 
-module _ (t : Tables) (ok : sound t ≡ true) (grants : List ℕ) (G : Grants t grants) (x : ℕ) where
+module _ (t : Tables) (ok : sound t ≡ true) (grants : List ℕ) (G : Grants (t .roles) grants) (x : ℕ) where
   module _ (right k : ℕ) (small : k < 4) (same : (p : Role) (e : ℕ) → contains (rightsOf p e) right ≡ has (side p k) e)
       (within : (r e : ℕ) → r < 16 → e < 64 → has (side (roleAt t r) k) e ≡ true → leb (entityLevel e) (roleLevel r) ≡ true)
     where
@@ -280,7 +280,7 @@ module _ (t : Tables) (ok : sound t ≡ true) (grants : List ℕ) (G : Grants t 
       }
 
 -- ---- the way up, and the children
-module _ (t : Tables) (ok : sound t ≡ true) (keys : List ℕ) (K : Keys t keys) where
+module _ (t : Tables) (ok : sound t ≡ true) (keys : List ℕ) (K : Keys (t .entities) keys) where
   pub way-of : (x through e : ℕ) → e < 64 → ((c : ℕ) → c < 64 → has through c ≡ hasRight t x execute c) → climbsBy keys through e ≡ reaches t x e
   unfolding reaches
   way-of x through e l same = climbs-cong _ _ _ _ (parent-of-key t keys K (numbers t ok)) same 16 e l

@@ -54,7 +54,7 @@ module _ (t : Tables) (ok : sound t ≡ true) (q : Request) (p : Places) (P : Pl
     pub parent-in : o < 64
     parent-in = rw above (cond-less (eqb (q .call) kind.create) _ _ (P .parent .small) (numbers t ok (p .entity) (P .entity .small) .parent))
 
-    module _ (keys grants : List ℕ) (K : Keys t keys) (G : Grants t grants) (f : Found)
+    module _ (keys grants : List ℕ) (K : Keys (t .entities) keys) (G : Grants (t .roles) grants) (f : Found)
         (found : FoundBy keys grants q (sessionAt t (p .seat) .roles) (p .entity) o f)
       where
         named : q .call ≡ kind.create → o ≡ p .parent

@@ -51,10 +51,10 @@ pub record Held (t₀ : Tables) (rows old : List ℕ) (i : ℕ) (t : Tables) (sa
   pub ran : t ≡ run t₀ (requests i rows)
   pub isSound : sound t ≡ true
   pub answered : said ≡ answers t₀ (requests i rows) ++ drop i old
-  pub keys : Keys t k
-  pub grants : Grants t g
+  pub keys : Keys (t .entities) k
+  pub grants : Grants (t .roles) g
 
-pub held-none : (t : Tables) (rows old keys grants : List ℕ) → sound t ≡ true → Keys t keys → Grants t grants → Held t rows old 0 t old keys grants
+pub held-none : (t : Tables) (rows old keys grants : List ℕ) → sound t ≡ true → Keys (t .entities) keys → Grants (t .roles) grants → Held t rows old 0 t old keys grants
 unfolding run answers tabulate
 held-none t rows old keys grants h K G = record { ran = refl; isSound = h; answered = refl; keys = K; grants = G }
 
@@ -66,7 +66,7 @@ module _ (t₀ : Tables) (rows old : List ℕ) (i : ℕ) (t : Tables) (said keys
   passed : length (answers t₀ (requests i rows)) ≡ i
   passed = length-answers t₀ (requests i rows) ∙ length-tabulate (requestAt rows) i
 
-  pub held-more : (q : Request) → q ≡ requestAt rows i → i < length old → (u : Tables) (n : ℕ) → Stepped t q u n → (keys′ grants′ : List ℕ) → Keys u keys′ → Grants u grants′
+  pub held-more : (q : Request) → q ≡ requestAt rows i → i < length old → (u : Tables) (n : ℕ) → Stepped t q u n → (keys′ grants′ : List ℕ) → Keys (u .entities) keys′ → Grants (u .roles) grants′
       → Held t₀ rows old (i + 1) u (set said i n) keys′ grants′
   held-more q asked low u n step keys′ grants′ K G =
       let after : u ≡ next t (requestAt rows i) = step .tables ∙ ap (next t) asked in

@@ -11,29 +11,29 @@ use lib.ListN.{length, getD}
 use Rattle.bitset.specs.Tests.{every, some}
 use Rattle.bitset.specs.Sets.{has, without}
 use Rattle.guard.specs.Level.{roleCount, entityCount, entitiesPerLevel}
-use Rattle.guard.specs.Tables.{roleAt, entityAt}
+use Rattle.guard.specs.Tables.{noRole, noEntity}
 use Rattle.guard.specs.Chain.{climbs}
 use Rattle.guard.specs.Tested.{keyOf, parentByKey}
 use Rattle.guard.specs.Inside.{asksWay, asksName, asksRights}
 use Rattle.guard.specs.Kind as kind
 use Rattle.guard.specs.declared.Role.{Role}
-use Rattle.guard.specs.declared.Tables.{Tables}
+use Rattle.guard.specs.declared.Entity.{Entity}
 use Rattle.guard.specs.declared.Request.{Request}
 use Rattle.guard.specs.declared.scan.Rights.{Rights}
 use Rattle.guard.specs.declared.scan.Found.{Found}
 
 -- ---- the columns
-pub record Keys (t : Tables) (keys : List ℕ) : Type 0 where
+pub record Keys (entities : List Entity) (keys : List ℕ) : Type 0 where
   pub long : length keys ≡ entityCount
-  pub at : (e : ℕ) → e < entityCount → getD keys e 0 ≡ keyOf (entityAt t e)
+  pub at : (e : ℕ) → e < entityCount → getD keys e 0 ≡ keyOf (getD entities e noEntity)
 
 -- the entities on which a role has the right: 0 read, 1 write, 2 execute, 3 own
 unfoldable pub side : Role → ℕ → ℕ
 side p k = getD (p .reads ∷ p .writes ∷ p .executes ∷ p .owns ∷ []) k 0
 
-pub record Grants (t : Tables) (grants : List ℕ) : Type 0 where
+pub record Grants (roles : List Role) (grants : List ℕ) : Type 0 where
   pub long : length grants ≡ 4 * roleCount
-  pub at : (r k : ℕ) → r < roleCount → k < 4 → getD grants (4 * r + k) 0 ≡ side (roleAt t r) k
+  pub at : (r k : ℕ) → r < roleCount → k < 4 → getD grants (4 * r + k) 0 ≡ side (getD roles r noRole) k
 
 -- the sets of role r stored anew; a deleted entity taken out of each set
 pub record Granted (old : List ℕ) (r : ℕ) (p : Role) (new : List ℕ) : Type 0 where

@@ -15,6 +15,7 @@ use crate::sizes::LEVEL_ROLES;
 use crate::sizes::ROLES;
 use crate::sizes::SESSIONS;
 use crate::sizes::USERS;
+use crate::sound::record;
 ghost use mathlib.Core.Path.{_≡_};
 ghost use Prim.Native.Nat.{_<_};
 ghost use Rattle.guard.specs.Fresh.{freshRole, freshEntity, tabulate, fresh, build};
@@ -107,7 +108,7 @@ impl Tables {
         ensures { λ o. ⌜ o ≡ build users ⌝ }
     {
         let tables = fresh_over(users);
-        if tables.users_in_range() {
+        if record::users_in_range(users) {
             return Outcome { tables, answer: 0 };
         }
         let none = Label { cats: 0, grade: 0 };

@@ -25,12 +25,14 @@ impl Tables {
         if count == 0 {
             return self;
         }
-        let mut keys = self.keys();
+        let entities = self.entities;
+        let mut keys = tree::keys(entities);
         if !self.sound_by(&keys) {
             rows::refuse(answers, count);
             return self;
         }
-        let mut grants = self.grants();
+        let roles = self.roles;
+        let mut grants = scan::grants(roles);
         let mut i = 0usize;
         while i < count {
             // The records that the request concerns.

@@ -2,7 +2,6 @@
 // (`keys`, sound/tree), and for each role its four sets of entities (`grants`). A function that took the records would copy them.
 use crate::Request;
 use crate::Role;
-use crate::Tables;
 use crate::kinds;
 use crate::look;
 use crate::sizes::BLOCK;
@@ -38,20 +37,18 @@ pub struct Found {
     pub child: bool,
 }
 
-impl Tables {
-    // Of each role its sets, as its record has them.
-    pub(crate) fn grants(self) -> [u64; GRANTS]
-        ensures { λ g. ⌜ Grants self g ⌝ }
-    {
-        let mut g = [0u64; GRANTS];
-        let mut r = 0usize;
-        while r < ROLES {
-            let p = self.roles[r];
-            put(&mut g, r, p);
-            r += 1;
-        }
-        g
+// Of each role its sets, as its record has them.
+pub fn grants(roles: [Role; ROLES]) -> [u64; GRANTS]
+    ensures { λ g. ⌜ Grants roles g ⌝ }
+{
+    let mut g = [0u64; GRANTS];
+    let mut r = 0usize;
+    while r < ROLES {
+        let p = roles[r];
+        put(&mut g, r, p);
+        r += 1;
     }
+    g
 }
 
 // The sets of role `r`.

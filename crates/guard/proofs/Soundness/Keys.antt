@@ -30,7 +30,7 @@ cond-true b x y q = rw q
 cond-false : (b : Bool) (x y : ℕ) → b ≡ false → cond b x y ≡ y
 cond-false b x y q = rw q
 
-module _ (t : Tables) (keys : List ℕ) (K : Keys t keys) (N : (e : ℕ) → e < 64 → Known e (entityAt t e)) where
+module _ (t : Tables) (keys : List ℕ) (K : Keys (t .entities) keys) (N : (e : ℕ) → e < 64 → Known e (entityAt t e)) where
   pub key-live : (e : ℕ) → e < 64 → entityAt t e .live ≡ true → getD keys e 0 ≡ entityAt t e .parent * 65536 + entityAt t e .name
   key-live e l h = K .at e l ∙ cond-true (entityAt t e .live) _ _ h
 

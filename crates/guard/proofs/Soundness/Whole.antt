@@ -58,7 +58,7 @@ settled-by : (t : Tables) → entitiesTest t ≡ true → (k : ℕ) → k < 64 �
 settled-by t e k l = settled t k _ l (all-e 64 _ e k l)
 
 -- ---- what the set of the live entities rests on
-pub keys-small : (t : Tables) (keys : List ℕ) → Keys t keys → entitiesTest t ≡ true → (e : ℕ) → e < 64 → getD keys e 0 ≤ 16777216
+pub keys-small : (t : Tables) (keys : List ℕ) → Keys (t .entities) keys → entitiesTest t ≡ true → (e : ℕ) → e < 64 → getD keys e 0 ≤ 16777216
 keys-small t keys K h = key-small t keys K (λ k l. known t k _ (settled-by t h k l))
 
 -- ---- what sound tables pass
@@ -85,7 +85,7 @@ module _ (t : Tables) (h : sound t ≡ true) where
   pub entities-pass : entitiesTest t ≡ true
   entities-pass = all-i 64 _ (λ e l. test-of t e _ (settled-of t e (ok .entity e l)))
 
-  pub chains-pass : (keys : List ℕ) → Keys t keys → chainsTest keys ≡ true
+  pub chains-pass : (keys : List ℕ) → Keys (t .entities) keys → chainsTest keys ≡ true
   chains-pass keys K = chains-as t keys K numbers ∙ all-i 64 _ (λ e l. go e l (entityAt t e .live) refl (isRoot e) refl)
     where
       go : (e : ℕ) → e < 64 → (b : Bool) → entityAt t e .live ≡ b → (r : Bool) → isRoot e ≡ r → ends (parentIn (t .entities)) 16 e ≡ true
@@ -93,10 +93,10 @@ module _ (t : Tables) (h : sound t ≡ true) where
       go e l true live false r = ok .entity e l .placed live r .inside .chain
       go e l false dead false r = climbs-on _ _ 16 e (omega arith) r ∙ rw (numbers e l .dead dead .0) (climbs-root _ _ 15 0 refl)
 
-  pub names-pass : (keys : List ℕ) → Keys t keys → namesTest keys ≡ true
+  pub names-pass : (keys : List ℕ) → Keys (t .entities) keys → namesTest keys ≡ true
   names-pass keys K = all-i 64 _ (λ e l. own-i t keys K numbers e l (λ live other. ok .entity e l .placed live other .ownName))
 
-  pub roles-pass : (keys : List ℕ) (live : ℕ) → Keys t keys → Taken keys live → rolesTest t live ≡ true
+  pub roles-pass : (keys : List ℕ) (live : ℕ) → Keys (t .entities) keys → Taken keys live → rolesTest t live ≡ true
   roles-pass keys live K L = all-i 16 _ (λ r l. role-i t live (λ e k. L e k ∙ live-of-key t keys K numbers e k) r _ (ok .role r l))
 
   pub sessions-pass : (labels : List ℕ) (roles : ℕ) → Labels t labels → LiveRoles t roles → sessionsTest t labels roles ≡ true
@@ -116,7 +116,7 @@ pub record Sized (t : Tables) : Type 0 where
   pub roles : length (t .roles) ≡ 16
   pub entities : length (t .entities) ≡ 64
 
-passed : (t : Tables) (keys labels : List ℕ) (live roles : ℕ) → Sized t → Keys t keys → Taken keys live → Labels t labels → LiveRoles t roles
+passed : (t : Tables) (keys labels : List ℕ) (live roles : ℕ) → Sized t → Keys (t .entities) keys → Taken keys live → Labels t labels → LiveRoles t roles
     → usersTest t ≡ true → entitiesTest t ≡ true → chainsTest keys ≡ true → namesTest keys ≡ true → rolesTest t live ≡ true → sessionsTest t labels roles ≡ true
     → sound t ≡ true
 unfolding usersInRange
@@ -149,7 +149,7 @@ passed t keys labels live roles size K L B R u e c n r s =
     numbers′ : (k : ℕ) → k < 64 → Known k (entityAt t k)
     numbers′ k l = known t k _ (settled′ k l)
 
-pub decided : (t : Tables) (keys labels : List ℕ) (live roles : ℕ) → Sized t → Keys t keys → Taken keys live → Labels t labels → LiveRoles t roles
+pub decided : (t : Tables) (keys labels : List ℕ) (live roles : ℕ) → Sized t → Keys (t .entities) keys → Taken keys live → Labels t labels → LiveRoles t roles
     → usersTest t ≡ true → entitiesTest t ≡ true → chainsTest keys ≡ true → namesTest keys ≡ true → rolesTest t live ≡ true
     → (r : Bool) → r ≡ sessionsTest t labels roles → r ≡ sound t
 decided t keys labels live roles size K L B R u e c n p r s =

@@ -1,10 +1,12 @@
-// A session, and what it has open, by a label for each entity: grade and categories in one number.
+// Sessions, and what they have open, by a label for each entity: grade and categories in one number.
 ghost use Prim.Native.Nat.{ℕ, _<_};
 ghost use mathlib.Core.Path.{_≡_};
 ghost use lib.Dec.{leb, eqb};
 ghost use lib.ListN.{getD};
+ghost use Rattle.bitset.specs.Tests.{all};
 ghost use Rattle.bitset.specs.Sets.{has};
-ghost use Rattle.guard.specs.Level.{entityLevel};
+ghost use Rattle.guard.specs.Level.{sessionLevel, entityLevel};
+ghost use Rattle.guard.specs.Tables.{noSession, noEntity};
 ghost use Rattle.guard.specs.Tested.{packedLabel, labelNumber, dominated, members, openLevels, openLabels, sessionTest};
 use super::record::is_empty_session;
 use super::record::session_in_range;
@@ -12,6 +14,9 @@ use crate::Entity;
 use crate::Label;
 use crate::Session;
 use crate::sizes::ENTITIES;
+use crate::sizes::LEVEL_SEATS;
+use crate::sizes::SEAT_END;
+use crate::sizes::SESSIONS;
 
 fn packed(a: Label) -> u16
     ensures { λ r. ⌜ r ≡ packedLabel a ⌝ }
@@ -20,13 +25,26 @@ fn packed(a: Label) -> u16
 }
 
 // The label of what is not live is above all.
-pub fn label_of(n: Entity) -> u16
+fn label_of(n: Entity) -> u16
     ensures { λ r. ⌜ r ≡ labelNumber n ⌝ }
 {
     if !n.live {
         return 65535;
     }
     packed(n.label)
+}
+
+pub fn labels(entities: [Entity; ENTITIES]) -> [u16; ENTITIES]
+    ensures { λ r. ⌜ ((e : ℕ) → e < 64 → getD r e 0 ≡ labelNumber (getD entities e noEntity)) ⌝ }
+{
+    let mut a = [0u16; ENTITIES];
+    let mut e: usize = 0;
+    while e < ENTITIES {
+        let n = entities[e];
+        a[e] = label_of(n);
+        e += 1;
+    }
+    a
 }
 
 // Whether `label` dominates the label of each member of `set`.
@@ -118,7 +136,7 @@ fn labels_allowed(labels: &[u16; ENTITIES], s: Session) -> bool
 }
 
 // Whether `s`, at a level, is as soundness asks; `roles` are the live ones.
-pub fn session_ok(labels: &[u16; ENTITIES], roles: u16, level: u32, s: Session) -> bool
+fn session_ok(labels: &[u16; ENTITIES], roles: u16, level: u32, s: Session) -> bool
     requires { ⌜ level < 4 ⌝ }
     ensures { λ r. ⌜ r ≡ sessionTest (now (labels .entry)) roles level s ⌝ }
 {
@@ -132,4 +150,18 @@ pub fn session_ok(labels: &[u16; ENTITIES], roles: u16, level: u32, s: Session) 
         return false;
     }
     labels_allowed(labels, s)
+}
+
+pub fn sessions_ok(sessions: [Session; SESSIONS], labels: &[u16; ENTITIES], roles: u16) -> bool
+    ensures { λ r. ⌜ r ≡ all 16 (λ s. sessionTest (now (labels .entry)) roles (sessionLevel s) (getD sessions s noSession)) ⌝ }
+{
+    let mut s: u32 = 0;
+    while s < SEAT_END {
+        let x = sessions[s as usize];
+        if !session_ok(labels, roles, s / LEVEL_SEATS, x) {
+            return false;
+        }
+        s += 1;
+    }
+    true
 }

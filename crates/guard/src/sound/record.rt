@@ -1,6 +1,10 @@
-// Tests of one record that soundness asks. Each is the definition of specs/Sound or specs/Label that its contract cites;
+// Tests of one record that soundness asks, and of each user and entity in turn. Each is the definition of specs/Sound or specs/Label that its contract cites;
 // what holds of every value of a field's type, as that a `u8` is at most 255, is not tested.
+ghost use Prim.Native.Nat.{_%_};
 ghost use mathlib.Core.Path.{_≡_};
+ghost use lib.ListN.{getD};
+ghost use Rattle.bitset.specs.Tests.{all};
+ghost use Rattle.guard.specs.Tables.{noUser, noEntity};
 ghost use Rattle.guard.specs.Label.{sameLabel, noLabel};
 ghost use Rattle.guard.specs.Sound.{userInRange, sessionInRange, entityInRange, isRootRecord, isEmptyEntity, isEmptySession};
 ghost use Rattle.guard.specs.Tested.{fits, entityTest};
@@ -9,6 +13,11 @@ use crate::Label;
 use crate::Session;
 use crate::User;
 use crate::labels;
+use crate::sizes::ENTITIES;
+use crate::sizes::USERS;
+
+// The count as the loop has it that hands a number on.
+const ENTITY_COUNT: u8 = ENTITIES as u8;
 
 fn is_no_label(a: Label) -> bool
     ensures { λ r. ⌜ r ≡ sameLabel a noLabel ⌝ }
@@ -16,10 +25,23 @@ fn is_no_label(a: Label) -> bool
     (a.grade == 0) & (a.cats == 0)
 }
 
-pub fn user_in_range(u: User) -> bool
+fn user_in_range(u: User) -> bool
     ensures { λ r. ⌜ r ≡ userInRange u ⌝ }
 {
     (u.ceiling <= 3) & labels::in_range(u.clearance)
+}
+
+pub fn users_in_range(users: [User; USERS]) -> bool
+    ensures { λ r. ⌜ r ≡ all 16 (λ u. userInRange (getD users u noUser)) ⌝ }
+{
+    let mut u: usize = 0;
+    while u < USERS {
+        if !user_in_range(users[u]) {
+            return false;
+        }
+        u += 1;
+    }
+    true
 }
 
 pub fn session_in_range(s: Session) -> bool
@@ -63,7 +85,7 @@ fn fits_in(e: u8, n: Entity, p: Entity) -> bool
 // Whether the entity `e`, whose record is `n` and whose parent's is `p`, is as soundness asks, but for its name among its
 // siblings and its chain of parents. One that is not live is no root and is empty; the ranges of a root and of an empty
 // record follow.
-pub fn entity_ok(e: u8, n: Entity, p: Entity) -> bool
+fn entity_ok(e: u8, n: Entity, p: Entity) -> bool
     ensures { λ r. ⌜ r ≡ entityTest e n p ⌝ }
 {
     if !n.live {
@@ -73,4 +95,19 @@ pub fn entity_ok(e: u8, n: Entity, p: Entity) -> bool
         return is_root_record(e, n);
     }
     entity_in_range(n) & ((1 <= n.name) & fits_in(e, n, p))
+}
+
+pub fn entities_ok(entities: [Entity; ENTITIES]) -> bool
+    ensures { λ r. ⌜ r ≡ all 64 (λ e. entityTest e (getD entities e noEntity) (getD entities (getD entities e noEntity .parent % 64) noEntity)) ⌝ }
+{
+    let mut e: u8 = 0;
+    while e < ENTITY_COUNT {
+        let n = entities[e as usize];
+        let p = entities[(n.parent % ENTITY_COUNT) as usize];
+        if !entity_ok(e, n, p) {
+            return false;
+        }
+        e += 1;
+    }
+    true
 }

@@ -1,10 +1,25 @@
-// A role and its rights, by the set of the entities on which it may have some.
-ghost use Prim.Native.Nat.{_<_};
+// Roles and their rights, by the set of the entities on which it may have some.
+ghost use Prim.Native.Nat.{ℕ, _<_};
 ghost use mathlib.Core.Path.{_≡_};
-ghost use mathlib.Core.Bool.{cond};
+ghost use mathlib.Core.Bool.{true, cond};
+ghost use lib.ListN.{getD};
+ghost use Rattle.bitset.specs.Tests.{all};
 ghost use Rattle.bitset.specs.Sets.{has, with};
-ghost use Rattle.guard.specs.Tested.{roleTest};
+ghost use Rattle.guard.specs.Tables.{noRole};
+ghost use Rattle.guard.specs.Tested.{grantableIn, roleTest};
+use super::opens::to_level;
 use crate::Role;
+use crate::sizes::LEVEL_ROLES;
+use crate::sizes::ROLES;
+
+// The count as the loop has it that hands a number on.
+const ROLE_COUNT: u8 = ROLES as u8;
+
+// What is found of the roles: whether each is as soundness asks, and if so the set of those that are live.
+pub struct Roles {
+    pub ok: bool,
+    pub live: u16,
+}
 
 // A role that is not live may have no rights.
 fn bound(live: bool, set: u64) -> u64
@@ -14,7 +29,7 @@ fn bound(live: bool, set: u64) -> u64
 }
 
 // Whether the role `r`, whose record is `p`, is as soundness asks; `set` are the live entities of at most its level.
-pub fn role_ok(set: u64, r: u8, p: Role) -> bool
+fn role_ok(set: u64, r: u8, p: Role) -> bool
     ensures { λ ok. ⌜ ok ≡ roleTest (has set) r p ⌝ }
 {
     if !p.live & ((r % 4 == 0) | (p.users != 0)) {
@@ -24,7 +39,7 @@ pub fn role_ok(set: u64, r: u8, p: Role) -> bool
 }
 
 // `set`, and `r` where it is live.
-pub fn listed(set: u16, r: u8, live: bool) -> u16
+fn listed(set: u16, r: u8, live: bool) -> u16
     requires { ⌜ r < 16 ⌝ }
     ensures { λ s. ⌜ s ≡ cond live (with set r) set ⌝ }
 {
@@ -32,4 +47,26 @@ pub fn listed(set: u16, r: u8, live: bool) -> u16
         return set;
     }
     bitset::with16(set, r as u32)
+}
+
+// The roles, where `live` are the live entities.
+pub fn roles_ok(roles: [Role; ROLES], live: u64) -> Roles
+    ensures { λ r. ⌜ r .ok ≡ all 16 (λ k. roleTest (grantableIn live k) k (getD roles k noRole)) ⌝ }
+    ensures { λ r. ⌜ (r .ok ≡ true → (k : ℕ) → k < 16 → has (r .live) k ≡ getD roles k noRole .live) ⌝ }
+{
+    let mut found: u16 = 0;
+    let mut r: u8 = 0;
+    while r < ROLE_COUNT {
+        let p = roles[r as usize];
+        let set = live & to_level((r as u32) / LEVEL_ROLES);
+        if !role_ok(set, r, p) {
+            return Roles { ok: false, live: 0 };
+        }
+        found = listed(found, r, p.live);
+        r += 1;
+    }
+    Roles {
+        ok: true,
+        live: found,
+    }
 }

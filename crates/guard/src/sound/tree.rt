@@ -7,6 +7,7 @@ ghost use lib.ListN.{getD};
 ghost use Rattle.bitset.specs.Tests.{all};
 ghost use Rattle.bitset.specs.Sets.{has};
 ghost use Rattle.guard.specs.Tested.{keyOf, ownKey, ends, parentByKey, liveByKey};
+ghost use Rattle.guard.specs.Scan.{Keys};
 use crate::Entity;
 use crate::sizes::BLOCK;
 use crate::sizes::ENTITIES;
@@ -26,6 +27,20 @@ pub fn key(n: Entity) -> u32
         return DEAD;
     }
     (n.parent as u32) * NAMES + (n.name as u32)
+}
+
+// Of each entity its parent and its name in one number.
+pub fn keys(entities: [Entity; ENTITIES]) -> [u32; ENTITIES]
+    ensures { λ r. ⌜ Keys entities r ⌝ }
+{
+    let mut a = [0u32; ENTITIES];
+    let mut e: usize = 0;
+    while e < ENTITIES {
+        let n = entities[e];
+        a[e] = key(n);
+        e += 1;
+    }
+    a
 }
 
 // The entities that are live: of a key, bit 24 alone tells it.

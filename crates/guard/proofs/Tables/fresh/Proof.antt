@@ -13,10 +13,9 @@ use Rattle.guard.proofs.Tables.fresh.Tie as tie
 many : (c : tie.Start) → length (c .args .users) ≡ 16
 many c = search (long, c .good .0)
 
--- the test of the built tables is the test of the users that they were built from
 tested : (c : tie.After-users-in-range) → c .users-in-range .result ≡ usersInRange (c .before .before .args .users)
-unfolding usersInRange fresh
-tested c = c .users-in-range .ensures ∙ rw (c .before .fresh-over .ensures) (sym (every-two _ _ (eq-eqb _ _ (many (c .before .before)))))
+unfolding usersInRange
+tested c = c .users-in-range .ensures ∙ sym (every-two _ _ (eq-eqb _ _ (many (c .before .before))))
 
 fresh-over-requires : tie.Need-fresh-over-requires
 fresh-over-requires c κs = search needs

@@ -15,6 +15,9 @@ sized c = record {
   entities = search (long, c .good .0);
 }
 
+abbrev start : tie.After-entities-ok → tie.Start
+start c = c .before .before .before .before .before
+
 users-in-range-requires : tie.Need-users-in-range-requires
 users-in-range-requires c κs = search needs
 
@@ -31,16 +34,19 @@ end-at-root-requires : tie.Need-end-at-root-requires
 end-at-root-requires c κs = search needs
 
 returns-3 : tie.Need-returns-3
-returns-3 c = refuted _ _ _ (c .before .end-at-root .ensures) (λ h. chains-pass _ h _ (c .before .before .before .before .before .before .pre)) (c .if3 .taken)
+returns-3 c = refuted _ _ _ (c .before .end-at-root .ensures) (λ h. chains-pass _ h _ (start (c .before .before .before) .pre)) (c .if3 .taken)
 
 have-own-keys-requires : tie.Need-have-own-keys-requires
 have-own-keys-requires c κs = search needs
 
 returns-4 : tie.Need-returns-4
-returns-4 c = refuted _ _ _ (c .before .have-own-keys .ensures) (λ h. names-pass _ h _ (c .before .before .before .before .before .before .before .before .pre)) (c .if4 .taken)
+returns-4 c = refuted _ _ _ (c .before .have-own-keys .ensures) (λ h. names-pass _ h _ (start (c .before .before .before .before .before) .pre)) (c .if4 .taken)
 
 live-set-requires : tie.Need-live-set-requires
-live-set-requires c κs = let two = c .before .before .before .before in keys-small _ _ (two .before .before .before .before .pre) (met _ _ (two .before .entities-ok .ensures) (two .if2 .left))
+live-set-requires c κs =
+    let two = c .before .before .before .before in
+    let at = start (two .before) in
+    keys-small (at .args .self) _ (at .pre) (met _ _ (two .before .entities-ok .ensures) (two .if2 .left))
 
 roles-ok-requires : tie.Need-roles-ok-requires
 roles-ok-requires c κs = search needs
@@ -48,9 +54,9 @@ roles-ok-requires c κs = search needs
 returns-5 : tie.Need-returns-5
 returns-5 c =
     let roles = c .before .before in
-    let live = roles .before in
+    let live = roles .before .before in
     refuted _ _ _ (roles .roles-ok .ensures .0)
-    (λ h. roles-pass _ h _ (live .live-set .result) (live .before .before .before .before .before .before .before .before .before .pre) (live .live-set .ensures))
+    (λ h. roles-pass _ h _ (live .live-set .result) (start (live .before .before .before .before .before .before) .pre) (live .live-set .ensures))
     (c .if5 .taken)
 
 labels-requires : tie.Need-labels-requires
@@ -61,22 +67,22 @@ sessions-ok-requires c κs = search needs
 
 returns-6 : tie.Need-returns-6
 returns-6 c =
-    let labels = c .before .before in
+    let labels = c .before .before .before in
     let five = labels .before in
     let roles = five .before .before in
-    let live = roles .before in
+    let live = roles .before .before in
     let four = live .before in
     let names = four .before in
     let three = names .before in
     let chains = three .before in
     let two = chains .before in
     let entities = two .before in
-    let one = entities .before in
+    let one = entities .before .before in
     let users = one .before in
-    let start = users .before in
+    let at = start entities in
     let passed = of-not-false (roles .roles-ok .result .ok) (five .if5 .left) in
-    decided (start .args .self) _ (labels .labels .result) (live .live-set .result) (roles .roles-ok .result .live)
-    (sized start) (start .pre) (live .live-set .ensures) (labels .labels .ensures) (roles .roles-ok .ensures .1 passed)
+    decided (at .args .self) _ (labels .labels .result) (live .live-set .result) (roles .roles-ok .result .live)
+    (sized at) (at .pre) (live .live-set .ensures) (labels .labels .ensures) (roles .roles-ok .ensures .1 passed)
     (met _ _ (users .users-in-range .ensures) (one .if1 .left))
     (met _ _ (entities .entities-ok .ensures) (two .if2 .left))
     (met _ _ (chains .end-at-root .ensures) (three .if3 .left))

@@ -1,23 +1,24 @@
--- `guard::Tables::roles_ok` tests each role in turn, and lists those that are live. Assumes nothing.
+-- `roles_ok` tests each role in turn, and lists those that are live. Assumes nothing.
 use Prim.Native.Nat.{_-_, _≤_}
 use native.Mathlib.Omega.{arith}
 use mathlib.Core.Bool.{true, false}
 use mathlib.Core.Path.{_≡_, refl, _∙_}
+use lib.ListN.{getD}
 use Rattle.bitset.specs.Tests.{all}
 use Rattle.bitset.specs.Tests.Laws.{clash, all-none}
-use Rattle.guard.specs.Tables.{roleAt}
+use Rattle.guard.specs.Tables.{noRole}
 use Rattle.guard.specs.Tested.{grantableIn, roleTest}
 use Rattle.guard.proofs.Soundness.Loops.{all-miss, all-next, all-done, Listed, listed-none, listed-more}
 use Rattle.guard.proofs.Soundness.Grants.{role-masked}
-use Rattle.guard.proofs.Tables.roles_ok.Statement.{statement}
-use Rattle.guard.proofs.Tables.roles_ok.Tie as tie
+use Rattle.guard.proofs.sound.rights.roles_ok.Statement.{statement}
+use Rattle.guard.proofs.sound.rights.roles_ok.Tie as tie
 
 abbrev Inv-loop : tie.InvT-loop
-Inv-loop live self found₀ r₀ found r =
-    (r ≤ 16) × (all r (λ k. roleTest (grantableIn live k) k (roleAt self k)) ≡ true) × Listed 16 (λ k. roleAt self k .live) r found
+Inv-loop live roles found₀ r₀ found r =
+    (r ≤ 16) × (all r (λ k. roleTest (grantableIn live k) k (getD roles k noRole)) ≡ true) × Listed 16 (λ k. getD roles k noRole .live) r found
 
 abbrev μ-loop : tie.MeasureT-loop
-μ-loop live self found₀ r₀ found r = 16 - r
+μ-loop live roles found₀ r₀ found r = 16 - r
 
 loop-holds : tie.Need-loop-holds Inv-loop μ-loop
 loop-holds c = (omega arith, all-none _, listed-none 16 _ (omega arith))
@@ -28,8 +29,8 @@ cast-p c = omega arith
 mul-p : tie.Need-mul-p Inv-loop μ-loop
 mul-p c = omega arith
 
-element-copy-out-p : tie.Need-element-copy-out-p Inv-loop μ-loop
-element-copy-out-p c = omega arith
+array-copy-out-p : tie.Need-array-copy-out-p Inv-loop μ-loop
+array-copy-out-p c = omega arith
 
 cast-to-level : tie.Need-cast-to-level Inv-loop μ-loop
 cast-to-level c = omega arith
@@ -43,11 +44,11 @@ role-ok-requires c κs = tt
 tested : (c : tie.After-role-ok Inv-loop μ-loop)
     → let a = c .before .before .before .before .before .args in
     let r = c .before .before .before .before .loop .r in
-    c .role-ok .result ≡ roleTest (grantableIn (a .live) r) r (roleAt (a .t1) r)
+    c .role-ok .result ≡ roleTest (grantableIn (a .live) r) r (getD (a .t1) r noRole)
 tested c =
     let a = c .before .before .before .before .before .args in
     let r = c .before .before .before .before .loop .r in
-    c .role-ok .ensures ∙ role-masked (a .live) (c .before .to-level .result) r (roleAt (a .t1) r) (c .before .to-level .ensures)
+    c .role-ok .ensures ∙ role-masked (a .live) (c .before .to-level .result) r (getD (a .t1) r noRole) (c .before .to-level .ensures)
 
 returns : tie.Need-returns Inv-loop μ-loop
 returns c = (all-miss _ (c .before .before .before .before .before .loop .r) _ _ (omega arith) (tested (c .before)) (c .if1 .taken), λ h. absurd (clash false h refl))
@@ -80,7 +81,7 @@ roles-ok-spec =
     loop-holds
     cast-p
     mul-p
-    element-copy-out-p
+    array-copy-out-p
     cast-to-level
     to-level-requires
     role-ok-requires

@@ -1,4 +1,4 @@
--- `guard::Tables::users_in_range` tests each user in turn. Assumes nothing.
+-- `users_in_range` tests each user in turn. Assumes nothing.
 use borrow.Author.Needs.{needs}
 use Prim.Native.Nat.{_-_, _≤_}
 use native.Mathlib.Omega.{arith}
@@ -10,14 +10,14 @@ use Rattle.bitset.specs.Tests.Laws.{all-none}
 use Rattle.guard.specs.Tables.{noUser}
 use Rattle.guard.specs.Sound.{userInRange}
 use Rattle.guard.proofs.Soundness.Loops.{all-miss, all-next, all-done}
-use Rattle.guard.proofs.Tables.users_in_range.Statement.{statement}
-use Rattle.guard.proofs.Tables.users_in_range.Tie as tie
+use Rattle.guard.proofs.sound.record.users_in_range.Statement.{statement}
+use Rattle.guard.proofs.sound.record.users_in_range.Tie as tie
 
 abbrev Inv-loop : tie.InvT-loop
-Inv-loop self u₀ u = (u ≤ 16) × (all u (λ k. userInRange (getD (self .users) k noUser)) ≡ true)
+Inv-loop users u₀ u = (u ≤ 16) × (all u (λ k. userInRange (getD users k noUser)) ≡ true)
 
 abbrev μ-loop : tie.MeasureT-loop
-μ-loop self u₀ u = 16 - u
+μ-loop users u₀ u = 16 - u
 
 loop-holds : tie.Need-loop-holds Inv-loop μ-loop
 loop-holds c = (omega arith, all-none _)
@@ -25,8 +25,8 @@ loop-holds c = (omega arith, all-none _)
 mul-user-in-range : tie.Need-mul-user-in-range Inv-loop μ-loop
 mul-user-in-range c = search needs
 
-element-copy-out-user-in-range : tie.Need-element-copy-out-user-in-range Inv-loop μ-loop
-element-copy-out-user-in-range c = omega arith
+array-copy-out-user-in-range : tie.Need-array-copy-out-user-in-range Inv-loop μ-loop
+array-copy-out-user-in-range c = omega arith
 
 user-in-range-requires : tie.Need-user-in-range-requires Inv-loop μ-loop
 user-in-range-requires c κs = search needs
@@ -54,7 +54,7 @@ users-in-range-spec =
     μ-loop
     loop-holds
     mul-user-in-range
-    element-copy-out-user-in-range
+    array-copy-out-user-in-range
     user-in-range-requires
     returns
     add-u

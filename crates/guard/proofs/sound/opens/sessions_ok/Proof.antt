@@ -1,22 +1,23 @@
--- `guard::Tables::sessions_ok` tests each session in turn. Assumes nothing.
+-- `sessions_ok` tests each session in turn. Assumes nothing.
 use Prim.Native.Nat.{_-_, _≤_}
 use native.Mathlib.Omega.{arith}
 use mathlib.Core.Bool.{true}
 use mathlib.Core.Path.{_≡_}
+use lib.ListN.{getD}
 use Rattle.bitset.specs.Tests.{all}
 use Rattle.bitset.specs.Tests.Laws.{all-none}
 use Rattle.guard.specs.Level.{sessionLevel}
-use Rattle.guard.specs.Tables.{sessionAt}
+use Rattle.guard.specs.Tables.{noSession}
 use Rattle.guard.specs.Tested.{sessionTest}
 use Rattle.guard.proofs.Soundness.Loops.{all-miss, all-next, all-done}
-use Rattle.guard.proofs.Tables.sessions_ok.Statement.{statement}
-use Rattle.guard.proofs.Tables.sessions_ok.Tie as tie
+use Rattle.guard.proofs.sound.opens.sessions_ok.Statement.{statement}
+use Rattle.guard.proofs.sound.opens.sessions_ok.Tie as tie
 
 abbrev Inv-loop : tie.InvT-loop
-Inv-loop labels roles self s₀ s = (s ≤ 16) × (all s (λ k. sessionTest labels roles (sessionLevel k) (sessionAt self k)) ≡ true)
+Inv-loop labels roles sessions s₀ s = (s ≤ 16) × (all s (λ k. sessionTest labels roles (sessionLevel k) (getD sessions k noSession)) ≡ true)
 
 abbrev μ-loop : tie.MeasureT-loop
-μ-loop labels roles self s₀ s = 16 - s
+μ-loop labels roles sessions s₀ s = 16 - s
 
 loop-holds : tie.Need-loop-holds Inv-loop μ-loop
 loop-holds c = (omega arith, all-none _)
@@ -27,8 +28,8 @@ cast-x c = omega arith
 mul-x : tie.Need-mul-x Inv-loop μ-loop
 mul-x c = omega arith
 
-element-copy-out-x : tie.Need-element-copy-out-x Inv-loop μ-loop
-element-copy-out-x c = omega arith
+array-copy-out-x : tie.Need-array-copy-out-x Inv-loop μ-loop
+array-copy-out-x c = omega arith
 
 session-ok-requires : tie.Need-session-ok-requires Inv-loop μ-loop
 session-ok-requires c κs = omega arith
@@ -57,7 +58,7 @@ sessions-ok-spec =
     loop-holds
     cast-x
     mul-x
-    element-copy-out-x
+    array-copy-out-x
     session-ok-requires
     returns
     add-s

@@ -1,21 +1,24 @@
--- `guard::Tables::entities_ok` tests each entity in turn. Assumes nothing.
+-- `entities_ok` tests each entity in turn. Assumes nothing.
 use Prim.Native.Nat.{_%_, _-_, _≤_}
 use native.Mathlib.Omega.{arith}
 use mathlib.Core.Bool.{true}
 use mathlib.Core.Path.{_≡_}
+use lib.ListN.{getD}
 use Rattle.bitset.specs.Tests.{all}
 use Rattle.bitset.specs.Tests.Laws.{all-none}
-use Rattle.guard.specs.Tables.{entityAt}
+use Rattle.guard.specs.Tables.{noEntity}
 use Rattle.guard.specs.Tested.{entityTest}
 use Rattle.guard.proofs.Soundness.Loops.{all-miss, all-next, all-done}
-use Rattle.guard.proofs.Tables.entities_ok.Statement.{statement}
-use Rattle.guard.proofs.Tables.entities_ok.Tie as tie
+use Rattle.guard.proofs.sound.record.entities_ok.Statement.{statement}
+use Rattle.guard.proofs.sound.record.entities_ok.Tie as tie
 
 abbrev Inv-loop : tie.InvT-loop
-Inv-loop self e₀ e = (e ≤ 64) × (all e (λ k. entityTest k (entityAt self k) (entityAt self (entityAt self k .parent % 64))) ≡ true)
+Inv-loop entities e₀ e =
+    (e ≤ 64)
+    × (all e (λ k. entityTest k (getD entities k noEntity) (getD entities (getD entities k noEntity .parent % 64) noEntity)) ≡ true)
 
 abbrev μ-loop : tie.MeasureT-loop
-μ-loop self e₀ e = 64 - e
+μ-loop entities e₀ e = 64 - e
 
 loop-holds : tie.Need-loop-holds Inv-loop μ-loop
 loop-holds c = (omega arith, all-none _)
@@ -26,8 +29,8 @@ cast-n c = omega arith
 mul-n : tie.Need-mul-n Inv-loop μ-loop
 mul-n c = omega arith
 
-element-copy-out-n : tie.Need-element-copy-out-n Inv-loop μ-loop
-element-copy-out-n c = omega arith
+array-copy-out-n : tie.Need-array-copy-out-n Inv-loop μ-loop
+array-copy-out-n c = omega arith
 
 cast-p : tie.Need-cast-p Inv-loop μ-loop
 cast-p c = omega arith
@@ -35,8 +38,8 @@ cast-p c = omega arith
 mul-p : tie.Need-mul-p Inv-loop μ-loop
 mul-p c = omega arith
 
-element-copy-out-p : tie.Need-element-copy-out-p Inv-loop μ-loop
-element-copy-out-p c = omega arith
+array-copy-out-p : tie.Need-array-copy-out-p Inv-loop μ-loop
+array-copy-out-p c = omega arith
 
 entity-ok-requires : tie.Need-entity-ok-requires Inv-loop μ-loop
 entity-ok-requires c κs = tt
@@ -65,10 +68,10 @@ entities-ok-spec =
     loop-holds
     cast-n
     mul-n
-    element-copy-out-n
+    array-copy-out-n
     cast-p
     mul-p
-    element-copy-out-p
+    array-copy-out-p
     entity-ok-requires
     returns
     add-e

@@ -7,14 +7,14 @@ use lib.ListN.{length, getD}
 use Rattle.guard.specs.Tables.{roleAt}
 use Rattle.guard.specs.Scan.{side}
 use Rattle.guard.proofs.Columns.{Sides, sides-none, sides-more, sides-all}
-use Rattle.guard.proofs.Tables.grants.Statement.{statement}
-use Rattle.guard.proofs.Tables.grants.Tie as tie
+use Rattle.guard.proofs.scan.grants.Statement.{statement}
+use Rattle.guard.proofs.scan.grants.Tie as tie
 
 abbrev Inv-loop : tie.InvT-loop
-Inv-loop self g₀ r₀ g r = (r ≤ 16) × Sides self r g
+Inv-loop roles g₀ r₀ g r = (r ≤ 16) × Sides roles r g
 
 abbrev μ-loop : tie.MeasureT-loop
-μ-loop self g₀ r₀ g r = 16 - r
+μ-loop roles g₀ r₀ g r = 16 - r
 
 loop-holds : tie.Need-loop-holds Inv-loop μ-loop
 loop-holds c = (omega arith, sides-none _ _ (search needs))
@@ -22,8 +22,8 @@ loop-holds c = (omega arith, sides-none _ _ (search needs))
 mul-p : tie.Need-mul-p Inv-loop μ-loop
 mul-p c = search needs
 
-element-copy-out-p : tie.Need-element-copy-out-p Inv-loop μ-loop
-element-copy-out-p c = search needs
+array-copy-out-p : tie.Need-array-copy-out-p Inv-loop μ-loop
+array-copy-out-p c = search needs
 
 put-requires : tie.Need-put-requires Inv-loop μ-loop
 put-requires c κs = search needs
@@ -48,7 +48,7 @@ grants-spec =
     μ-loop
     loop-holds
     mul-p
-    element-copy-out-p
+    array-copy-out-p
     put-requires
     add-r
     loop-less

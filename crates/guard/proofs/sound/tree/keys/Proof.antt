@@ -1,19 +1,20 @@
--- `guard::Tables::labels` fills its array in turn. Assumes nothing.
+-- `keys` fills its array in turn. Assumes nothing.
 use borrow.Author.Needs.{needs}
 use Prim.Native.Nat.{_-_, _≤_}
 use native.Mathlib.Omega.{arith}
 use mathlib.Core.Path.{refl}
-use Rattle.guard.specs.Tables.{entityAt}
-use Rattle.guard.specs.Tested.{labelNumber}
+use lib.ListN.{getD}
+use Rattle.guard.specs.Tables.{noEntity}
+use Rattle.guard.specs.Tested.{keyOf}
 use Rattle.guard.proofs.Soundness.Loops.{Filled, filled-none, filled-more, filled-all}
-use Rattle.guard.proofs.Tables.labels.Statement.{statement}
-use Rattle.guard.proofs.Tables.labels.Tie as tie
+use Rattle.guard.proofs.sound.tree.keys.Statement.{statement}
+use Rattle.guard.proofs.sound.tree.keys.Tie as tie
 
 abbrev Inv-loop : tie.InvT-loop
-Inv-loop self a₀ e₀ a e = (e ≤ 64) × Filled (λ k. labelNumber (entityAt self k)) e a
+Inv-loop entities a₀ e₀ a e = (e ≤ 64) × Filled (λ k. keyOf (getD entities k noEntity)) e a
 
 abbrev μ-loop : tie.MeasureT-loop
-μ-loop self a₀ e₀ a e = 64 - e
+μ-loop entities a₀ e₀ a e = 64 - e
 
 loop-holds : tie.Need-loop-holds Inv-loop μ-loop
 loop-holds c = (omega arith, filled-none _ _ refl)
@@ -21,11 +22,11 @@ loop-holds c = (omega arith, filled-none _ _ refl)
 mul-n : tie.Need-mul-n Inv-loop μ-loop
 mul-n c = search needs
 
-element-copy-out-n : tie.Need-element-copy-out-n Inv-loop μ-loop
-element-copy-out-n c = search needs
+array-copy-out-n : tie.Need-array-copy-out-n Inv-loop μ-loop
+array-copy-out-n c = search needs
 
-label-of-requires : tie.Need-label-of-requires Inv-loop μ-loop
-label-of-requires c κs = search needs
+key-requires : tie.Need-key-requires Inv-loop μ-loop
+key-requires c κs = search needs
 
 mul-a : tie.Need-mul-a Inv-loop μ-loop
 mul-a c = search needs
@@ -40,21 +41,21 @@ loop-less : tie.Need-loop-less Inv-loop μ-loop
 loop-less c = omega arith
 
 loop-again : tie.Need-loop-again Inv-loop μ-loop
-loop-again c = (omega arith, filled-more _ _ _ _ (omega arith) (c .before .before .before .loop .inv .1) (c .label-of .ensures))
+loop-again c = (omega arith, filled-more _ _ _ _ (omega arith) (c .before .before .before .loop .inv .1) (c .key .ensures))
 
 returns : tie.Need-returns Inv-loop μ-loop
-returns c = filled-all _ _ _ (omega arith) (c .before .loop .inv .1)
+returns c = record { long = c .before .loop .inv .1 .long; at = filled-all _ _ _ (omega arith) (c .before .loop .inv .1) }
 
-pub labels-spec : {M : Type 1} → statement M
-labels-spec =
+pub keys-spec : {M : Type 1} → statement M
+keys-spec =
     tie.close
     (tie.spec
     Inv-loop
     μ-loop
     loop-holds
     mul-n
-    element-copy-out-n
-    label-of-requires
+    array-copy-out-n
+    key-requires
     mul-a
     array-write-a
     add-e
