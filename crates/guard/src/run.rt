@@ -25,14 +25,12 @@ impl Tables {
         if count == 0 {
             return self;
         }
-        let entities = self.entities;
-        let mut keys = tree::keys(entities);
+        let mut keys = self.keys();
         if !self.sound_by(&keys) {
             rows::refuse(answers, count);
             return self;
         }
-        let roles = self.roles;
-        let mut grants = scan::grants(roles);
+        let mut grants = self.grants();
         let mut i = 0usize;
         while i < count {
             // The records that the request concerns.

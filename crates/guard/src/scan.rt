@@ -2,6 +2,7 @@
 // (`keys`, sound/tree), and for each role its four sets of entities (`grants`). A function that took the records would copy them.
 use crate::Request;
 use crate::Role;
+use crate::Tables;
 use crate::kinds;
 use crate::look;
 use crate::sizes::BLOCK;
@@ -37,8 +38,17 @@ pub struct Found {
     pub child: bool,
 }
 
-// Of each role its sets, as its record has them.
-pub fn grants(roles: [Role; ROLES]) -> [u64; GRANTS]
+impl Tables {
+    // Of each role its sets, as its record has them.
+    pub(crate) fn grants(self) -> [u64; GRANTS]
+        ensures { λ g. ⌜ Grants (self .roles) g ⌝ }
+    {
+        let roles = self.roles;
+        column(roles)
+    }
+}
+
+fn column(roles: [Role; ROLES]) -> [u64; GRANTS]
     ensures { λ g. ⌜ Grants roles g ⌝ }
 {
     let mut g = [0u64; GRANTS];

@@ -15,6 +15,14 @@ use crate::Tables;
 use crate::sizes::ENTITIES;
 
 impl Tables {
+    // Of each entity its parent and its name in one number.
+    pub(crate) fn keys(self) -> [u32; ENTITIES]
+        ensures { λ r. ⌜ Keys (self .entities) r ⌝ }
+    {
+        let entities = self.entities;
+        tree::keys(entities)
+    }
+
     // Whether the tables are sound, by the keys of their entities.
     pub(crate) fn sound_by(self, keys: &[u32; ENTITIES]) -> bool
         requires { ⌜ Keys (self .entities) (now keys) ⌝ }
@@ -49,8 +57,7 @@ impl Tables {
     pub fn is_sound(self) -> bool
         ensures { λ r. ⌜ r ≡ sound self ⌝ }
     {
-        let entities = self.entities;
-        let keys = tree::keys(entities);
+        let keys = self.keys();
         self.sound_by(&keys)
     }
 }

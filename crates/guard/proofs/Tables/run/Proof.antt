@@ -38,7 +38,7 @@ At P = P Inv-loop μ-loop
 
 -- ---- the places on the way of one request
 abbrev counted : At tie.After-sound-by → At tie.After-count
-counted c = c .before .before .before .before .before
+counted c = c .before .before .before .before
 
 abbrev rows-at : At tie.After-count → List ℕ
 rows-at c = c .before .before .before .args .rows .now
@@ -75,7 +75,7 @@ abbrev asked : At tie.After-seen → Request
 asked c = place c .before .request .result
 
 abbrev began : At tie.In-loop → At tie.After-count
-began c = counted (c .before .before .before .before .before)
+began c = counted (c .before .before .before .before)
 
 abbrev rows-of : At tie.In-loop → List ℕ
 rows-of c = rows-at (began c)
@@ -185,7 +185,7 @@ grants-requires c κs = search needs
 
 loop-holds : tie.Need-loop-holds Inv-loop μ-loop
 loop-holds c =
-    let tested = c .before .before in
+    let tested = c .before in
     (omega arith, counted (tested .before) .count .ensures, held-none _ _ _ _ _ (sound-at tested) (tested .before .before .before .keys .ensures) (c .grants .ensures))
 
 request-requires : tie.Need-request-requires Inv-loop μ-loop
@@ -251,8 +251,8 @@ enum-told c = search needs
 after-requires : tie.Need-after-requires Inv-loop μ-loop
 after-requires c κs = fits (c .before .before .before)
 
-mul-t64 : tie.Need-mul-t64 Inv-loop μ-loop
-mul-t64 c = omega (arith, near (c .before .before .before .before) .seat .small)
+mul-t62 : tie.Need-mul-t62 Inv-loop μ-loop
+mul-t62 c = omega (arith, near (c .before .before .before .before) .seat .small)
 
 element-set-from-self : tie.Need-element-set-from-self Inv-loop μ-loop
 element-set-from-self c = near (c .before .before .before .before) .seat .small
@@ -403,10 +403,10 @@ loop-again-7 : tie.Need-loop-again-7 Inv-loop μ-loop
 loop-again-7 c = turned (c .before) _ (refuses _ _ _ (sure (c .before .before)) (judged (c .before)) (c .if3 .left)) _ _ (keys-at (c .before .before)) (grants-at (c .before .before))
 
 same-length-2 : tie.Need-same-length-2 Inv-loop μ-loop
-same-length-2 c = held-length _ _ _ _ _ _ _ _ (c .before .loop .inv .2) (omega (arith, c .before .loop .inv .0, room (counted (c .before .before .before .before .before))))
+same-length-2 c = held-length _ _ _ _ _ _ _ _ (c .before .loop .inv .2) (omega (arith, c .before .loop .inv .0, room (counted (c .before .before .before .before))))
 
 returns-3 : tie.Need-returns-3 Inv-loop μ-loop
-returns-3 c = let n : c .before .loop .i ≡ counted (c .before .before .before .before .before) .count .result = omega (arith, c .loop-test .left, c .before .loop .inv .0) in held-all _ _ _ _ _ _ _ _ (c .before .loop .inv .2) (n ∙ c .before .loop .inv .1)
+returns-3 c = let n : c .before .loop .i ≡ counted (c .before .before .before .before) .count .result = omega (arith, c .loop-test .left, c .before .loop .inv .0) in held-all _ _ _ _ _ _ _ _ (c .before .loop .inv .2) (n ∙ c .before .loop .inv .1)
 
 pub run-spec : {M : Type 1} → statement M
 run-spec =
@@ -444,7 +444,7 @@ run-spec =
     change-of-requires
     enum-told
     after-requires
-    mul-t64
+    mul-t62
     element-set-from-self
     loop-less
     loop-again

@@ -1,4 +1,4 @@
--- `grants` has the four sets of each role. Assumes nothing.
+-- `column` has the four sets of each role. Assumes nothing.
 use borrow.Author.Needs.{needs}
 use Prim.Native.Nat.{ℕ, _+_, _*_, _-_, _≤_, _<_}
 use mathlib.Core.Path.{_≡_}
@@ -7,8 +7,8 @@ use lib.ListN.{length, getD}
 use Rattle.guard.specs.Tables.{roleAt}
 use Rattle.guard.specs.Scan.{side}
 use Rattle.guard.proofs.Columns.{Sides, sides-none, sides-more, sides-all}
-use Rattle.guard.proofs.scan.grants.Statement.{statement}
-use Rattle.guard.proofs.scan.grants.Tie as tie
+use Rattle.guard.proofs.scan.column.Statement.{statement}
+use Rattle.guard.proofs.scan.column.Tie as tie
 
 abbrev Inv-loop : tie.InvT-loop
 Inv-loop roles g₀ r₀ g r = (r ≤ 16) × Sides roles r g
@@ -40,8 +40,8 @@ loop-again c = (omega arith, sides-more _ _ _ _ (c .before .before .before .befo
 returns : tie.Need-returns Inv-loop μ-loop
 returns c = sides-all _ _ _ (omega arith) (c .before .loop .inv .1)
 
-pub grants-spec : {M : Type 1} → statement M
-grants-spec =
+pub column-spec : {M : Type 1} → statement M
+column-spec =
     tie.close
     (tie.spec
     Inv-loop
