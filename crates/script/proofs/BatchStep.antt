@@ -28,10 +28,10 @@ use Rattle.script.specs.Run.{atLines, bench, benchOf, Told, toldFirst, f
 use Rattle.script.specs.LineBatch.{batchLines, one, asked, said, texts, Most, Batched}
 use Rattle.script.specs.declared.runner.Runner.{Runner}
 use Rattle.script.specs.declared.batch.Gathered.{Gathered}
+use Rattle.script.specs.Proof.Silent.{rest-lines}
 use Rattle.script.proofs.Texts.{put-nil, put-then, line-length}
 use Rattle.script.proofs.ValuesInTurn.{to-end}
 use Rattle.script.proofs.RequestRows.{requests-take}
-use Rattle.script.proofs.LeftToTell.{rest-lines}
 use Rattle.script.proofs.PieceLoop.{ran, worked, stepped, tail-back}
 use Rattle.script.proofs.LinesInBatch.{asked-snoc, asked-few, texts-snoc, texts-given, texts-length}
 

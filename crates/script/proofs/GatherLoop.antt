@@ -30,9 +30,10 @@ use Rattle.script.specs.declared.line.Line.{Line}
 use Rattle.script.specs.declared.line.Line.the-variants.{Ask, SetUser, Bad}
 use Rattle.script.specs.declared.line.Front.{Front}
 use Rattle.script.specs.declared.batch.Gathered.{Gathered}
+use Rattle.script.specs.Proof.Silent.{put-put}
 use Rattle.script.proofs.ValuesInTurn.{after-drop, to-end}
 use Rattle.script.proofs.Lines.{before-append, after-append}
-use Rattle.script.proofs.LeftToTell.{put-put, line-on}
+use Rattle.script.proofs.LeftToTell.{line-on}
 use Rattle.script.proofs.RequestRows.{requestsOf, requests-on}
 use Rattle.script.proofs.LinesInBatch.{line-in, asked-snoc, asked-few, texts-snoc, texts-given}
 

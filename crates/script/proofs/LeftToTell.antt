@@ -1,39 +1,34 @@
--- What is left to tell: one call after another, by phase, and one line on.
+-- What is left to tell: one call after another, and one line on. By phase, and where nothing is left: specs/Proof/Silent.
 --     goes-nowhere, goes-then      no call, and one call after another
 --     front                        what a store at the front leaves
---     rest-heading, rest-names, rest-lines, rest-over     what is left to tell, by phase
---     line-on, line-none           a line of values, and none
---     over-silent                  a run that is over
+--     line-on                      a line of values
 --     names-on, names-end          the names line with more behind it, and at the end of the input
 --     names-too-long, too-long     a line past 255 bytes
 -- Assumes nothing.
 use Prim.Native.Nat.{ℕ, suc, _+_, _-_, _≤_, _<_}
 use mathlib.Core.Path.{_≡_, refl, ap, _∙_}
 use mathlib.Core.Bool.{Bool, true, false, cond}
-use mathlib.Core.List.{List, [], _∷_, _++_, append-assoc}
-use lib.Dec.{eqb, leb, ltb}
+use mathlib.Core.List.{List, [], _∷_, _++_}
 use lib.ListN.{length, take, drop}
-use lib.Seq.{sets-eq, take-at, drop-at, take-nil}
+use lib.Seq.{sets-eq, take-at, drop-at}
 use native.Mathlib.Nat.{zero-add}
 use native.Mathlib.Omega.{arith}
-use borrow.Author.Tests.{ne-eqb, lt-leb, eqb-true, leb-true, ltb-true}
+use borrow.Author.Tests.{lt-leb}
 use Rattle.bitset.specs.Tests.{every}
 use Rattle.bitset.specs.Tests.Laws.{is-false}
 use Rattle.script.specs.Text.{lines, values}
 use Rattle.script.specs.Names.{isNames}
 use Rattle.script.specs.Line.{readLine}
-use Rattle.script.specs.Report.{Bench, answerLine, heading, lineText, answered, lastLine, firstBench, below}
+use Rattle.script.specs.Report.{Bench, answerLine, lineText, answered, lastLine, firstBench, below}
 use Rattle.script.specs.Slices.{before, after, written, Put}
-use Rattle.script.specs.Run.{atHeading, atNames, atLines, atEnd, benchOf, Told, toldFirst, silent, finally, closing, fromLine, fromNames, rest, isOver, Goes}
+use Rattle.script.specs.Run.{Told, toldFirst, finally, closing, fromLine, fromNames, Goes}
+use Rattle.script.specs.Proof.Silent.{put-put}
 use Rattle.script.specs.declared.line.Line.the-variants.{Bad}
 use Rattle.script.specs.declared.runner.Runner.{Runner}
 use Rattle.script.proofs.Lines.{lines-first, before-whole, after-none}
 use Rattle.script.proofs.NamesLineShort.{names-short}
 
 -- ---- one call after another
-pub put-put : (w v : List ℕ) (p : Told) → toldFirst w (toldFirst v p) ≡ toldFirst (w ++ v) p
-put-put w v p = rw append-assoc
-
 pub goes-then : (e : Bool) (r r2 r3 : Runner) (s s2 s3 w v : List ℕ) → Goes e r s w r2 s2 → Goes e r2 s2 v r3 s3 → Goes e r s (w ++ v) r3 s3
 goes-then e r r2 r3 s s2 s3 w v p q header f =
     let a = p header f in
@@ -64,25 +59,6 @@ front {old} {new} {w} {n} p l =
       text = rw (o, z) (take-at w (drop (length w) old) (length w) refl);
     }
 
--- ---- what is left to tell, by phase
-pub rest-heading : (header : List (List ℕ)) (r : Runner) (s : List ℕ) → r .phase ≡ atHeading → rest header r s ≡ toldFirst heading (fromNames s)
-unfolding rest
-rest-heading header r s p = rw p
-
-pub rest-names : (header : List (List ℕ)) (r : Runner) (s : List ℕ) → r .phase ≡ atNames → rest header r s ≡ fromNames s
-unfolding rest
-rest-names header r s p = rw p
-
-pub rest-lines : (header : List (List ℕ)) (r : Runner) (s : List ℕ) → r .phase ≡ atLines
-    → rest header r s ≡ fromLine header (benchOf r) (r .done) (cond (r .skip) (after 10 s) s)
-unfolding rest
-rest-lines header r s p = rw p
-
-pub rest-over : (header : List (List ℕ)) (r : Runner) (s : List ℕ) → atEnd ≤ r .phase → rest header r s ≡ silent (benchOf r)
-unfolding rest
-rest-over header r s p =
-    rw (ne-eqb (r .phase) 0 (λ e. omega arith), ne-eqb (r .phase) 1 (λ e. omega arith), ne-eqb (r .phase) 2 (λ e. omega arith))
-
 -- ---- one line on
 down : (n : ℕ) → n < lastLine → lastLine - n ≡ suc (lastLine - (n + 1))
 down n h = omega arith
@@ -93,28 +69,6 @@ pub line-on : (header : List (List ℕ)) (b : Bench) (n : ℕ) (s : List ℕ) �
     (fromLine header (answerLine b (readLine header (before 10 s)) .bench) (n + 1) (after 10 s))
 unfolding fromLine answered finally
 line-on header b n s d l = rw (lines-first s l, down n d)
-
-pub line-none : (header : List (List ℕ)) (b : Bench) (n : ℕ) (s : List ℕ) → (n < lastLine → 0 < length s → ⊥) → fromLine header b n s ≡ silent b
-unfolding fromLine answered finally lines
-line-none header b n [] h = rw (take-nil (lastLine - n))
-line-none header b n (c ∷ s) h =
-    let g : n < lastLine → ⊥ = λ d. h d (omega arith) in
-    let z : lastLine - n ≡ 0 = omega arith in
-    rw z
-
-lines-over : (r : Runner) → r .phase ≡ atLines → lastLine ≤ r .done → (header : List (List ℕ)) (s : List ℕ) → rest header r s ≡ silent (benchOf r)
-lines-over r p h header s = rest-lines header r s p ∙ line-none header (benchOf r) (r .done) (cond (r .skip) (after 10 s) s) (λ d l. past d)
-  where
-    past : r .done < lastLine → ⊥
-    past d = omega arith
-
-pub over-silent : (r : Runner) → isOver r ≡ true → (header : List (List ℕ)) (s : List ℕ) → rest header r s ≡ silent (benchOf r)
-unfolding isOver
-over-silent r h header s = go (eqb (r .phase) atLines) refl h
-  where
-    go : (b : Bool) → eqb (r .phase) atLines ≡ b → cond b (leb lastLine (r .done)) (ltb atLines (r .phase)) ≡ true → rest header r s ≡ silent (benchOf r)
-    go true e h = lines-over r (eqb-true _ _ e) (leb-true _ _ h) header s
-    go false e h = rest-over header r s (ltb-true _ _ h)
 
 abbrev pub refused : Told
 refused = record { text = lineText 1 17; bench = firstBench }

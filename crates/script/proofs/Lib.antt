@@ -27,4 +27,3 @@ pub mod RequestRows
 pub mod LinesInBatch
 pub mod GatherLoop
 pub mod BatchStep
-pub mod Theorem

@@ -21,9 +21,10 @@ use Rattle.script.specs.Run.{atHeading, atNames, atLines, benchOf, toldF
 use Rattle.script.specs.declared.line.Line.{Line}
 use Rattle.script.specs.declared.line.Line.the-variants.{Bad}
 use Rattle.script.specs.declared.runner.Runner.{Runner}
+use Rattle.script.specs.Proof.Silent.{rest-heading, rest-names, rest-lines, rest-over}
 use Rattle.script.proofs.ValuesInTurn.{before-most, before-take, after-drop}
 use Rattle.script.proofs.Lines.{before-append, after-append, before-all, after-all, before-whole, after-none}
-use Rattle.script.proofs.LeftToTell.{rest-heading, rest-names, rest-lines, rest-over, line-on, refused, names-on, names-end, names-too-long, too-long}
+use Rattle.script.proofs.LeftToTell.{line-on, refused, names-on, names-end, names-too-long, too-long}
 
 -- ---- the heading
 one-two : _≡_ {A = ℕ} 1 2 → ⊥

@@ -1,6 +1,6 @@
 -- A run of the program from its middle: what a runner has yet to print for the input that is left. The contracts of the
--- runner and the theorem on whole runs are put in these words; `rest` of the runner that nothing has been done with is
--- `report` (proofs/Theorem).
+-- runner and the statements on whole runs (Theorem) are put in these words; `rest` of the runner that nothing has been done
+-- with is `report` (`rest-unbegun`, Proof/Sessions).
 use Prim.Native.Nat.{ℕ, _+_, _-_, _≤_, _<_}
 use mathlib.Core.Path.{_≡_}
 use mathlib.Core.Bool.{Bool, true, false, cond}
@@ -88,7 +88,7 @@ pub record Fits (header : List (List ℕ)) (r : Runner) : Type 0 where
   pub knows : r .phase ≡ atLines → Ordered header (r .at)
 
 -- the run is over, after a bad first line or with the last line that is read: nothing is left to tell, whatever input
--- follows (`over-silent`, proofs/LeftToTell)
+-- follows (`over-silent`, Proof/Silent)
 unfoldable pub isOver : Runner → Bool
 isOver r = cond (eqb (r .phase) atLines) (leb lastLine (r .done)) (ltb atLines (r .phase))
 
@@ -162,8 +162,9 @@ pub record Stepped (r : Runner) (piece : List ℕ) (end : Bool) (old new : List 
   pub begun : atNames ≤ x .runner .phase
   pub stops : x .used ≡ 0 → Stopped (x .runner) (drop (x .used) piece) end (length old - x .wrote)
 
--- ---- a host that has input s in all, hands over any piece of what is left with any room for output, and keeps what the
--- call did not use
+-- ---- a host that has input s in all, read or not yet read, hands over any piece of what is left with any room for output, and
+-- keeps what the call did not use. `Session r s w r2 left`: calls that begin with r have handed out w, their runner is r2, and
+-- `left` is what none of them used
 pub data Session (r : Runner) (s : List ℕ) : List ℕ → Runner → List ℕ → Type 0 where
   begin : Session r s [] r s
   call : {w piece more old new : List ℕ} {r2 : Runner} {end : Bool} {x : Ran} → Session r s w r2 (piece ++ more)

@@ -1,5 +1,9 @@
--- The words in which the contracts of private functions are put. The report does not cite them, so a reader of the paper
+-- Words on slices, in which the contracts of private functions are put. The report does not cite them, so a reader of the paper
 -- need not read them.
+--     before, after, leading     what stands before a byte and after it; the first value of the first line
+--     written, Put               a store into a slice
+--     Numbered                   a number with its digits, as line numbers are counted up
+--     Ordered                    the order of the names that a header gives; Run too speaks of it, and of `after`
 use Prim.Native.Nat.{ℕ, _+_, _/_, _%_, _<_}
 use mathlib.Core.Path.{_≡_}
 use mathlib.Core.Bool.{true, cond}

@@ -1,0 +1,3 @@
+-- The proofs of Theorem.
+pub mod Silent
+pub mod Sessions
