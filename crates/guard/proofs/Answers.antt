@@ -5,7 +5,7 @@
 --     keeper-met, keeper-unmet      10 and 12 before other refusals
 -- Assumes nothing.
 use Prim.Native.Nat.{ℕ, zero, suc, _≤_}
-use mathlib.Core.Path.{_≡_, refl, sym, ap, _∙_}
+use mathlib.Core.Path.{_≡_, refl, sym, _∙_}
 use mathlib.Core.Bool.{Bool, true, false}
 use mathlib.Core.List.{List, [], _∷_}
 use native.Mathlib.Omega.{arith}
@@ -15,7 +15,7 @@ use Rattle.bitset.specs.Tests.Laws.{is-false, of-not-true, of-not-false}
 use Rattle.guard.specs.Refusals.{_when_, first, Refusal}
 use Rattle.guard.specs.Requests.{requestCount, unknown, rules, ruleOf}
 use Rattle.guard.specs.Step.{inRanges}
-use Rattle.guard.specs.Inside.{number}
+use Rattle.guard.specs.Private.Inside.{number}
 use Rattle.guard.specs.declared.Tables.{Tables}
 use Rattle.guard.specs.declared.Request.{Request}
 use Rattle.guard.proofs.Laws.Refusals.{first-past, first-here}

@@ -7,7 +7,7 @@
 --     way-of                                the climb by keys is "reaches"
 --     name-of, child-of                     a name among the children, a child
 -- Assumes nothing.
-use Prim.Native.Nat.{ℕ, _+_, _*_, _/_, _%_, _^_, _≤_, _<_}
+use Prim.Native.Nat.{ℕ, _+_, _*_, _/_, _%_, _≤_, _<_}
 use mathlib.Core.Path.{_≡_, refl, sym, ap, _∙_}
 use mathlib.Core.Bool.{Bool, true, false, not, _||_, or-false, or-assoc}
 use mathlib.Core.List.{List, [], _∷_, map}
@@ -28,9 +28,9 @@ use Rattle.guard.specs.Chain.{reaches}
 use Rattle.guard.specs.Sound.{sound}
 use Rattle.guard.specs.Edits.{clearRights, setRights, putIn}
 use Rattle.guard.specs.Conditions.{nameTaken, hasChildren}
-use Rattle.guard.specs.Tested.{keyOf}
-use Rattle.guard.specs.Inside.{RightsOf}
-use Rattle.guard.specs.Scan.{Keys, side, Grants, Granted, Cleared, given, Gathered, climbsBy, nameBy, childBy}
+use Rattle.guard.specs.Private.Tested.{keyOf}
+use Rattle.guard.specs.Private.Inside.{RightsOf}
+use Rattle.guard.specs.Private.Scan.{Keys, side, Grants, Granted, Cleared, given, Gathered, climbsBy, nameBy, childBy}
 use Rattle.guard.specs.declared.Role.{Role}
 use Rattle.guard.specs.declared.Entity.{Entity}
 use Rattle.guard.specs.declared.Tables.{Tables}

@@ -8,10 +8,10 @@ use Rattle.guard.specs.Sound.{userInRange, sessionInRange, roleInRange, 
 use Rattle.guard.specs.Fresh.{tabulate, freshRole, freshEntity, fresh}
 use Rattle.guard.specs.Edits.{atSession, atRole, atEntity, eachSession, eachRole, takeRole, dropRole, openReading, openWriting, closeBoth, putIn, setRights, addRights, removeRights, clearRights, listUser, unlistUser, renameTo}
 use Rattle.guard.specs.Refusals.{first}
-use Rattle.guard.specs.Conditions.{pastUser, createBelow, grantBelow, cannotOpen, cannotChange, notOpen, nameTaken, hasChildren}
+use Rattle.guard.specs.Conditions.{userTooLow, createOutOfLevel, grantBelow, cannotOpen, cannotChangeIn, notOpen, nameTaken, hasChildren}
 use Rattle.guard.specs.Requests.{fieldInRange, loggedIn, login, logout, take, drop, openr, openw, close, created, create, delete, rename, grant, revoke, list, unlist, make, unmake, unknown, rules, ruleOf}
 use Rattle.guard.specs.Step.{inRanges, answer, next, answers}
 
 unfoldable pub computing : Unit {0}
-unfolding every either implies all some has join minus contains with without labelInRange dominates sameLabel rightsOf hasRight isChild climbs endsAtRoot reaches userInRange sessionInRange roleInRange entityInRange usersInRange fieldsInRange isRootRecord rootsAsSaid keepersAsSaid hasOwnName isPlaced entitiesPlaced isEmptySession isEmptyRole isEmptyEntity deadAreEmpty deadAreUnused rightsWithin readingWithin writingWithin sound tabulate freshRole freshEntity fresh atSession atRole atEntity eachSession eachRole takeRole dropRole openReading openWriting closeBoth putIn setRights addRights removeRights clearRights listUser unlistUser renameTo first pastUser createBelow grantBelow cannotOpen cannotChange notOpen nameTaken hasChildren fieldInRange loggedIn login logout take drop openr openw close created create delete rename grant revoke list unlist make unmake unknown rules ruleOf inRanges answer next answers
+unfolding every either implies all some has join minus contains with without labelInRange dominates sameLabel rightsOf hasRight isChild climbs endsAtRoot reaches userInRange sessionInRange roleInRange entityInRange usersInRange fieldsInRange isRootRecord rootsAsSaid keepersAsSaid hasOwnName isPlaced entitiesPlaced isEmptySession isEmptyRole isEmptyEntity deadAreEmpty deadAreUnused rightsWithin readingWithin writingWithin sound tabulate freshRole freshEntity fresh atSession atRole atEntity eachSession eachRole takeRole dropRole openReading openWriting closeBoth putIn setRights addRights removeRights clearRights listUser unlistUser renameTo first userTooLow createOutOfLevel grantBelow cannotOpen cannotChangeIn notOpen nameTaken hasChildren fieldInRange loggedIn login logout take drop openr openw close created create delete rename grant revoke list unlist make unmake unknown rules ruleOf inRanges answer next answers
 computing = tt

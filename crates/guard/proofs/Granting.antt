@@ -10,7 +10,7 @@ use Rattle.bitset.specs.Sets.{has, contains, join, minus}
 use Rattle.bitset.specs.Sets.Laws.{has-one, has-join, has-minus, contains-has, has-contains}
 use Rattle.guard.specs.Tables.{own, rightsOf}
 use Rattle.guard.specs.Edits.{putIn, setRights, addRights, removeRights}
-use Rattle.guard.specs.Inside.{setAfter, grantedAfter, owning}
+use Rattle.guard.specs.Private.Inside.{setAfter, grantedAfter, owning}
 use Rattle.guard.specs.declared.Role.{Role}
 use Rattle.guard.proofs.Laws.Rights.{contains-read, contains-write, contains-execute, contains-own, put-same}
 

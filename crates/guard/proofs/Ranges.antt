@@ -26,7 +26,7 @@ use Rattle.guard.specs.Sound.{topName}
 use Rattle.guard.specs.Requests.{Rule, fieldInRange, rules, unknown, ruleOf, login, logout, take, drop, openr, openw, close, create, delete, rename, grant, revoke, list, unlist, make, unmake}
 use Rattle.guard.specs.Step.{inRanges}
 use Rattle.guard.specs.Kind as kind
-use Rattle.guard.specs.Inside.{asksWay, asksName, asksRights}
+use Rattle.guard.specs.Private.Inside.{asksWay, asksName, asksRights}
 use Rattle.guard.specs.declared.Request.{Request}
 use Rattle.guard.proofs.Laws.Requests.{unknown-rule}
 
@@ -123,7 +123,7 @@ module _ (q : Request) where
     pub of-ranges : (k : ℕ) → q .call ≡ k → every (tests (getD rules k unknown) q) ≡ true
     of-ranges k h = sym (ranges-at k h) ∙ ok
 
-    pub in-login : q .call ≡ kind.login → (q .seat < sessionCount) × (q .user < userCount) × (q .level ≤ topGrade) × (q .cats ≤ allCategories)
+    pub in-login : q .call ≡ kind.login → (q .seat < sessionCount) × (q .user < userCount) × (q .grade ≤ topGrade) × (q .cats ≤ allCategories)
     unfolding rules login fieldInRange labelInRange
     in-login c =
         let met = every-at _ (of-ranges 0 c) in
@@ -198,7 +198,7 @@ module _ (q : Request) where
       pub parent : q .parent < entityCount
       pub named : 1 ≤ q .name
       pub name : q .name ≤ topName
-      pub level : q .level ≤ topGrade
+      pub grade : q .grade ≤ topGrade
       pub cats : q .cats ≤ allCategories
       pub role : q .role < roleCount
 
@@ -213,7 +213,7 @@ module _ (q : Request) where
           parent = ltb-true _ _ (met 3);
           named = leb-true _ _ (every-at _ (met 4) 0);
           name = leb-true _ _ (every-at _ (met 4) 1);
-          level = leb-true _ _ (every-at _ (met 5) 0);
+          grade = leb-true _ _ (every-at _ (met 5) 0);
           cats = leb-true _ _ (every-at _ (met 5) 1);
           role = ltb-true _ _ (met 6);
         }

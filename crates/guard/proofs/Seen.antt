@@ -4,21 +4,20 @@
 --     seen-of                       it holds the records that the request concerns, and the answers to what it asks
 -- Assumes nothing.
 use Prim.Native.Nat.{ℕ, _≤_, _<_}
-use mathlib.Core.Path.{_≡_, refl, sym, ap, _∙_}
+use mathlib.Core.Path.{_≡_, ap, _∙_}
 use mathlib.Core.Bool.{Bool, true, false, cond}
 use mathlib.Core.List.{List}
 use lib.Dec.{eqb}
-use borrow.Author.Tests.{eq-eqb, ne-eqb}
+use borrow.Author.Tests.{eq-eqb}
 use Rattle.bitset.specs.Tests.{either}
-use Rattle.bitset.specs.Sets.{has}
 use Rattle.guard.specs.Level.{isRoot}
-use Rattle.guard.specs.Tables.{userAt, sessionAt, roleAt, entityAt, execute, hasRight}
+use Rattle.guard.specs.Tables.{userAt, sessionAt, roleAt, entityAt}
 use Rattle.guard.specs.Chain.{reaches}
 use Rattle.guard.specs.Sound.{sound}
 use Rattle.guard.specs.Conditions.{nameTaken, hasChildren, recordedParent}
 use Rattle.guard.specs.Kind as kind
-use Rattle.guard.specs.Inside.{Placed, viewOf, asksWay, asksName, asksRights, RightsOf, Seen}
-use Rattle.guard.specs.Scan.{Keys, Grants, reachedBy, nameBy, childBy, kinBy, FoundBy}
+use Rattle.guard.specs.Private.Inside.{Placed, viewOf, asksWay, asksName, asksRights, RightsOf, Seen}
+use Rattle.guard.specs.Private.Scan.{Keys, Grants, reachedBy, nameBy, childBy, kinBy, FoundBy}
 use Rattle.guard.specs.declared.Tables.{Tables}
 use Rattle.guard.specs.declared.Request.{Request}
 use Rattle.guard.specs.declared.look.Places.{Places}

@@ -2,24 +2,23 @@
 --     Told, told              which kinds a change stands for
 --     session-stored, create-stored, delete-stored, rename-stored, role-stored, unmake-stored
 -- Assumes nothing.
-use Prim.Native.Nat.{ℕ, _+_, _≤_, _<_}
-use mathlib.Core.Path.{_≡_, refl, sym, ap, subst, _∙_}
+use Prim.Native.Nat.{ℕ, _≤_, _<_}
+use mathlib.Core.Path.{_≡_, refl, sym, subst, _∙_}
 use mathlib.Core.Bool.{Bool, true, false, cond}
 use mathlib.Core.List.{map}
 use native.Mathlib.Decide.{decLt}
 use native.Mathlib.Omega.{arith}
-use lib.Dec.{leb, eqb}
+use lib.Dec.{leb}
 use lib.ListN.{set}
-use borrow.Author.Tests.{leb-true, leb-false, eqb-true, eqb-false}
+use borrow.Author.Tests.{leb-true, leb-false}
 use Rattle.bitset.specs.Tests.Laws.{clash, of-not-false}
-use Rattle.guard.specs.Tables.{noRole, noEntity, sessionAt, roleAt, entityAt}
+use Rattle.guard.specs.Tables.{sessionAt, roleAt, entityAt}
 use Rattle.guard.specs.Sound.{sound}
-use Rattle.guard.specs.Edits.{withSessions, withRoles, withEntities, atSession, atRole, atEntity, eachSession, eachRole, dropRole, closeBoth, clearRights, listUser, unlistUser, renameTo}
-use Rattle.guard.specs.Refusals.{first}
-use Rattle.guard.specs.Requests.{rules, ruleOf, created, login, logout, take, drop, openr, openw, close, create, delete, rename, grant, revoke, list, unlist, make, unmake}
+use Rattle.guard.specs.Edits.{withSessions, withRoles, withEntities, atSession, atRole, atEntity, eachSession, eachRole, dropRole, closeBoth, clearRights, listUser, unlistUser}
+use Rattle.guard.specs.Requests.{rules, ruleOf, login, logout, take, drop, openr, openw, close, create, delete, rename, grant, revoke, list, unlist, make, unmake}
 use Rattle.guard.specs.Step.{inRanges}
 use Rattle.guard.specs.Kind as kind
-use Rattle.guard.specs.Inside.{number, Placed, changeOf, sessionAfter, entityAfter, usersAfter, roleAfter, owning}
+use Rattle.guard.specs.Private.Inside.{number, Placed, changeOf, sessionAfter, entityAfter, usersAfter, roleAfter, owning}
 use Rattle.guard.specs.declared.Session.{Session}
 use Rattle.guard.specs.declared.Role.{Role}
 use Rattle.guard.specs.declared.Entity.{Entity}
@@ -31,7 +30,7 @@ use Rattle.guard.specs.declared.look.Places.{Places}
 use Rattle.guard.proofs.Laws.Refusals.{unmet}
 use Rattle.guard.proofs.Laws.Sound.{sound-e}
 use Rattle.guard.proofs.Granting.{granted, revoked, owned}
-use Rattle.guard.proofs.Ranges.{EachFrom, span, rule-at, fits-none, in-login, in-logout, in-take, in-drop, in-openr, in-openw, in-close, in-create, in-delete, in-rename, in-grant, in-revoke, in-list, in-unlist, in-make, in-unmake}
+use Rattle.guard.proofs.Ranges.{span, rule-at, fits-none, in-login, in-logout, in-take, in-drop, in-openr, in-openw, in-close, in-create, in-delete, in-rename, in-grant, in-revoke, in-list, in-unlist, in-make, in-unmake}
 use Rattle.guard.proofs.Answers.{done-in-range, done-allowed}
 
 -- ---- which kinds a change stands for

@@ -18,9 +18,9 @@ use Rattle.guard.specs.Sound.{sound}
 use Rattle.guard.specs.Refusals.{first}
 use Rattle.guard.specs.Requests.{ruleOf}
 use Rattle.guard.specs.Step.{inRanges, answer, next, step, run, answers}
-use Rattle.guard.specs.Batch.{rowOf, requestAt, requests, batchLength, RunsBatch}
-use Rattle.guard.specs.Inside.{number}
-use Rattle.guard.specs.Scan.{Keys, Grants}
+use Rattle.guard.specs.Private.Inside.{rowOf, number}
+use Rattle.guard.specs.Batch.{requestAt, requests, batchLength, RunsBatch}
+use Rattle.guard.specs.Private.Scan.{Keys, Grants}
 use Rattle.guard.specs.declared.Tables.{Tables}
 use Rattle.guard.specs.declared.Request.{Request}
 use Rattle.guard.specs.declared.Outcome.{Outcome}

@@ -2,7 +2,7 @@
 use Prim.Native.Nat.{ℕ, _+_, _*_, _/_}
 use mathlib.Core.Path.{_≡_}
 use mathlib.Core.Bool.{cond}
-use mathlib.Core.List.{List, [], _∷_, _++_}
+use mathlib.Core.List.{List, _++_}
 use lib.Dec.{leb}
 use lib.ListN.{length, getD, drop}
 use Rattle.guard.specs.Fresh.{tabulate}
@@ -14,10 +14,6 @@ use Rattle.guard.specs.declared.Request.{Request}
 -- A request is a row of eleven numbers, in the order of the record's fields.
 abbrev pub rowLength : ℕ
 rowLength = 11
-
-abbrev pub rowOf : Request → List ℕ
-rowOf q =
-    q .call ∷ q .seat ∷ q .user ∷ q .role ∷ q .entity ∷ q .parent ∷ q .kind ∷ q .name ∷ q .level ∷ q .cats ∷ q .rights ∷ []
 
 -- the number in column j of row i
 abbrev pub cell : List ℕ → ℕ → ℕ → ℕ

@@ -6,7 +6,7 @@ use lib.Dec.{ltb, eqb}
 use Rattle.bitset.specs.Tests.{every, either, some}
 use Rattle.guard.specs.Level.{entityCount, sessionLevel, roleLevel, entityLevel, keeperOf}
 use Rattle.guard.specs.Label.{label, dominates, sameLabel}
-use Rattle.guard.specs.Tables.{userAt, sessionAt, roleAt, entityAt, container, read, write, execute, own, holds, isReading, isWriting, lists, hasRight, isChild}
+use Rattle.guard.specs.Tables.{userAt, sessionAt, roleAt, entityAt, container, execute, own, holds, isReading, isWriting, lists, hasRight, isChild}
 use Rattle.guard.specs.Chain.{parentOf, reaches}
 use Rattle.guard.specs.declared.Label.{Label}
 use Rattle.guard.specs.declared.Tables.{Tables}
@@ -14,7 +14,7 @@ use Rattle.guard.specs.declared.Request.{Request}
 
 -- the label asked for
 abbrev pub labelAsked : Request → Label
-labelAsked q = label (q .level) (q .cats)
+labelAsked q = label (q .grade) (q .cats)
 
 module _ (t : Tables) (q : Request) where
   -- ---- The host program
@@ -23,8 +23,8 @@ module _ (t : Tables) (q : Request) where
   seatLive = sessionAt t (q .seat) .live
 
   -- 4 login: the user's ceiling is below the seat's level, or the clearance does not dominate the label.
-  unfoldable pub pastUser : Bool
-  pastUser =
+  unfoldable pub userTooLow : Bool
+  userTooLow =
       either (ltb (userAt t (q .user) .ceiling) (sessionLevel (q .seat)))
       (not (dominates (userAt t (q .user) .clearance) (labelAsked q)))
 
@@ -49,8 +49,8 @@ module _ (t : Tables) (q : Request) where
   roleBelowEntity = ltb (roleLevel (q .role)) (entityLevel (q .entity))
 
   -- create: e and parent differ in level, or the role is below e.
-  unfoldable pub createBelow : Bool
-  createBelow = either (not (eqb (entityLevel (q .entity)) (entityLevel (q .parent)))) roleBelowEntity
+  unfoldable pub createOutOfLevel : Bool
+  createOutOfLevel = either (not (eqb (entityLevel (q .entity)) (entityLevel (q .parent)))) roleBelowEntity
 
   -- grant, revoke: x or the role is below e.
   unfoldable pub grantBelow : Bool
@@ -65,8 +65,8 @@ module _ (t : Tables) (q : Request) where
   labelBelowEntity = not (dominates (sessionAt t (q .seat) .label) (entityAt t (q .entity) .label))
 
   -- openw: the two differ.
-  abbrev pub labelOther : Bool
-  labelOther = not (sameLabel (sessionAt t (q .seat) .label) (entityAt t (q .entity) .label))
+  abbrev pub labelsDiffer : Bool
+  labelsDiffer = not (sameLabel (sessionAt t (q .seat) .label) (entityAt t (q .entity) .label))
 
   -- create: the new label does not dominate the parent's.
   abbrev pub labelBelowParent : Bool
@@ -89,8 +89,8 @@ module _ (t : Tables) (q : Request) where
   cannotOpen right = either (not (hasRight t (q .seat) right (q .entity))) (not (reaches t (q .seat) (q .entity)))
 
   -- create, delete, rename: x has not the parent open for writing, or lacks execute on it.
-  unfoldable pub cannotChange : ℕ → Bool
-  cannotChange parent = either (not (isWriting t (q .seat) parent)) (not (hasRight t (q .seat) execute parent))
+  unfoldable pub cannotChangeIn : ℕ → Bool
+  cannotChangeIn parent = either (not (isWriting t (q .seat) parent)) (not (hasRight t (q .seat) execute parent))
 
   -- grant, revoke: x lacks own on e.
   abbrev pub notOwned : Bool

@@ -1,5 +1,5 @@
 -- Document 01 as definitions, in the paper's order. Each definition's comment is the paper's sentence. Laws stand
--- in proofs/Laws.
+-- in proofs/Laws; Private holds words of private functions' contracts, which a buyer need not read.
 pub mod Level
 pub mod Label
 pub mod Tables
@@ -12,10 +12,7 @@ pub mod Conditions
 pub mod Requests
 pub mod Step
 pub mod Upper
-pub mod Morning
 pub mod Kind
 pub mod Methods
 pub mod Batch
-pub mod Inside
-pub mod Scan
-pub mod Tested
+pub mod Private

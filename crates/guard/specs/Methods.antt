@@ -3,9 +3,9 @@ use Prim.Native.Nat.{ℕ}
 use Rattle.guard.specs.Kind.{login, logout, create, rename}
 use Rattle.guard.specs.declared.Request.{Request}
 
--- the fields in the order of the record: call, seat, user, role, entity, parent, kind, name, level, cats, rights
+-- the fields in the order of the record: call, seat, user, role, entity, parent, kind, name, grade, cats, rights
 abbrev pub request : ℕ → ℕ → ℕ → ℕ → ℕ → ℕ → ℕ → ℕ → ℕ → ℕ → ℕ → Request
-request call seat user role entity parent kind name level cats rights =
+request call seat user role entity parent kind name grade cats rights =
     record {
       call = call;
       seat = seat;
@@ -15,13 +15,13 @@ request call seat user role entity parent kind name level cats rights =
       parent = parent;
       kind = kind;
       name = name;
-      level = level;
+      grade = grade;
       cats = cats;
       rights = rights;
     }
 
 abbrev pub loginRequest : ℕ → ℕ → ℕ → ℕ → Request
-loginRequest seat user level cats = request login seat user 0 0 0 0 0 level cats 0
+loginRequest seat user grade cats = request login seat user 0 0 0 0 0 grade cats 0
 
 abbrev pub logoutRequest : ℕ → Request
 logoutRequest seat = request logout seat 0 0 0 0 0 0 0 0 0
@@ -35,7 +35,7 @@ abbrev pub entityRequest : ℕ → ℕ → ℕ → Request
 entityRequest call seat entity = request call seat 0 0 entity 0 0 0 0 0 0
 
 abbrev pub createRequest : ℕ → ℕ → ℕ → ℕ → ℕ → ℕ → ℕ → ℕ → Request
-createRequest seat entity kind parent name level cats role = request create seat 0 role entity parent kind name level cats 0
+createRequest seat entity kind parent name grade cats role = request create seat 0 role entity parent kind name grade cats 0
 
 abbrev pub renameRequest : ℕ → ℕ → ℕ → Request
 renameRequest seat entity name = request rename seat 0 0 entity 0 0 name 0 0 0

@@ -11,7 +11,7 @@ use Rattle.guard.specs.Tables.{noSession, noRole, noEntity, container, r
 use Rattle.guard.specs.Sound.{topName}
 use Rattle.guard.specs.Edits.{atSession, atRole, atEntity, eachSession, eachRole, takeRole, dropRole, openReading, openWriting, closeBoth, addRights, removeRights, clearRights, listUser, unlistUser, renameTo, madeRole}
 use Rattle.guard.specs.Refusals.{Refusal, _when_}
-use Rattle.guard.specs.Conditions.{labelAsked, seatLive, pastUser, seatDead, parentNoContainer, entityBelowSeat, seatBelowEntity, createBelow, grantBelow, seatBelowRole, labelBelowEntity, labelOther, labelBelowParent, userUnlisted, roleNotHeld, keeperNotHeld, cannotOpen, cannotChange, notOwned, roleHeld, openForReading, openForWriting, userListed, notOpen, userNotListed, entityDead, parentDead, roleDead, entityLive, roleLive, nameTaken, hasChildren, recordedParent}
+use Rattle.guard.specs.Conditions.{labelAsked, seatLive, userTooLow, seatDead, parentNoContainer, entityBelowSeat, seatBelowEntity, createOutOfLevel, grantBelow, seatBelowRole, labelBelowEntity, labelsDiffer, labelBelowParent, userUnlisted, roleNotHeld, keeperNotHeld, cannotOpen, cannotChangeIn, notOwned, roleHeld, openForReading, openForWriting, userListed, notOpen, userNotListed, entityDead, parentDead, roleDead, entityLive, roleLive, nameTaken, hasChildren, recordedParent}
 use Rattle.guard.specs.declared.Session.{Session}
 use Rattle.guard.specs.declared.Entity.{Entity}
 use Rattle.guard.specs.declared.Tables.{Tables}
@@ -52,7 +52,7 @@ unfoldable pub login : Rule
 login =
     record {
       uses = seat ∷ user ∷ label ∷ [];
-      refusals = λ t q. 3 when seatLive t q ∷ 4 when pastUser t q ∷ [];
+      refusals = λ t q. 3 when seatLive t q ∷ 4 when userTooLow t q ∷ [];
       effect = λ q. atSession (q .seat) (λ old. loggedIn q);
     }
 
@@ -107,7 +107,7 @@ openw =
           5 when seatDead t q
           ∷ 7 when entityDead t q
           ∷ 10 when seatBelowEntity t q
-          ∷ 11 when labelOther t q
+          ∷ 11 when labelsDiffer t q
           ∷ 13 when cannotOpen t q write
           ∷ 16 when openForWriting t q
           ∷ [];
@@ -137,10 +137,10 @@ create =
           ∷ 7 when either (parentDead t q) (roleDead t q)
           ∷ 8 when entityLive t q
           ∷ 9 when parentNoContainer t q
-          ∷ 10 when createBelow t q
+          ∷ 10 when createOutOfLevel t q
           ∷ 11 when labelBelowParent t q
           ∷ 12 when roleNotHeld t q
-          ∷ 13 when cannotChange t q (q .parent)
+          ∷ 13 when cannotChangeIn t q (q .parent)
           ∷ 14 when nameTaken t q (q .parent)
           ∷ [];
       effect = λ q t. atRole (q .role) (addRights (q .entity) own) (atEntity (q .entity) (λ old. created q) t);
@@ -155,7 +155,7 @@ delete =
           5 when seatDead t q
           ∷ 6 when isRoot (q .entity)
           ∷ 7 when entityDead t q
-          ∷ 13 when cannotChange t q (recordedParent t q)
+          ∷ 13 when cannotChangeIn t q (recordedParent t q)
           ∷ 15 when hasChildren t q
           ∷ [];
       effect = λ q t.
@@ -171,7 +171,7 @@ rename =
           5 when seatDead t q
           ∷ 6 when isRoot (q .entity)
           ∷ 7 when entityDead t q
-          ∷ 13 when cannotChange t q (recordedParent t q)
+          ∷ 13 when cannotChangeIn t q (recordedParent t q)
           ∷ 14 when nameTaken t q (recordedParent t q)
           ∷ [];
       effect = λ q. atEntity (q .entity) (renameTo (q .name));

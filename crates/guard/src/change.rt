@@ -1,8 +1,7 @@
 // Which records a request changes.
 use crate::kinds;
-ghost use Prim.Native.Nat.{_<_};
 ghost use mathlib.Core.Path.{_≡_};
-ghost use Rattle.guard.specs.Inside.{changeOf};
+ghost use Rattle.guard.specs.Private.Inside.{changeOf};
 
 // The acting session; the entity (create also a role, delete every role and session); the role (unmake also every session).
 pub enum Change {

@@ -21,7 +21,7 @@ ghost use Rattle.guard.specs.Refusals.{first, _when_};
 ghost use Rattle.guard.specs.Conditions.{labelAsked};
 ghost use Rattle.guard.specs.Requests.{created};
 ghost use Rattle.guard.specs.Step.{inRanges};
-ghost use Rattle.guard.specs.Inside.{entityAfter};
+ghost use Rattle.guard.specs.Private.Inside.{entityAfter};
 
 // The refusals of create up to 9: what has to be there, and what not.
 fn create_refusal_to_9(v: View) -> u8
@@ -44,7 +44,7 @@ fn create_refusal_to_9(v: View) -> u8
 
 // Those from 10 on.
 fn create_refusal_from_10(q: Request, v: View) -> u8
-    requires { ⌜ (q .level ≤ 3) × (q .cats ≤ 255) ⌝ }
+    requires { ⌜ (q .grade ≤ 3) × (q .cats ≤ 255) ⌝ }
     ensures { λ n. ⌜ n ≡ first (10 when either (not (eqb (entityLevel (q .entity)) (entityLevel (q .parent)))) (ltb (roleLevel (q .role)) (entityLevel (q .entity))) ∷ 11 when not (dominates (labelAsked q) (v .parent .label)) ∷ 12 when not (has (v .session .roles) (q .role)) ∷ 13 when either (not (has (v .session .writing) (q .parent))) (not (has (v .found .rights .executes) (q .parent))) ∷ 14 when v .found .child ∷ []) ⌝ }
 {
     if (q.entity / sizes::LEVEL_ENTITIES != q.parent / sizes::LEVEL_ENTITIES)
@@ -52,7 +52,7 @@ fn create_refusal_from_10(q: Request, v: View) -> u8
     {
         return 10;
     }
-    let label = labels::made(q.level, q.cats);
+    let label = labels::made(q.grade, q.cats);
     if !labels::dominates(label, v.parent.label) {
         return 11;
     }
@@ -71,7 +71,7 @@ fn create_refusal_from_10(q: Request, v: View) -> u8
 }
 
 pub fn create_refusal(q: Request, v: View) -> u8
-    requires { ⌜ (q .level ≤ 3) × (q .cats ≤ 255) ⌝ }
+    requires { ⌜ (q .grade ≤ 3) × (q .cats ≤ 255) ⌝ }
     ensures { λ n. ⌜ n ≡ first (5 when not (v .session .live) ∷ 7 when either (not (v .parent .live)) (not (v .live)) ∷ 8 when v .entity .live ∷ 9 when not (eqb (v .parent .kind) container) ∷ 10 when either (not (eqb (entityLevel (q .entity)) (entityLevel (q .parent)))) (ltb (roleLevel (q .role)) (entityLevel (q .entity))) ∷ 11 when not (dominates (labelAsked q) (v .parent .label)) ∷ 12 when not (has (v .session .roles) (q .role)) ∷ 13 when either (not (has (v .session .writing) (q .parent))) (not (has (v .found .rights .executes) (q .parent))) ∷ 14 when v .found .child ∷ []) ⌝ }
 {
     let n = create_refusal_to_9(v);
@@ -107,10 +107,10 @@ pub fn change_refusal(q: Request, v: View, last: u8) -> u8
 
 // The entity that a create makes.
 fn made(q: Request) -> Entity
-    requires { ⌜ (q .kind ≤ 1) × (q .parent < 64) × (q .name ≤ 65535) × (q .level ≤ 3) × (q .cats ≤ 255) ⌝ }
+    requires { ⌜ (q .kind ≤ 1) × (q .parent < 64) × (q .name ≤ 65535) × (q .grade ≤ 3) × (q .cats ≤ 255) ⌝ }
     ensures { λ n. ⌜ n ≡ created q ⌝ }
 {
-    let label = labels::made(q.level, q.cats);
+    let label = labels::made(q.grade, q.cats);
     Entity {
         live: true,
         kind: q.kind as u8,

@@ -27,13 +27,13 @@ pub fn in_range(a: Label) -> bool
 }
 
 // The label asked for, in a host's wider numbers.
-pub fn made(level: u32, cats: u32) -> Label
-    requires { ⌜ level ≤ 3 ⌝ }
+pub fn made(grade: u32, cats: u32) -> Label
+    requires { ⌜ grade ≤ 3 ⌝ }
     requires { ⌜ cats ≤ 255 ⌝ }
-    ensures { λ r. ⌜ r ≡ label level cats ⌝ }
+    ensures { λ r. ⌜ r ≡ label grade cats ⌝ }
 {
     Label {
         cats: cats as u8,
-        grade: level as u8,
+        grade: grade as u8,
     }
 }

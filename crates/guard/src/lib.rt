@@ -77,7 +77,7 @@ pub struct Tables {
 }
 
 // One request, in fields wide enough for every number that a host may pass. `call` is the request's number: 0 to 15 in
-// the order in which document 01 lists the sixteen. `level` and `cats` are the label asked for, grade and categories.
+// the order in which document 01 lists the sixteen. `grade` and `cats` are the label asked for.
 // A field that the request does not use may hold anything.
 pub struct Request {
     pub call: u32,
@@ -88,7 +88,7 @@ pub struct Request {
     pub parent: u32,
     pub kind: u32,
     pub name: u32,
-    pub level: u32,
+    pub grade: u32,
     pub cats: u32,
     pub rights: u32,
 }

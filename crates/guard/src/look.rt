@@ -8,7 +8,7 @@ ghost use mathlib.Core.Bool.{cond};
 ghost use lib.Dec.{eqb};
 ghost use Rattle.guard.specs.Step.{inRanges};
 ghost use Rattle.guard.specs.Kind as kind;
-ghost use Rattle.guard.specs.Inside.{Below, Placed, asksWay, asksName, asksRights};
+ghost use Rattle.guard.specs.Private.Inside.{Below, Placed, asksWay, asksName, asksRights};
 
 // The places of the records that a request concerns: where a number is past its range, some other place. `fits`: every number
 // that the request's kind uses is in its range.
@@ -38,7 +38,7 @@ fn fits(q: Request) -> bool
     let user = q.user < sizes::USER_END;
     let role = q.role < sizes::ROLE_END;
     let entity = q.entity < sizes::ENTITY_END;
-    let label = (q.level <= sizes::TOP_GRADE_ASKED) & (q.cats <= sizes::ALL_CATEGORIES);
+    let label = (q.grade <= sizes::TOP_GRADE_ASKED) & (q.cats <= sizes::ALL_CATEGORIES);
     let name = (1 <= q.name) & (q.name <= sizes::TOP_NAME);
     match call {
         kinds::LOGIN => seat & (user & label),

@@ -7,7 +7,7 @@ use crate::kinds;
 ghost use mathlib.Core.Path.{_≡_};
 ghost use Rattle.guard.specs.Step.{step};
 ghost use Rattle.guard.specs.Kind.{take, drop, openr, openw, close, delete, grant, revoke, list, unlist, make, unmake};
-ghost use Rattle.guard.specs.Methods.{request, loginRequest, logoutRequest, roleRequest, entityRequest, createRequest, renameRequest, rightsRequest, listRequest};
+ghost use Rattle.guard.specs.Methods.{loginRequest, logoutRequest, roleRequest, entityRequest, createRequest, renameRequest, rightsRequest, listRequest};
 
 // A request with 0 in every field.
 const BLANK: Request = Request {
@@ -19,21 +19,21 @@ const BLANK: Request = Request {
     parent: 0,
     kind: 0,
     name: 0,
-    level: 0,
+    grade: 0,
     cats: 0,
     rights: 0,
 };
 
 impl Tables {
-    // The seat becomes live for the user, under the label `level`/`cats`.
-    pub fn login(self, seat: u32, user: u32, level: u32, cats: u32) -> Outcome
-        ensures { λ o. ⌜ o ≡ step self (loginRequest seat user level cats) ⌝ }
+    // The seat becomes live for the user, under the label `grade`/`cats`.
+    pub fn login(self, seat: u32, user: u32, grade: u32, cats: u32) -> Outcome
+        ensures { λ o. ⌜ o ≡ step self (loginRequest seat user grade cats) ⌝ }
     {
         let mut q = BLANK;
         q.call = kinds::LOGIN;
         q.seat = seat;
         q.user = user;
-        q.level = level;
+        q.grade = grade;
         q.cats = cats;
         self.step(q)
     }
@@ -111,11 +111,11 @@ impl Tables {
         kind: u32,
         parent: u32,
         name: u32,
-        level: u32,
+        grade: u32,
         cats: u32,
         role: u32,
     ) -> Outcome
-        ensures { λ o. ⌜ o ≡ step self (createRequest seat entity kind parent name level cats role) ⌝ }
+        ensures { λ o. ⌜ o ≡ step self (createRequest seat entity kind parent name grade cats role) ⌝ }
     {
         let mut q = BLANK;
         q.call = kinds::CREATE;
@@ -125,7 +125,7 @@ impl Tables {
         q.parent = parent;
         q.kind = kind;
         q.name = name;
-        q.level = level;
+        q.grade = grade;
         q.cats = cats;
         self.step(q)
     }

@@ -4,7 +4,8 @@ ghost use Prim.Native.Nat.{_+_, _*_, _≤_};
 ghost use mathlib.Core.Path.{_≡_};
 ghost use mathlib.Core.List.{_++_};
 ghost use lib.ListN.{length, drop, replicate};
-ghost use Rattle.guard.specs.Batch.{rowLength, rowOf, requestAt, batchLength};
+ghost use Rattle.guard.specs.Batch.{rowLength, requestAt, batchLength};
+ghost use Rattle.guard.specs.Private.Inside.{rowOf};
 
 // How many numbers a row has.
 pub const ROW: usize = 11;
@@ -32,7 +33,7 @@ pub fn request(rows: &[u32], i: usize) -> Request
         parent: rows[b + 5],
         kind: rows[b + 6],
         name: rows[b + 7],
-        level: rows[b + 8],
+        grade: rows[b + 8],
         cats: rows[b + 9],
         rights: rows[b + 10],
     }
@@ -51,7 +52,7 @@ pub fn row(q: Request) -> [u32; ROW]
         q.parent,
         q.kind,
         q.name,
-        q.level,
+        q.grade,
         q.cats,
         q.rights,
     ]

@@ -15,7 +15,7 @@ ghost use Prim.Native.Nat.{_<_};
 ghost use mathlib.Core.Path.{_≡_};
 ghost use lib.ListN.{length};
 ghost use Rattle.bitset.specs.Sets.{has};
-ghost use Rattle.guard.specs.Scan.{Grants, Granted, Cleared, Gathered, climbsBy, reachedBy, nameBy, childBy, kinBy, foundNothing, FoundBy};
+ghost use Rattle.guard.specs.Private.Scan.{Grants, Granted, Cleared, Gathered, climbsBy, reachedBy, nameBy, childBy, kinBy, foundNothing, FoundBy};
 
 // A role has four sets, one for each right; how many the column of the roles has.
 const SETS: usize = 4;

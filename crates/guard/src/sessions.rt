@@ -23,16 +23,16 @@ ghost use Rattle.guard.specs.Refusals.{first, _when_};
 ghost use Rattle.guard.specs.Conditions.{labelAsked};
 ghost use Rattle.guard.specs.Requests.{loggedIn};
 ghost use Rattle.guard.specs.Step.{inRanges};
-ghost use Rattle.guard.specs.Inside.{sessionAfter};
+ghost use Rattle.guard.specs.Private.Inside.{sessionAfter};
 
 pub fn login_refusal(q: Request, v: View) -> u8
-    requires { ⌜ (q .level ≤ 3) × (q .cats ≤ 255) ⌝ }
+    requires { ⌜ (q .grade ≤ 3) × (q .cats ≤ 255) ⌝ }
     ensures { λ n. ⌜ n ≡ first (3 when v .session .live ∷ 4 when either (ltb (v .user .ceiling) (sessionLevel (q .seat))) (not (dominates (v .user .clearance) (labelAsked q))) ∷ []) ⌝ }
 {
     if v.session.live {
         return 3;
     }
-    let label = labels::made(q.level, q.cats);
+    let label = labels::made(q.grade, q.cats);
     if ((v.user.ceiling as u32) < q.seat / sizes::LEVEL_SEATS)
         | !labels::dominates(v.user.clearance, label)
     {
@@ -85,10 +85,10 @@ pub fn drop_refusal(q: Request, v: View) -> u8
 
 // The session that a login makes.
 fn entered(q: Request) -> Session
-    requires { ⌜ (q .user < 16) × (q .level ≤ 3) × (q .cats ≤ 255) ⌝ }
+    requires { ⌜ (q .user < 16) × (q .grade ≤ 3) × (q .cats ≤ 255) ⌝ }
     ensures { λ s. ⌜ s ≡ loggedIn q ⌝ }
 {
-    let label = labels::made(q.level, q.cats);
+    let label = labels::made(q.grade, q.cats);
     Session {
         live: true,
         user: q.user as u8,

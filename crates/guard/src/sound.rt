@@ -10,7 +10,7 @@ pub mod tree;
 
 ghost use mathlib.Core.Path.{_≡_};
 ghost use Rattle.guard.specs.Sound.{sound};
-ghost use Rattle.guard.specs.Scan.{Keys};
+ghost use Rattle.guard.specs.Private.Scan.{Keys};
 use crate::Tables;
 use crate::sizes::ENTITIES;
 

@@ -7,7 +7,7 @@ use crate::User;
 use crate::look::Places;
 use crate::scan::Found;
 ghost use mathlib.Core.Path.{_≡_};
-ghost use Rattle.guard.specs.Inside.{viewOf};
+ghost use Rattle.guard.specs.Private.Inside.{viewOf};
 
 // The records that a request concerns: the acting session, the user, the marks of the role, the entity, and the parent
 // (create: the one named; else the entity's). A number past its range has some other record in its place, and `fits` says

@@ -16,7 +16,7 @@ use Rattle.guard.specs.Label.{noLabel}
 use Rattle.guard.specs.Tables.{noSession, noRole, noEntity, execute, hasRight}
 use Rattle.guard.specs.Sound.{sound}
 use Rattle.guard.specs.Fresh.{fresh}
-use Rattle.guard.specs.Morning.{morningUsers}
+use Rattle.guard.proofs.Laws.Morning.{morningUsers}
 use Rattle.guard.specs.Edits.{atSession, atEntity}
 use Rattle.guard.specs.Refusals.{Refusal, _when_, first}
 use Rattle.guard.specs.Conditions.{recordedParent}
@@ -43,7 +43,7 @@ start-sound = refl
 -- one request: call, seat, role, entity, rights; the other fields are 0
 abbrev pub ask : ℕ → ℕ → ℕ → ℕ → ℕ → Request
 ask call seat role entity rights =
-    record { call = call; seat = seat; user = 0; role = role; entity = entity; parent = 0; kind = 0; name = 0; level = 0; cats = 0; rights = rights }
+    record { call = call; seat = seat; user = 0; role = role; entity = entity; parent = 0; kind = 0; name = 0; grade = 0; cats = 0; rights = rights }
 
 -- of the lower seats 0 and 1
 abbrev pub make-1 : Request

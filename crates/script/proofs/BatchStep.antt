@@ -7,7 +7,7 @@
 -- Assumes nothing.
 use Prim.Native.Nat.{ℕ, _+_, _-_, _*_, _/_, _≤_, _<_}
 use mathlib.Core.Path.{_≡_, refl, ap, ap₂, sym, _∙_}
-use mathlib.Core.Bool.{Bool, true, false, cond}
+use mathlib.Core.Bool.{Bool, false}
 use mathlib.Core.List.{List, [], _∷_, _++_, append-assoc}
 use lib.ListN.{length, take, drop, getD, length-drop, length-take}
 use lib.Seq.{sets, take-suc, drop-drop, sets-eq, length-take-le}
@@ -23,9 +23,10 @@ use Rattle.guard.specs.declared.Request.{Request}
 use Rattle.guard.proofs.Filling.{length-tabulate}
 use Rattle.guard.proofs.Logs.{length-answers}
 use Rattle.script.specs.Report.{lineText, lastLine}
-use Rattle.script.specs.Slices.{after, written, Put}
-use Rattle.script.specs.Run.{atLines, bench, benchOf, Told, toldFirst, fromLine, rest, Fits, Goes, Stepped}
-use Rattle.script.specs.LineBatch.{batchLines, one, asked, said, texts, Most, Batched}
+use Rattle.script.specs.Private.Slices.{written, Put}
+use Rattle.script.specs.Run.{atLines, bench, benchOf, toldFirst, fromLine, rest, Goes}
+use Rattle.script.specs.Private.Steps.{Stepped}
+use Rattle.script.specs.Private.LineBatch.{batchLines, one, asked, said, texts, Most, Batched}
 use Rattle.script.specs.declared.runner.Runner.{Runner}
 use Rattle.script.specs.declared.batch.Gathered.{Gathered}
 use Rattle.script.specs.Proof.Silent.{rest-lines}

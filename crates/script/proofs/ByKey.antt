@@ -21,7 +21,7 @@ use Rattle.bitset.specs.Tests.Laws.{both}
 use Rattle.script.specs.Text.{bytes, same}
 use Rattle.script.specs.Names.{names, column}
 use Rattle.script.specs.Line.{requestWords, words}
-use Rattle.script.specs.Keys.{packed, keyOf, spot}
+use Rattle.script.specs.Private.Keys.{packed, keyOf, spot}
 
 -- ---- the loop that makes a key: k is the first i bytes
 pub record Packed (s : List ℕ) (k i : ℕ) : Type 0 where

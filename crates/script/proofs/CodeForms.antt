@@ -16,7 +16,7 @@ use Rattle.bitset.specs.Tests.{every}
 use Rattle.bitset.specs.Tests.Laws.{every-at}
 use Rattle.script.specs.Text.{bytes, same, allDigits, number}
 use Rattle.script.specs.Line.{valueOf}
-use Rattle.script.specs.Rows.{formOf}
+use Rattle.script.specs.Private.Rows.{formOf}
 use Rattle.script.specs.declared.line.Value.{Value}
 use Rattle.script.specs.declared.line.Value.the-variants.{Digits, Dash, Other}
 

@@ -18,7 +18,7 @@ use Rattle.bitset.specs.Tests.{all}
 use Rattle.bitset.specs.Tests.Laws.{all-e}
 use Rattle.guard.proofs.Compute.{computing}
 use Rattle.script.specs.Line.{userWord, callOf, Numbers, these, unreadable, joined, asks, used, isUsed, ordinal, fields}
-use Rattle.script.specs.Rows.{takenAs, joins, takeFrom, front, ahead, members}
+use Rattle.script.specs.Private.Rows.{takenAs, joins, takeFrom, front, ahead, members}
 use Rattle.script.specs.declared.line.Line.the-variants.{Ask, SetUser, Bad}
 use Rattle.script.specs.declared.fields.Taken.{Taken}
 use Rattle.script.specs.declared.fields.Taken.the-variants.{Number, Fault}
@@ -123,7 +123,7 @@ module _ (w : ℕ) (six : Six) (x : Numbers) where
           parent = six .parent;
           kind = six .kind;
           name = name;
-          level = level;
+          grade = level;
           cats = cats;
           rights = rights;
         })

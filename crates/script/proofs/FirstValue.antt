@@ -18,7 +18,7 @@ use lib.Dec.{eqb}
 use lib.ListN.{length, getD, take, drop, length-drop, drop-of-length-le}
 use lib.Seq.{drop-cons, length-take-le, take-all}
 use borrow.Author.Tests.{eqb-true, ne-eqb}
-use Rattle.script.specs.Slices.{before, leading}
+use Rattle.script.specs.Private.Slices.{before, leading}
 use Rattle.script.proofs.ValuesInTurn.{before-take, before-most, to-end}
 
 -- ---- the loop

@@ -17,9 +17,9 @@ use Rattle.bitset.specs.Tests.{every}
 use Rattle.script.specs.Text.{bytes, same, allDigits, number}
 use Rattle.script.specs.Names.{column}
 use Rattle.script.specs.Line.{valueOf, words}
-use Rattle.script.specs.Slices.{leading}
-use Rattle.script.specs.Keys.{wordOf, Begins}
-use Rattle.script.specs.Rows.{coded, codeAt, formOf, IsFound}
+use Rattle.script.specs.Private.Slices.{leading}
+use Rattle.script.specs.Private.Keys.{wordOf, Begins}
+use Rattle.script.specs.Private.Rows.{coded, codeAt, formOf, IsFound}
 use Rattle.script.specs.declared.line.Value.{Value}
 use Rattle.script.proofs.ByKey.{Bytes}
 use Rattle.script.proofs.Texts.{not-dash, no-dash, good-digits}

@@ -14,7 +14,7 @@ use native.Mathlib.Nat.{add-zero}
 use native.Mathlib.Omega.{arith}
 use lib.Dec.{leb}
 use borrow.Author.Tests.{leb-false}
-use Rattle.guard.specs.Step.{answer, next, run, answers}
+use Rattle.guard.specs.Step.{answer, run, answers}
 use Rattle.guard.specs.Fresh.{tabulate}
 use Rattle.guard.specs.Batch.{rowLength, requestAt, requests}
 use Rattle.guard.specs.declared.Tables.{Tables}
@@ -23,13 +23,14 @@ use Rattle.guard.proofs.Filling.{length-tabulate}
 use Rattle.guard.proofs.Logs.{run-snoc, answers-snoc, length-answers}
 use Rattle.script.specs.Line.{readLine}
 use Rattle.script.specs.Report.{lineText, lastLine}
-use Rattle.script.specs.Slices.{before, after, written, Ordered}
+use Rattle.script.specs.Private.Slices.{before, written}
+use Rattle.script.specs.Text.{after}
+use Rattle.script.specs.Names.{Ordered}
 use Rattle.script.specs.Run.{bench, toldFirst, fromLine}
-use Rattle.script.specs.LineBatch.{isRequest, isAllowed, numbersOf, one, asked, said, texts, Batched}
+use Rattle.script.specs.Private.LineBatch.{isRequest, isAllowed, numbersOf, one, asked, said, texts, Batched}
 use Rattle.script.specs.declared.line.Line.{Line}
 use Rattle.script.specs.declared.line.Line.the-variants.{Ask, SetUser, Bad}
 use Rattle.script.specs.declared.line.Front.{Front}
-use Rattle.script.specs.declared.batch.Gathered.{Gathered}
 use Rattle.script.specs.Proof.Silent.{put-put}
 use Rattle.script.proofs.ValuesInTurn.{after-drop, to-end}
 use Rattle.script.proofs.Lines.{before-append, after-append}

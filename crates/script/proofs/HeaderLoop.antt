@@ -19,8 +19,8 @@ use Rattle.bitset.specs.Sets.Laws.{has-none, has-with-same, has-with-other, has
 use Rattle.bitset.specs.Tests.{every, all, some}
 use Rattle.bitset.specs.Tests.Laws.{all-e, both, clash, is-false, some-none, some-more, some-i, some-e, or-true, or-false, none-below}
 use Rattle.script.specs.Text.{values}
-use Rattle.script.specs.Names.{names, column, among, isNames}
-use Rattle.script.specs.Slices.{before, Ordered}
+use Rattle.script.specs.Names.{names, column, among, isNames, Ordered}
+use Rattle.script.specs.Private.Slices.{before}
 use Rattle.script.proofs.ValuesInTurn.{Reached, reached-start, reached-here, reached-end, reached-over, reached-next}
 use Rattle.script.proofs.NamePlaces.{column-most, column-found, among-found, among-i, names-at, names-length, names-count, name-among}
 

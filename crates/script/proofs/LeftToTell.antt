@@ -16,11 +16,11 @@ use native.Mathlib.Omega.{arith}
 use borrow.Author.Tests.{lt-leb}
 use Rattle.bitset.specs.Tests.{every}
 use Rattle.bitset.specs.Tests.Laws.{is-false}
-use Rattle.script.specs.Text.{lines, values}
+use Rattle.script.specs.Text.{lines, values, after}
 use Rattle.script.specs.Names.{isNames}
 use Rattle.script.specs.Line.{readLine}
 use Rattle.script.specs.Report.{Bench, answerLine, lineText, answered, lastLine, firstBench, below}
-use Rattle.script.specs.Slices.{before, after, written, Put}
+use Rattle.script.specs.Private.Slices.{before, written, Put}
 use Rattle.script.specs.Run.{Told, toldFirst, finally, closing, fromLine, fromNames, Goes}
 use Rattle.script.specs.Proof.Silent.{put-put}
 use Rattle.script.specs.declared.line.Line.the-variants.{Bad}

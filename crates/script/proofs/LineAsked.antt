@@ -11,10 +11,9 @@ use lib.ListN.{length, getD, length-map}
 use borrow.Author.Tests.{le-leb, lt-leb, ltb-true, ltb-false}
 use Rattle.bitset.specs.Tests.{every}
 use Rattle.script.specs.Text.{values}
-use Rattle.script.specs.Names.{names, under}
+use Rattle.script.specs.Names.{names, under, Ordered}
 use Rattle.script.specs.Line.{used, Numbers, these, asks, lineOf, readLine}
-use Rattle.script.specs.Slices.{Ordered}
-use Rattle.script.specs.Rows.{noWord, fine, IsRow, takeFrom, ahead, members}
+use Rattle.script.specs.Private.Rows.{noWord, fine, IsRow, takeFrom, ahead, members}
 use Rattle.script.specs.declared.line.Line.{Line}
 use Rattle.script.specs.declared.line.Line.the-variants.{Bad}
 use Rattle.script.specs.declared.fields.Half.{Half}

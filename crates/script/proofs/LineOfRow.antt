@@ -19,7 +19,7 @@ use Rattle.bitset.specs.Tests.Laws.{all-e}
 use Rattle.script.specs.Text.{bytes, same}
 use Rattle.script.specs.Names.{column}
 use Rattle.script.specs.Line.{valueOf, requestWords, words, used, Numbers, these, taken, takeAll, asks, lineOf}
-use Rattle.script.specs.Rows.{coded, codeAt, noWord, blank, takenAs, joins, takeFrom, members}
+use Rattle.script.specs.Private.Rows.{coded, codeAt, noWord, blank, takenAs, joins, takeFrom, members}
 use Rattle.script.specs.declared.line.Value.{Value}
 use Rattle.script.specs.declared.line.Value.the-variants.{Digits, Dash, Other}
 use Rattle.script.specs.declared.line.Line.the-variants.{Bad}

@@ -12,8 +12,8 @@ use mathlib.Core.List.{List, [], _∷_, _++_, append-nil}
 use lib.Dec.{eqb}
 use lib.ListN.{length}
 use native.Mathlib.Omega.{arith}
-use Rattle.script.specs.Text.{onto, lines}
-use Rattle.script.specs.Slices.{before, after}
+use Rattle.script.specs.Text.{onto, lines, after}
+use Rattle.script.specs.Private.Slices.{before}
 use Rattle.script.proofs.ValuesInTurn.{before-most}
 
 pub lines-first : (s : List ℕ) → 0 < length s → lines s ≡ before 10 s ∷ lines (after 10 s)

@@ -7,7 +7,7 @@
 -- Assumes nothing.
 use Prim.Native.Nat.{ℕ, suc, _+_, _*_, _≤_}
 use mathlib.Core.Path.{_≡_, refl, ap, sym, _∙_}
-use mathlib.Core.Bool.{Bool, true, false, not, _||_, true≢false}
+use mathlib.Core.Bool.{Bool, true, false, _||_, true≢false}
 use mathlib.Core.List.{List, [], _∷_, _++_, append-nil, append-assoc}
 use lib.ListN.{length, drop, getD, length-append}
 use lib.Seq.{getD-drop}
@@ -18,7 +18,7 @@ use Rattle.guard.specs.Step.{run, answers}
 use Rattle.guard.specs.declared.Tables.{Tables}
 use Rattle.script.specs.Report.{answerLine, lineText}
 use Rattle.script.specs.Run.{bench}
-use Rattle.script.specs.LineBatch.{isRequest, isAllowed, one, asked, said, texts}
+use Rattle.script.specs.Private.LineBatch.{isRequest, isAllowed, one, asked, said, texts}
 use Rattle.script.specs.declared.line.Line.{Line}
 use Rattle.script.specs.declared.line.Line.the-variants.{Ask, SetUser, Bad}
 use Rattle.script.proofs.Texts.{line-length}

@@ -19,8 +19,7 @@ use Rattle.bitset.specs.Tests.{all}
 use Rattle.bitset.specs.Tests.Laws.{all-e, every-at, clash, or-true, none-below}
 use Rattle.guard.proofs.Laws.Pigeons.{Meet, pigeons}
 use Rattle.script.specs.Text.{bytes, same}
-use Rattle.script.specs.Names.{names, column, among, isNames, under}
-use Rattle.script.specs.Slices.{Ordered}
+use Rattle.script.specs.Names.{names, column, among, isNames, under, Ordered}
 use Rattle.script.proofs.ByKey.{same-eq, same-self}
 
 pub column-most : (p : List ℕ) (ps : List (List ℕ)) → column p ps ≤ length ps

@@ -12,7 +12,7 @@ use borrow.Author.Tests.{ltb-true}
 use Rattle.script.specs.Text.{bytes, same}
 use Rattle.script.specs.Names.{column}
 use Rattle.script.specs.Line.{valueOf, words, used, Numbers, unreadable, joined, taken, takeAll, asks, lineOf}
-use Rattle.script.specs.Rows.{coded, codeAt, members}
+use Rattle.script.specs.Private.Rows.{coded, codeAt, members}
 use Rattle.script.specs.declared.line.Value.{Value}
 use Rattle.script.specs.declared.line.Value.the-variants.{Digits, Dash, Other}
 use Rattle.script.specs.declared.line.Line.the-variants.{Bad}

@@ -12,12 +12,13 @@ use mathlib.Core.List.{List, [], _++_, append-nil}
 use lib.ListN.{length, take, drop, length-append, drop-of-length-le}
 use native.Mathlib.Numerals.{add-one}
 use native.Mathlib.Omega.{arith}
-use Rattle.script.specs.Text.{bytes, values}
-use Rattle.script.specs.Names.{isNames}
+use Rattle.script.specs.Text.{values, after}
+use Rattle.script.specs.Names.{isNames, Ordered}
 use Rattle.script.specs.Line.{readLine}
-use Rattle.script.specs.Report.{Bench, heading, lineText, answered, lastLine, firstBench}
-use Rattle.script.specs.Slices.{before, after, Ordered}
-use Rattle.script.specs.Run.{atHeading, atNames, atLines, benchOf, toldFirst, fromLine, fromNames, rest, Fits, afterLine, textOf, withNames, over, Onward, Goes}
+use Rattle.script.specs.Report.{Bench, heading, lineText, lastLine, firstBench}
+use Rattle.script.specs.Private.Slices.{before}
+use Rattle.script.specs.Run.{atHeading, atNames, atLines, benchOf, toldFirst, fromLine, fromNames, rest, Fits, Onward, Goes}
+use Rattle.script.specs.Private.Steps.{afterLine, textOf, withNames, over}
 use Rattle.script.specs.declared.line.Line.{Line}
 use Rattle.script.specs.declared.line.Line.the-variants.{Bad}
 use Rattle.script.specs.declared.runner.Runner.{Runner}

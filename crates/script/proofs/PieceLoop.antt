@@ -20,8 +20,9 @@ use native.Mathlib.Nat.{zero-add}
 use native.Mathlib.Omega.{arith}
 use borrow.Rule.Slice.PartMut.{putMid}
 use Rattle.script.specs.Report.{heading}
-use Rattle.script.specs.Slices.{Put}
-use Rattle.script.specs.Run.{atHeading, atNames, Goes, Worked, Stopped, Finished, Stepped}
+use Rattle.script.specs.Private.Slices.{Put}
+use Rattle.script.specs.Run.{atHeading, atNames, Goes, Worked, Stopped, Finished}
+use Rattle.script.specs.Private.Steps.{Stepped}
 use Rattle.script.specs.declared.runner.Runner.{Runner}
 use Rattle.script.specs.declared.runner.Ran.{Ran}
 use Rattle.script.proofs.Texts.{heading-length}

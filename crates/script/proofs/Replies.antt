@@ -7,12 +7,11 @@
 --     said-next, said-text     the runner and the text after an answer
 -- Assumes nothing.
 use Prim.Native.Nat.{ℕ, _+_, _≤_, _<_}
-use mathlib.Core.Path.{_≡_, refl, ap}
+use mathlib.Core.Path.{_≡_, refl}
 use mathlib.Core.Bool.{Bool, true, false, cond, _||_, true≢false}
 use mathlib.Core.List.{List, [], _∷_}
 use lib.Dec.{leb, ltb}
 use lib.ListN.{replicate}
-use native.Mathlib.Omega.{arith}
 use borrow.Author.Tests.{ltb-true, ltb-false, leb-true, leb-false, lt-ltb, le-ltb, lt-leb, le-leb}
 use Rattle.bitset.specs.Tests.{every}
 use Rattle.bitset.specs.Tests.Laws.{every-e, is-false, clash}
@@ -25,9 +24,10 @@ use Rattle.guard.specs.Step.{step}
 use Rattle.guard.specs.declared.Tables.{Tables}
 use Rattle.guard.specs.declared.Request.{Request}
 use Rattle.guard.specs.declared.Outcome.{Outcome}
-use Rattle.script.specs.Report.{Bench, Answered, unread, withUser, userInRanges, answerLine, lineText}
-use Rattle.script.specs.Slices.{Put}
-use Rattle.script.specs.Run.{bench, benchOf, saidBy, afterLine, textOf}
+use Rattle.script.specs.Report.{Answered, unread, withUser, userInRanges, answerLine, lineText}
+use Rattle.script.specs.Private.Slices.{Put}
+use Rattle.script.specs.Run.{bench, benchOf}
+use Rattle.script.specs.Private.Steps.{saidBy, afterLine, textOf}
 use Rattle.script.specs.declared.line.Line.{Line}
 use Rattle.script.specs.declared.line.Line.the-variants.{Ask, SetUser}
 use Rattle.script.specs.declared.runner.Runner.{Runner}

@@ -5,16 +5,17 @@
 use Prim.Native.Nat.{ℕ, zero, suc, _+_, _*_, _≤_, _<_}
 use mathlib.Core.Path.{_≡_, refl, ap, ap₂, sym, _∙_}
 use mathlib.Core.List.{List, [], _∷_, _++_, append-nil, append-assoc}
-use lib.ListN.{length, take, drop, getD, length-append, List·getD-append}
+use lib.ListN.{length, take, drop, getD, List·getD-append}
 use lib.Seq.{sets-eq, length-take-le, getD-take, getD-append-add}
 use native.Mathlib.Nat.{add-zero}
 use native.Mathlib.Numerals.{add-one}
 use native.Mathlib.Omega.{arith}
 use Rattle.guard.specs.Fresh.{tabulate}
-use Rattle.guard.specs.Batch.{rowLength, rowOf, requestAt, requests}
+use Rattle.guard.specs.Batch.{rowLength, requestAt, requests}
+use Rattle.guard.specs.Private.Inside.{rowOf}
 use Rattle.guard.specs.declared.Request.{Request}
-use Rattle.script.specs.Slices.{written}
-use Rattle.script.specs.LineBatch.{isRequest, numbersOf, one}
+use Rattle.script.specs.Private.Slices.{written}
+use Rattle.script.specs.Private.LineBatch.{isRequest, numbersOf, one}
 use Rattle.script.specs.declared.line.Line.{Line}
 use Rattle.script.specs.declared.line.Line.the-variants.{Ask, SetUser, Bad}
 

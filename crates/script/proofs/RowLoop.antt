@@ -16,10 +16,9 @@ use lib.Dec.{eqb, leb}
 use lib.ListN.{length, getD, drop, length-drop}
 use lib.Seq.{getD-drop, drop-drop}
 use borrow.Author.Tests.{eqb-true, eqb-false, ne-eqb, lt-leb}
-use Rattle.bitset.specs.Sets.{with}
-use Rattle.script.specs.Text.{values}
-use Rattle.script.specs.Slices.{before, after, leading}
-use Rattle.script.specs.Rows.{codeAt, IsFound, nameAt, codeIn, blank, gathered, marked, fine, IsRow}
+use Rattle.script.specs.Text.{values, after}
+use Rattle.script.specs.Private.Slices.{before, leading}
+use Rattle.script.specs.Private.Rows.{codeAt, IsFound, nameAt, codeIn, blank, gathered, marked, fine, IsRow}
 use Rattle.script.specs.declared.row.Found.{Found}
 use Rattle.script.proofs.ValuesInTurn.{values-more, values-last, values-some, first-value, after-drop}
 use Rattle.script.proofs.FirstValue.{before-drop, before-rest, lead-most, lead-more, lead-last}

@@ -15,8 +15,8 @@ use lib.ListN.{length, getD, set}
 use borrow.Author.Tests.{eqb-true, lt-ltb, le-leb, ltb-true}
 use Rattle.bitset.specs.Sets.{with}
 use Rattle.script.specs.Text.{values}
-use Rattle.script.specs.Slices.{before}
-use Rattle.script.specs.Rows.{IsFound, nameAt, codeIn, gathered, marked, fine, IsRow}
+use Rattle.script.specs.Private.Slices.{before}
+use Rattle.script.specs.Private.Rows.{IsFound, nameAt, codeIn, gathered, marked, fine, IsRow}
 use Rattle.script.specs.declared.row.Found.{Found}
 use Rattle.script.proofs.ValuesInTurn.{before-most}
 use Rattle.script.proofs.CodeForms.{number-form, dash-form}

@@ -17,9 +17,8 @@ use borrow.Author.Tests.{leb-true, leb-false}
 use Rattle.bitset.specs.Sets.{has, with}
 use Rattle.bitset.specs.Sets.Laws.{has-none, has-with-same, has-with-other}
 use Rattle.bitset.specs.Tests.Laws.{none-below}
-use Rattle.script.specs.Names.{under}
-use Rattle.script.specs.Slices.{Ordered}
-use Rattle.script.specs.Rows.{codeAt, nameAt, codeIn, blank, gathered, marked, fine}
+use Rattle.script.specs.Names.{under, Ordered}
+use Rattle.script.specs.Private.Rows.{codeAt, nameAt, codeIn, blank, gathered, marked, fine}
 use Rattle.script.proofs.NamePlaces.{placeOf, place-lt, place-at, at-lt, at-place, under-at}
 
 -- ---- each value has a form

@@ -15,8 +15,9 @@ use native.Mathlib.Omega.{arith}
 use borrow.Author.Tests.{ltb-true, ltb-false}
 use Rattle.script.specs.Line.{readLine}
 use Rattle.script.specs.Report.{lineText, lastLine}
-use Rattle.script.specs.Slices.{before}
-use Rattle.script.specs.Run.{atNames, atLines, atEnd, Fits, afterLine, textOf, Spoken, withNames, over, Named, good, bad, Onward, Open, names-to-come, line-to-come, Stopped, Stepped}
+use Rattle.script.specs.Private.Slices.{before}
+use Rattle.script.specs.Run.{atNames, atLines, Fits, Onward, Open, names-to-come, line-to-come, Stopped}
+use Rattle.script.specs.Private.Steps.{atEnd, afterLine, textOf, Spoken, withNames, over, Named, good, bad, Stepped}
 use Rattle.script.specs.declared.line.Line.{Line}
 use Rattle.script.specs.declared.runner.Runner.{Runner}
 use Rattle.script.specs.declared.runner.Said.{Said}

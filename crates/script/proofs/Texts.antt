@@ -22,7 +22,7 @@ use Rattle.script.specs.declared.line.Value.the-variants.{Digits, Dash, 
 use Rattle.script.specs.Text.{bytes, same, allDigits, number, place, decimal}
 use Rattle.script.specs.Line.{valueOf}
 use Rattle.script.specs.Report.{heading, lineText}
-use Rattle.script.specs.Slices.{before, written, Numbered, Put}
+use Rattle.script.specs.Private.Slices.{before, written, Numbered, Put}
 use Rattle.script.specs.declared.print.Numeral.{Numeral}
 
 -- ---- where a byte stands

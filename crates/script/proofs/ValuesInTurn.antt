@@ -17,8 +17,8 @@ use lib.Dec.{eqb}
 use lib.ListN.{length, getD, take, drop, length-drop}
 use lib.Seq.{length-take-le, take-all, getD-drop, drop-drop}
 use borrow.Author.Tests.{ne-eqb}
-use Rattle.script.specs.Text.{values, onto}
-use Rattle.script.specs.Slices.{before, after}
+use Rattle.script.specs.Text.{values, onto, after}
+use Rattle.script.specs.Private.Slices.{before}
 
 pub before-take : (d : ℕ) (s : List ℕ) → take (length (before d s)) s ≡ before d s
 unfolding before

@@ -19,9 +19,9 @@ use Rattle.bitset.specs.Tests.Laws.{all-e}
 use Rattle.script.specs.Text.{bytes, same}
 use Rattle.script.specs.Names.{column}
 use Rattle.script.specs.Line.{requestWords, words}
-use Rattle.script.specs.Slices.{leading}
-use Rattle.script.specs.Rows.{noWord}
-use Rattle.script.specs.Keys.{packed, keyOf, spot, wordOf, Begins}
+use Rattle.script.specs.Private.Slices.{leading}
+use Rattle.script.specs.Private.Rows.{noWord}
+use Rattle.script.specs.Private.Keys.{packed, keyOf, spot, wordOf, Begins}
 use Rattle.script.proofs.ByKey.{Bytes, Misses, by-key, spot-none, wordKeys, word-keys}
 use Rattle.script.proofs.NamePlaces.{column-found}
 use Rattle.script.proofs.FirstValue.{clean, lead-clean}

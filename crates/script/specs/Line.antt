@@ -5,8 +5,7 @@ use mathlib.Core.List.{List, [], _∷_, _++_, map}
 use lib.Dec.{leb, ltb, eqb}
 use lib.ListN.{length, getD}
 use Rattle.bitset.specs.Tests.{every}
-use Rattle.guard.specs.Requests.{Field, call, seat, user, role, entity, parent, kind, name, label, rights, Rule, unknown, rules}
-use Rattle.guard.specs.declared.Request.{Request}
+use Rattle.guard.specs.Requests.{Field, call, seat, user, role, entity, parent, kind, name, label, rights, unknown, rules}
 use Rattle.script.specs.declared.line.Value.{Value}
 use Rattle.script.specs.declared.line.Value.the-variants.{Digits, Dash, Other}
 use Rattle.script.specs.declared.line.Line.{Line}
@@ -121,7 +120,7 @@ asks word (these ns) =
       parent = getD ns 4 0;
       kind = getD ns 5 0;
       name = getD ns 6 0;
-      level = getD ns 7 0;
+      grade = getD ns 7 0;
       cats = getD ns 8 0;
       rights = getD ns 9 0;
     }))

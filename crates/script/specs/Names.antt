@@ -1,6 +1,6 @@
 -- The line of names.
-use Prim.Native.Nat.{ℕ, zero, suc, _+_}
-use mathlib.Core.Bool.{Bool, false, cond, _||_}
+use Prim.Native.Nat.{ℕ, suc}
+use mathlib.Core.Bool.{Bool, true, false, cond, _||_}
 use mathlib.Core.List.{List, [], _∷_, map}
 use lib.Dec.{eqb}
 use lib.ListN.{length, getD}
@@ -43,3 +43,8 @@ isNames header = every (eqb (length header) nameCount ∷ map (among header) nam
 -- then lines of values in that order: the value under each name, in the sample's order
 unfoldable pub under : List (List ℕ) → List (List ℕ) → List (List ℕ)
 under header vs = map (λ n. getD vs (column n header) []) names
+
+-- `at` tells for each place of the header which name stands there
+pub record Ordered (header : List (List ℕ)) (at : List ℕ) : Type 0 where
+  pub good : isNames header ≡ true
+  pub place : (j : ℕ) → j < nameCount → getD at j 0 ≡ column (getD header j []) names

@@ -8,15 +8,11 @@ use mathlib.Core.List.{List, [], _∷_, _++_}
 use lib.Dec.{eqb, leb, ltb}
 use lib.ListN.{length, take, drop, replicate}
 use Rattle.guard.specs.declared.Tables.{Tables}
-use Rattle.script.specs.Text.{lines, values}
-use Rattle.script.specs.Names.{nameCount, isNames}
+use Rattle.script.specs.Text.{lines, values, after}
+use Rattle.script.specs.Names.{nameCount, isNames, Ordered}
 use Rattle.script.specs.Line.{longestLine, readLine}
-use Rattle.script.specs.Report.{Bench, Answered, unreadAnswer, answerLine, heading, lineText, lineRoom, answered, lastLine, firstBench, below}
-use Rattle.script.specs.Slices.{after, Put, Ordered}
-use Rattle.script.specs.declared.line.Line.{Line}
+use Rattle.script.specs.Report.{Bench, answerLine, heading, lineRoom, answered, lastLine, firstBench, below}
 use Rattle.script.specs.declared.runner.Runner.{Runner}
-use Rattle.script.specs.declared.reply.Reply.{Reply}
-use Rattle.script.specs.declared.runner.Said.{Said}
 use Rattle.script.specs.declared.runner.Ran.{Ran}
 
 -- ---- the phases of a runner: the heading is to come; the names are to come; lines of values; from 3 on the run is over
@@ -29,17 +25,11 @@ atNames = 1
 abbrev pub atLines : ℕ
 atLines = 2
 
-abbrev pub atEnd : ℕ
-atEnd = 3
-
 abbrev pub bench : Tables → Bool → Bench
 bench t shut = record { tables = t; shut = shut }
 
 abbrev pub benchOf : Runner → Bench
 benchOf r = bench (r .tables) (r .shut)
-
-abbrev pub saidBy : Reply → Answered
-saidBy a = record { bench = bench (a .tables) (a .shut); answer = a .answer }
 
 -- ---- what is printed, and the bench at the end of it
 pub record Told : Type 0 where
@@ -92,39 +82,6 @@ pub record Fits (header : List (List ℕ)) (r : Runner) : Type 0 where
 unfoldable pub isOver : Runner → Bool
 isOver r = cond (eqb (r .phase) atLines) (leb lastLine (r .done)) (ltb atLines (r .phase))
 
--- ---- one line of values, by what it asks
-unfoldable pub afterLine : Runner → Line → Runner
-afterLine r asked =
-    let said = answerLine (benchOf r) asked in
-    record {
-      tables = said .bench .tables;
-      shut = said .bench .shut;
-      at = r .at;
-      phase = r .phase;
-      done = r .done + 1;
-      skip = r .skip;
-    }
-
-unfoldable pub textOf : Runner → Line → List ℕ
-textOf r asked = lineText (r .done + 1) (answerLine (benchOf r) asked .answer)
-
-pub record Spoken (r : Runner) (l old new : List ℕ) (x : Said) : Type 0 where
-  pub asked : Line
-  pub read : (header : List (List ℕ)) → Ordered header (r .at) → asked ≡ readLine header l
-  pub next : x .runner ≡ afterLine r asked
-  pub puts : Put old 0 (textOf r asked) new (x .wrote)
-
--- ---- the names line
-abbrev pub withNames : Runner → List ℕ → Runner
-withNames r at = record { tables = r .tables; shut = r .shut; at = at; phase = atLines; done = 1; skip = false }
-
-abbrev pub over : Runner → Runner
-over r = record { tables = r .tables; shut = r .shut; at = r .at; phase = atEnd; done = r .done; skip = r .skip }
-
-pub data Named (r : Runner) (l old : List ℕ) : List ℕ → Said → Type 0 where
-  good : (at : List ℕ) → Ordered (values l) at → Named r l old old (record { runner = withNames r at; wrote = 0 })
-  bad : {new : List ℕ} {n : ℕ} → isNames (values l) ≡ false → Put old 0 (lineText 1 unreadAnswer) new n → Named r l old new (record { runner = over r; wrote = n })
-
 -- ---- a call on a piece
 -- whatever input follows, what was left to tell is w and then what is left to tell now
 pub record Onward (end : Bool) (header : List (List ℕ)) (r : Runner) (s w : List ℕ) (r2 : Runner) (s2 : List ℕ) : Type 0 where
@@ -155,12 +112,6 @@ Stopped r left end room = Open r left → lineRoom ≤ room → (end ≡ false) 
 pub record Finished (r : Runner) (piece : List ℕ) (end : Bool) (old new : List ℕ) (x : Ran) : Type 0 where
   pub did : Worked r piece end old new x
   pub stops : Stopped (x .runner) (drop (x .used) piece) end (length old - x .wrote)
-
--- .. and where a step of it ends, which does at most one line
-pub record Stepped (r : Runner) (piece : List ℕ) (end : Bool) (old new : List ℕ) (x : Ran) : Type 0 where
-  pub did : Worked r piece end old new x
-  pub begun : atNames ≤ x .runner .phase
-  pub stops : x .used ≡ 0 → Stopped (x .runner) (drop (x .used) piece) end (length old - x .wrote)
 
 -- ---- a host that has input s in all, read or not yet read, hands over any piece of what is left with any room for output, and
 -- keeps what the call did not use. `Session r s w r2 left`: calls that begin with r have handed out w, their runner is r2, and

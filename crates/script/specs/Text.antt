@@ -1,5 +1,5 @@
 -- Bytes: lines, values one space apart, decimal numbers.
-use Prim.Native.Nat.{ℕ, zero, suc, _+_, _-_, _*_, _/_, _%_}
+use Prim.Native.Nat.{ℕ, _+_, _-_, _*_, _/_, _%_}
 use Prim.Native.String.{String, [] as end, _∷_ as _then_}
 use Prim.Native.Char.{code}
 use mathlib.Core.Bool.{Bool, true, false, cond, _&&_}
@@ -49,3 +49,8 @@ place p n = cond (leb p n) ((48 + n / p % 10) ∷ []) []
 
 unfoldable pub decimal : ℕ → List ℕ
 decimal n = place 10000 n ++ (place 1000 n ++ (place 100 n ++ (place 10 n ++ ((48 + n % 10) ∷ []))))
+
+-- what stands after the first byte d
+unfoldable pub after : ℕ → List ℕ → List ℕ
+after d [] = []
+after d (b ∷ s) = cond (eqb b d) s (after d s)

@@ -9,9 +9,10 @@ ghost use Prim.Native.Nat.{_+_, _*_, _≤_};
 ghost use mathlib.Core.Path.{_≡_};
 ghost use lib.ListN.{length, take};
 ghost use Rattle.script.specs.Report.{lineRoom, lastLine};
-ghost use Rattle.script.specs.Slices.{written, Put};
-ghost use Rattle.guard.specs.Batch.{rowLength, rowOf};
-ghost use Rattle.script.specs.LineBatch.{one, said, texts, isRequest, isAllowed, numbersOf, Most, Batched};
+ghost use Rattle.script.specs.Private.Slices.{written, Put};
+ghost use Rattle.guard.specs.Batch.{rowLength};
+ghost use Rattle.guard.specs.Private.Inside.{rowOf};
+ghost use Rattle.script.specs.Private.LineBatch.{one, said, texts, isRequest, isAllowed, numbersOf, Most, Batched};
 
 // How many requests some lines ask, how many lines these are, how many bytes of input they took, and whether `user` is shut
 // out after them.
@@ -60,7 +61,7 @@ fn put_row(q: Request, rows: &mut [u32], at: usize) -> usize
     rows[at + 5] = q.parent;
     rows[at + 6] = q.kind;
     rows[at + 7] = q.name;
-    rows[at + 8] = q.level;
+    rows[at + 8] = q.grade;
     rows[at + 9] = q.cats;
     rows[at + 10] = q.rights;
     at + limits::ROW

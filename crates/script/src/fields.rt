@@ -4,7 +4,7 @@ ghost use mathlib.Core.Path.{_≡_};
 ghost use mathlib.Core.List.{[]};
 ghost use Rattle.bitset.specs.Sets.{has};
 ghost use Rattle.script.specs.Line.{Numbers, these, used, asks};
-ghost use Rattle.script.specs.Rows.{noWord, takenAs, takeFrom, ahead, members};
+ghost use Rattle.script.specs.Private.Rows.{noWord, takenAs, takeFrom, ahead, members};
 use crate::limits;
 use crate::line::Line;
 use guard::Request;
@@ -138,7 +138,7 @@ pub fn second(word: u32, six: Six, vals: &[u32; 16], given: u16, uses: u16) -> L
         parent: six.parent,
         kind: six.kind,
         name,
-        level,
+        grade: level,
         cats,
         rights,
     })

@@ -2,8 +2,7 @@
 ghost use mathlib.Core.Path.{_≡_};
 ghost use mathlib.Core.Bool.{true};
 ghost use Rattle.script.specs.Text.{values};
-ghost use Rattle.script.specs.Names.{isNames};
-ghost use Rattle.script.specs.Slices.{Ordered};
+ghost use Rattle.script.specs.Names.{isNames, Ordered};
 use crate::limits;
 use crate::text;
 

@@ -5,7 +5,7 @@ ghost use mathlib.Core.List.{[], _∷_};
 ghost use lib.ListN.{length};
 ghost use Rattle.script.specs.Text.{place, decimal};
 ghost use Rattle.script.specs.Report.{heading, lineText, lineRoom, lastLine};
-ghost use Rattle.script.specs.Slices.{Numbered, Put};
+ghost use Rattle.script.specs.Private.Slices.{Numbered, Put};
 
 // A number and its last five digits, the last one in `a`.
 pub struct Numeral {

@@ -6,7 +6,7 @@ use guard::Tables;
 use guard::User;
 ghost use mathlib.Core.Path.{_≡_};
 ghost use Rattle.script.specs.Report.{answerLine};
-ghost use Rattle.script.specs.Run.{saidBy};
+ghost use Rattle.script.specs.Private.Steps.{saidBy};
 
 // The bench after a line, and the line's answer.
 pub struct Reply {

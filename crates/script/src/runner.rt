@@ -16,9 +16,10 @@ ghost use mathlib.Core.Path.{_≡_};
 ghost use mathlib.Core.Bool.{true, false};
 ghost use lib.ListN.{length};
 ghost use Rattle.script.specs.Report.{lineRoom, lastLine};
-ghost use Rattle.script.specs.Slices.{before};
-ghost use Rattle.script.specs.LineBatch.{Lent};
-ghost use Rattle.script.specs.Run.{atNames, atLines, unbegun, isOver, Spoken, Named, Stepped, Finished};
+ghost use Rattle.script.specs.Private.Slices.{before};
+ghost use Rattle.script.specs.Private.LineBatch.{Lent};
+ghost use Rattle.script.specs.Run.{atNames, atLines, unbegun, isOver, Finished};
+ghost use Rattle.script.specs.Private.Steps.{Spoken, Named, Stepped};
 
 // The phases of a run: the heading is to come, the names are to come, lines of values, over.
 const AT_HEADING: u8 = 0;

@@ -4,8 +4,8 @@ ghost use mathlib.Core.Path.{_≡_};
 ghost use lib.ListN.{length, getD, take, drop};
 ghost use Rattle.script.specs.Names.{names, column};
 ghost use Rattle.script.specs.Line.{valueOf, words};
-ghost use Rattle.script.specs.Slices.{before, leading};
-ghost use Rattle.script.specs.Keys.{keyOf, wordOf, Begins};
+ghost use Rattle.script.specs.Private.Slices.{before, leading};
+ghost use Rattle.script.specs.Private.Keys.{keyOf, wordOf, Begins};
 use crate::limits;
 use crate::line::Value;
 

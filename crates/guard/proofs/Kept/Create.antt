@@ -20,7 +20,7 @@ use Rattle.guard.specs.Tables.{noEntity, entityAt}
 use Rattle.guard.specs.Chain.{climbs, parentOf}
 use Rattle.guard.specs.Sound.{entityInRange, isRootRecord, sound}
 use Rattle.guard.specs.Edits.{withEntities, atEntity, setRights, addRights}
-use Rattle.guard.specs.Conditions.{createBelow}
+use Rattle.guard.specs.Conditions.{createOutOfLevel}
 use Rattle.guard.specs.Requests.{fieldInRange, created, create}
 use Rattle.guard.specs.declared.Entity.{Entity}
 use Rattle.guard.specs.declared.Tables.{Tables}
@@ -91,7 +91,7 @@ made-sound t e n h l dead live range name fits free =
     })
 
 pub keeps-create : Keeps create
-unfolding create created createBelow atEntity addRights setRights fieldInRange entityInRange
+unfolding create created createOutOfLevel atEntity addRights setRights fieldInRange entityInRange
 keeps-create t q d =
     let no = unmet _ refl (d .none) in
     let range = every-at _ (d .ranges) in

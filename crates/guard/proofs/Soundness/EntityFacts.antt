@@ -15,7 +15,7 @@ use Rattle.guard.specs.Level.{isRoot}
 use Rattle.guard.specs.Label.{labelInRange, sameLabel, noLabel}
 use Rattle.guard.specs.Tables.{entityAt}
 use Rattle.guard.specs.Sound.{entityInRange, isRootRecord, isEmptyEntity}
-use Rattle.guard.specs.Tested.{entityTest}
+use Rattle.guard.specs.Private.Tested.{entityTest}
 use Rattle.guard.specs.declared.Label.{Label}
 use Rattle.guard.specs.declared.Entity.{Entity}
 use Rattle.guard.specs.declared.Tables.{Tables}

@@ -18,7 +18,7 @@ use Rattle.bitset.specs.Sets.{has, join, contains}
 use Rattle.bitset.specs.Sets.Laws.{sets-ext, has-none, has-meet, has-join, has-below, join-lt, join-none, has-contains, contains-has, contains-trans, contains-le}
 use Rattle.guard.specs.Level.{roleLevel, entityLevel, isKeeper}
 use Rattle.guard.specs.Tables.{entityAt}
-use Rattle.guard.specs.Tested.{grantableIn, rightsSet, members, roleTest}
+use Rattle.guard.specs.Private.Tested.{grantableIn, rightsSet, members, roleTest}
 use Rattle.guard.specs.declared.Role.{Role}
 use Rattle.guard.specs.declared.Tables.{Tables}
 use Rattle.guard.proofs.Laws.Sound.Facts.{RoleOk, SetOk, grantable}

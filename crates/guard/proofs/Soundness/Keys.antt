@@ -17,8 +17,8 @@ use Rattle.bitset.specs.Tests.{all}
 use Rattle.bitset.specs.Tests.Laws.{clash, is-false, not-of-false, of-not-true, of-not-false, every-i, every-at, either-l, either-r, either-e, implies-i, implies-e, all-i, all-e, all-cong}
 use Rattle.guard.specs.Level.{isRoot}
 use Rattle.guard.specs.Tables.{entityAt}
-use Rattle.guard.specs.Tested.{ends, ownKey, parentByKey, liveByKey}
-use Rattle.guard.specs.Scan.{Keys}
+use Rattle.guard.specs.Private.Tested.{ends, ownKey, parentByKey, liveByKey}
+use Rattle.guard.specs.Private.Scan.{Keys}
 use Rattle.guard.specs.declared.Tables.{Tables}
 use Rattle.guard.proofs.Laws.Sound.Facts.{parentIn, OwnName}
 use Rattle.guard.proofs.Soundness.Climb.{climbs-cong}

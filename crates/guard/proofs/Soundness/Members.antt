@@ -21,7 +21,7 @@ use Rattle.bitset.specs.Tests.Laws.{both, clash, is-false, all-i, all-e, all-co
 use Rattle.bitset.specs.Sets.{has, minus, contains, without, from}
 use Rattle.bitset.specs.Sets.Laws.{sets-ext, has-none, has-minus, has-without-same, has-without-other, has-without, without-le, contains-all, contains-has, has-contains}
 use Rattle.bitset.specs.Sets.Shift.{has-from}
-use Rattle.guard.specs.Tested.{members}
+use Rattle.guard.specs.Private.Tested.{members}
 
 pub has-half : (q i : ℕ) → has (q / 2) i ≡ has q (suc i)
 unfolding from

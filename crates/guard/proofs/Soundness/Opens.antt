@@ -18,7 +18,7 @@ use Rattle.guard.specs.Level.{sessionLevel}
 use Rattle.guard.specs.Label.{labelInRange, dominates, sameLabel}
 use Rattle.guard.specs.Tables.{roleAt, entityAt}
 use Rattle.guard.specs.Sound.{sessionInRange, isEmptySession}
-use Rattle.guard.specs.Tested.{sessionTest, labelNumber}
+use Rattle.guard.specs.Private.Tested.{sessionTest, labelNumber}
 use Rattle.guard.specs.declared.Label.{Label}
 use Rattle.guard.specs.declared.Session.{Session}
 use Rattle.guard.specs.declared.Entity.{Entity}

@@ -17,8 +17,8 @@ use Rattle.bitset.specs.Sets.{has}
 use Rattle.guard.specs.Level.{sessionLevel, isRoot}
 use Rattle.guard.specs.Tables.{noUser, sessionAt, roleAt, entityAt}
 use Rattle.guard.specs.Sound.{userInRange, usersInRange, sound}
-use Rattle.guard.specs.Tested.{parentByKey, liveByKey, grantableIn, ends, entityTest, ownKey, roleTest, sessionTest}
-use Rattle.guard.specs.Scan.{Keys}
+use Rattle.guard.specs.Private.Tested.{parentByKey, liveByKey, grantableIn, ends, entityTest, ownKey, roleTest, sessionTest}
+use Rattle.guard.specs.Private.Scan.{Keys}
 use Rattle.guard.specs.declared.Tables.{Tables}
 use Rattle.guard.proofs.Laws.Sound.{sound-e, sound-i}
 use Rattle.guard.proofs.Laws.Sound.Facts.{Sound, EntityOk, parentIn}

@@ -7,7 +7,7 @@ ghost use Rattle.bitset.specs.Tests.{all};
 ghost use Rattle.bitset.specs.Sets.{has};
 ghost use Rattle.guard.specs.Level.{sessionLevel, entityLevel};
 ghost use Rattle.guard.specs.Tables.{noSession, noEntity};
-ghost use Rattle.guard.specs.Tested.{packedLabel, labelNumber, dominated, members, openLevels, openLabels, sessionTest};
+ghost use Rattle.guard.specs.Private.Tested.{packedLabel, labelNumber, dominated, members, openLevels, openLabels, sessionTest};
 use super::record::is_empty_session;
 use super::record::session_in_range;
 use crate::Entity;

@@ -7,7 +7,7 @@ ghost use Rattle.bitset.specs.Tests.{all};
 ghost use Rattle.guard.specs.Tables.{noUser, noEntity};
 ghost use Rattle.guard.specs.Label.{sameLabel, noLabel};
 ghost use Rattle.guard.specs.Sound.{userInRange, sessionInRange, entityInRange, isRootRecord, isEmptyEntity, isEmptySession};
-ghost use Rattle.guard.specs.Tested.{fits, entityTest};
+ghost use Rattle.guard.specs.Private.Tested.{fits, entityTest};
 use crate::Entity;
 use crate::Label;
 use crate::Session;

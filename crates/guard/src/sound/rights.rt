@@ -6,7 +6,7 @@ ghost use lib.ListN.{getD};
 ghost use Rattle.bitset.specs.Tests.{all};
 ghost use Rattle.bitset.specs.Sets.{has, with};
 ghost use Rattle.guard.specs.Tables.{noRole};
-ghost use Rattle.guard.specs.Tested.{grantableIn, roleTest};
+ghost use Rattle.guard.specs.Private.Tested.{grantableIn, roleTest};
 use super::opens::to_level;
 use crate::Role;
 use crate::sizes::LEVEL_ROLES;

@@ -17,7 +17,7 @@ use Rattle.guard.specs.Label.{dominates, sameLabel}
 use Rattle.guard.specs.Tables.{sessionAt, entityAt, hasRight, execute, read, write, own, container, lists, isChild}
 use Rattle.guard.specs.Sound.{sound}
 use Rattle.guard.specs.Refusals.{_when_}
-use Rattle.guard.specs.Conditions.{labelAsked, seatLive, pastUser, seatDead, createBelow, grantBelow, userUnlisted, keeperNotHeld, cannotOpen, cannotChange, roleHeld, openForReading, openForWriting, notOpen, entityDead, roleDead, roleLive, nameTaken, hasChildren, recordedParent}
+use Rattle.guard.specs.Conditions.{labelAsked, seatLive, userTooLow, seatDead, createOutOfLevel, grantBelow, userUnlisted, keeperNotHeld, cannotOpen, cannotChangeIn, roleHeld, openForReading, openForWriting, notOpen, entityDead, roleDead, roleLive, nameTaken, hasChildren, recordedParent}
 use Rattle.guard.specs.Requests.{Rule, fieldInRange, login, logout, take, drop, openr, openw, close, create, delete, rename, grant, revoke, list, unlist, make, unmake, unknown, rules, ruleOf}
 use Rattle.guard.specs.Upper.{firstEntity, fieldUpper}
 use Rattle.guard.specs.declared.Label.{Label}
@@ -57,9 +57,9 @@ module _ (L : ℕ) (q : Request) (t u : Tables) (same : Same L t u) (st : sound 
   seatDead-same : Seat → seatDead t q ≡ seatDead u q
   seatDead-same s = ap not (seatLive-same s)
 
-  pastUser-same : pastUser t q ≡ pastUser u q
-  unfolding pastUser
-  pastUser-same = rw (same .users)
+  userTooLow-same : userTooLow t q ≡ userTooLow u q
+  unfolding userTooLow
+  userTooLow-same = rw (same .users)
 
   at-same : (e : ℕ) → Inside e → entityAt t e ≡ entityAt u e
   at-same e up = entity-same L t u same e (upper-entity L e up)
@@ -110,9 +110,9 @@ module _ (L : ℕ) (q : Request) (t u : Tables) (same : Same L t u) (st : sound 
       let up = upper-entity L (q .entity) e in
       rw (right-same right (q .entity) s up, reaches-same L t u same (q .seat) (q .entity) st (upper-seat L (q .seat) s) up (ltb-true (q .entity) entityCount l) (of-not-false _ live))
 
-  cannotChange-same : (p : ℕ) → Seat → firstEntity L ≤ p → cannotChange t q p ≡ cannotChange u q p
-  unfolding cannotChange
-  cannotChange-same p s up = rw (writing-same L t u same (q .seat) p (upper-seat L (q .seat) s) up, right-same execute p s up)
+  cannotChangeIn-same : (p : ℕ) → Seat → firstEntity L ≤ p → cannotChangeIn t q p ≡ cannotChangeIn u q p
+  unfolding cannotChangeIn
+  cannotChangeIn-same p s up = rw (writing-same L t u same (q .seat) p (upper-seat L (q .seat) s) up, right-same execute p s up)
 
   nameTaken-same : (p : ℕ) → firstEntity L ≤ p → nameTaken t q p ≡ nameTaken u q p
   unfolding nameTaken every
@@ -135,11 +135,11 @@ module _ (L : ℕ) (q : Request) (t u : Tables) (same : Same L t u) (st : sound 
   -- delete and rename, by their last condition: the parent in the record is one, and upper
   change-agrees : (n : ℕ) (a b : Bool) → Seat → Inside (q .entity) → ltb (q .entity) entityCount ≡ true
       → (recordedParent t q ≡ recordedParent u q → firstEntity L ≤ recordedParent t q → a ≡ b)
-      → Alike (5 when seatDead t q ∷ 6 when isRoot (q .entity) ∷ 7 when entityDead t q ∷ 13 when cannotChange t q (recordedParent t q) ∷ n when a ∷ [])
-      (5 when seatDead u q ∷ 6 when isRoot (q .entity) ∷ 7 when entityDead u q ∷ 13 when cannotChange u q (recordedParent u q) ∷ n when b ∷ [])
+      → Alike (5 when seatDead t q ∷ 6 when isRoot (q .entity) ∷ 7 when entityDead t q ∷ 13 when cannotChangeIn t q (recordedParent t q) ∷ n when a ∷ [])
+      (5 when seatDead u q ∷ 6 when isRoot (q .entity) ∷ 7 when entityDead u q ∷ 13 when cannotChangeIn u q (recordedParent u q) ∷ n when b ∷ [])
   change-agrees n a b s e l last =
       seatDead-same s also refl then (λ inner. entityDead-same e then (λ live.
-      cannotChange-same (recordedParent t q) s (up inner live) ∙ ap (cannotChange u q) parent also last parent (up inner live) also tt))
+      cannotChangeIn-same (recordedParent t q) s (up inner live) ∙ ap (cannotChangeIn u q) parent also last parent (up inner live) also tt))
     where
       parent : recordedParent t q ≡ recordedParent u q
       parent = ap (λ (r : Entity). r .parent) (at-same (q .entity) e)
@@ -160,7 +160,7 @@ module _ (L : ℕ) (q : Request) (t u : Tables) (same : Same L t u) (st : sound 
       seatDead-same s also entityDead-same e then (λ live. refl also labels-same f s e also cannotOpen-same right s e l live also already also tt)
 
   create-agrees : Agrees create
-  unfolding create fieldUpper createBelow
+  unfolding create fieldUpper createOutOfLevel
   create-agrees r n =
       let s = every-at _ n 0 in
       let here = at-same (q .entity) (every-at _ n 1) in
@@ -174,7 +174,7 @@ module _ (L : ℕ) (q : Request) (t u : Tables) (same : Same L t u) (st : sound 
       also refl
       also ap (λ (e : Entity). not (dominates (labelAsked q) (e .label))) parent
       also ap not (roleHeld-same s o)
-      also cannotChange-same (q .parent) s up
+      also cannotChangeIn-same (q .parent) s up
       also nameTaken-same (q .parent) up
       also tt
 
@@ -195,7 +195,7 @@ module _ (L : ℕ) (q : Request) (t u : Tables) (same : Same L t u) (st : sound 
   unfolding rules login logout take drop openr openw close delete rename revoke list unlist make unmake unknown fieldInRange fieldUpper
   agrees =
       each-rule Agrees
-      ((λ r n. seatLive-same (every-at _ n 0) also pastUser-same also tt)  -- login
+      ((λ r n. seatLive-same (every-at _ n 0) also userTooLow-same also tt)  -- login
       and (λ r n. seatDead-same (every-at _ n 0) also tt)  -- logout
       and (λ r n. let s = every-at _ n 0 in let o = every-at _ n 1 in seatDead-same s also roleDead-same o also userUnlisted-same s o also roleHeld-same s o also tt)  -- take
       and (λ r n. let s = every-at _ n 0 in let o = every-at _ n 1 in seatDead-same s also roleDead-same o also ap not (roleHeld-same s o) also tt)  -- drop

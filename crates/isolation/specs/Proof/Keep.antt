@@ -14,7 +14,7 @@ use Rattle.bitset.specs.Tests.Laws.{Each, every-i, every-at, either-no-l, eithe
 use Rattle.guard.specs.Level.{sessionCount, entityCount, sessionLevel, roleLevel, entityLevel, isRoot}
 use Rattle.guard.specs.Sound.{sound}
 use Rattle.guard.specs.Edits.{atSession, atRole, atEntity, eachSession, eachRole, dropRole, closeBoth, addRights, removeRights, clearRights, setRights}
-use Rattle.guard.specs.Conditions.{entityDead, createBelow, grantBelow, cannotChange, seatBelowRole, recordedParent}
+use Rattle.guard.specs.Conditions.{entityDead, createOutOfLevel, grantBelow, cannotChangeIn, seatBelowRole, recordedParent}
 use Rattle.guard.specs.Requests.{Rule, fieldInRange, login, logout, take, drop, openr, openw, close, create, delete, rename, grant, revoke, list, unlist, make, unmake, unknown, rules, ruleOf}
 use Rattle.guard.specs.Upper.{firstRole, firstEntity, upperSession, fieldUpper}
 use Rattle.guard.specs.declared.Session.{Session}
@@ -71,8 +71,8 @@ module _ (L : ℕ) (t : Tables) (q : Request) where
 
   -- ---- an entity, or rights on it: the entity is lower
   -- the parent is open for writing, so not above the seat
-  parent-not-above : (p : ℕ) → sound t ≡ true → ltb (q .seat) sessionCount ≡ true → p < entityCount → cannotChange t q p ≡ false → entityLevel p ≤ sessionLevel (q .seat)
-  unfolding cannotChange
+  parent-not-above : (p : ℕ) → sound t ≡ true → ltb (q .seat) sessionCount ≡ true → p < entityCount → cannotChangeIn t q p ≡ false → entityLevel p ≤ sessionLevel (q .seat)
+  unfolding cannotChangeIn
   parent-not-above p st hs hp h = writing-level t st (q .seat) p (ltb-true (q .seat) sessionCount hs) hp (of-not-false _ (either-no-l _ _ h))
 
   at-entity : (f : Entity → Entity) → q .entity < firstEntity L → Same L (atEntity (q .entity) f t) t
@@ -85,7 +85,7 @@ module _ (L : ℕ) (t : Tables) (q : Request) where
 
   -- create: the entity is of the parent's level, and not above the role
   create-lower : Done create t q → every (map (fieldUpper L q) (create .uses)) ≡ false → q .entity < firstEntity L
-  unfolding create fieldInRange fieldUpper createBelow
+  unfolding create fieldInRange fieldUpper createOutOfLevel
   create-lower d low =
       let met = unmet (create .refusals t q) refl (d .none) in
       let parent-in = ltb-true (q .parent) entityCount (every-at _ (d .ranges) 3) in
@@ -98,7 +98,7 @@ module _ (L : ℕ) (t : Tables) (q : Request) where
   -- delete and rename: the entity is of its parent's level
   change-lower : (rest : List Bool) → Each rest → every (leb L (sessionLevel (q .seat)) ∷ leb L (entityLevel (q .entity)) ∷ rest) ≡ false
       → sound t ≡ true → ltb (q .seat) sessionCount ≡ true → ltb (q .entity) entityCount ≡ true
-      → isRoot (q .entity) ≡ false → entityDead t q ≡ false → cannotChange t q (recordedParent t q) ≡ false → q .entity < firstEntity L
+      → isRoot (q .entity) ≡ false → entityDead t q ≡ false → cannotChangeIn t q (recordedParent t q) ≡ false → q .entity < firstEntity L
   change-lower rest others low st hs he inner live change =
       let entity-in = ltb-true (q .entity) entityCount he in
       let level = parent-level t st (q .entity) entity-in (of-not-false _ live) inner .0 in

@@ -14,10 +14,10 @@ use lib.ListN.{length}
 use lib.Seq.{take-nil}
 use native.Mathlib.Omega.{arith}
 use borrow.Author.Tests.{ne-eqb, eqb-true, eqb-false, leb-true, leb-false, ltb-true}
-use Rattle.script.specs.Text.{lines}
+use Rattle.script.specs.Text.{lines, after}
 use Rattle.script.specs.Report.{Bench, heading, answered, lastLine}
-use Rattle.script.specs.Slices.{after}
-use Rattle.script.specs.Run.{atHeading, atNames, atLines, atEnd, benchOf, Told, toldFirst, silent, finally, fromLine, fromNames, rest, isOver, Open, names-to-come, line-to-come}
+use Rattle.script.specs.Run.{atHeading, atNames, atLines, benchOf, Told, toldFirst, silent, finally, fromLine, fromNames, rest, isOver, Open, names-to-come, line-to-come}
+use Rattle.script.specs.Private.Steps.{atEnd}
 use Rattle.script.specs.declared.runner.Runner.{Runner}
 
 pub put-put : (w v : List ℕ) (p : Told) → toldFirst w (toldFirst v p) ≡ toldFirst (w ++ v) p

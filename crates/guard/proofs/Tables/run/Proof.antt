@@ -1,7 +1,7 @@
 -- `run` is the log of its rows: each turn of the loop looks up what a request concerns, decides it and stores what it does. Assumes nothing.
 use borrow.Author.Needs.{needs}
 use Prim.Native.Nat.{ℕ, _+_, _-_, _≤_, _<_}
-use mathlib.Core.Path.{_≡_, refl, sym, ap, _∙_}
+use mathlib.Core.Path.{_≡_, refl, sym, _∙_}
 use mathlib.Core.Bool.{true}
 use mathlib.Core.List.{List}
 use native.Mathlib.Omega.{arith}
@@ -11,8 +11,8 @@ use Rattle.guard.specs.Sound.{sound}
 use Rattle.guard.specs.Requests.{ruleOf}
 use Rattle.guard.specs.Step.{inRanges}
 use Rattle.guard.specs.Batch.{batchLength}
-use Rattle.guard.specs.Inside.{number, Placed}
-use Rattle.guard.specs.Scan.{Keys, Grants}
+use Rattle.guard.specs.Private.Inside.{number, Placed}
+use Rattle.guard.specs.Private.Scan.{Keys, Grants}
 use Rattle.guard.specs.declared.Tables.{Tables}
 use Rattle.guard.specs.declared.Request.{Request}
 use Rattle.guard.specs.declared.change.Change.the-variants.{Session as OfSession, Entity as OfEntity, Role as OfRole}

@@ -1,7 +1,7 @@
 -- `change_of` is the record that a kind changes. Assumes nothing.
 use native.Mathlib.Omega.{arith}
 use borrow.Author.Tests.{le-leb, lt-leb}
-use Rattle.guard.specs.Inside.{changeOf}
+use Rattle.guard.specs.Private.Inside.{changeOf}
 use Rattle.guard.proofs.change.change_of.Statement.{statement}
 use Rattle.guard.proofs.change.change_of.Tie as tie
 

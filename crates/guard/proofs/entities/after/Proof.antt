@@ -1,13 +1,13 @@
 -- `after` is the entity that a create makes, a delete leaves or a rename names. Assumes nothing.
 use borrow.Author.Needs.{needs}
 use borrow.Author.Tests.{eq-eqb, ne-eqb}
-use Rattle.guard.specs.Inside.{entityAfter}
+use Rattle.guard.specs.Private.Inside.{entityAfter}
 use Rattle.guard.proofs.Ranges.{is-nine, in-create, in-rename}
 use Rattle.guard.proofs.entities.after.Statement.{statement}
 use Rattle.guard.proofs.entities.after.Tie as tie
 
 made-requires : tie.Need-made-requires
-made-requires c κs = let r = in-create _ (c .before .before .pre .2) (c .if1 .taken) in (r .kind, r .parent, r .name, r .level, r .cats)
+made-requires c κs = let r = in-create _ (c .before .before .pre .2) (c .if1 .taken) in (r .kind, r .parent, r .name, r .grade, r .cats)
 
 returns : tie.Need-returns
 unfolding entityAfter

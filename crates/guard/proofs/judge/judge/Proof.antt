@@ -5,10 +5,10 @@ use mathlib.Core.Path.{_≡_, refl, sym, ap, _∙_}
 use mathlib.Core.Bool.{true}
 use borrow.Author.Tests.{not-true, not-false}
 use Rattle.bitset.specs.Tests.{either}
-use Rattle.guard.specs.Conditions.{pastUser, createBelow, grantBelow, cannotOpen, cannotChange, notOpen}
+use Rattle.guard.specs.Conditions.{userTooLow, createOutOfLevel, grantBelow, cannotOpen, cannotChangeIn, notOpen}
 use Rattle.guard.specs.Requests.{rules, login, logout, take, drop, openr, openw, close, create, delete, rename, grant, revoke, list, unlist, make, unmake}
 use Rattle.guard.specs.Step.{inRanges}
-use Rattle.guard.specs.Inside.{asksWay, asksName, asksRights}
+use Rattle.guard.specs.Private.Inside.{asksWay, asksName, asksRights}
 use Rattle.guard.proofs.Laws.Refusals.{alike-first}
 use Rattle.guard.proofs.Ranges.{in-login, in-logout, in-take, in-drop, in-openr, in-openw, in-close, in-create, in-delete, in-rename, in-grant, in-revoke, in-list, in-unlist, in-make, in-unmake}
 use Rattle.guard.proofs.Answers.{out-of-range, by-rule, none-of-sixteen}
@@ -44,7 +44,7 @@ close-refusal-requires : tie.Need-close-refusal-requires
 close-refusal-requires c κs = search needs
 
 create-refusal-requires : tie.Need-create-refusal-requires
-create-refusal-requires c κs = let r = in-create _ (fits (c .before)) (c .match .keys8) in (r .level, r .cats)
+create-refusal-requires c κs = let r = in-create _ (fits (c .before)) (c .match .keys8) in (r .grade, r .cats)
 
 change-refusal-requires : tie.Need-change-refusal-requires
 change-refusal-requires c κs = search needs
@@ -77,7 +77,7 @@ unmake-refusal-requires : tie.Need-unmake-refusal-requires
 unmake-refusal-requires c κs = search needs
 
 returns-2 : tie.Need-returns-2
-unfolding rules login pastUser
+unfolding rules login userTooLow
 returns-2 c = λ t seen.
     let r = in-login _ (fits (c .before .before)) (c .before .match .keys1) in
     by-rule t _ _ 0 (c .before .match .keys1) (fits (c .before .before)) (c .login-refusal .ensures ∙ rw (seen .session (r .0), seen .user (r .1)))
@@ -119,20 +119,20 @@ returns-8 c = λ t seen.
     by-rule t _ _ 6 (c .before .match .keys7) (fits (c .before .before)) (c .close-refusal .ensures ∙ rw (seen .session (r .0), seen .entity (r .1)))
 
 returns-9 : tie.Need-returns-9
-unfolding rules create createBelow cannotChange asksRights asksWay asksName either
+unfolding rules create createOutOfLevel cannotChangeIn asksRights asksWay asksName either
 returns-9 c = λ t seen.
     let r = in-create _ (fits (c .before .before)) (c .before .match .keys8) in
     by-rule t _ _ 7 (c .before .match .keys8) (fits (c .before .before)) (c .create-refusal .ensures ∙ rw (seen .session (r .seat), seen .entity (r .entity), seen .live (r .role), seen .parent (c .before .match .keys8) (r .parent), seen .rights (ap asksRights (c .before .match .keys8)) (r .seat) .executes _ (r .parent), seen .created (c .before .match .keys8) (r .parent) (r .named) (r .name)))
 
 returns-10 : tie.Need-returns-10
-unfolding rules delete cannotChange asksRights asksWay asksName either
+unfolding rules delete cannotChangeIn asksRights asksWay asksName either
 returns-10 c = λ t seen.
     let r = in-delete _ (fits (c .before .before)) (c .before .match .keys9) in
     by-rule t _ _ 8 (c .before .match .keys9) (fits (c .before .before)) (c .change-refusal .ensures ∙ rw (seen .session (r .0), seen .entity (r .1), seen .rights (ap asksRights (c .before .match .keys9)) (r .0) .executes _ (seen .inside (r .1)))
     (alike-first _ _ (refl, refl, λ _ _. (refl, refl, λ other _. (refl, refl, λ _ _. (refl, refl, λ _ _. (refl, seen .deleted (c .before .match .keys9) (r .1) other, λ _ _. tt)))))))
 
 returns-11 : tie.Need-returns-11
-unfolding rules rename cannotChange asksRights asksWay asksName either
+unfolding rules rename cannotChangeIn asksRights asksWay asksName either
 returns-11 c = λ t seen.
     let r = in-rename _ (fits (c .before .before)) (c .before .match .keys10) in
     by-rule t _ _ 9 (c .before .match .keys10) (fits (c .before .before)) (c .change-refusal2 .ensures ∙ rw (seen .session (r .0), seen .entity (r .1), seen .rights (ap asksRights (c .before .match .keys10)) (r .0) .executes _ (seen .inside (r .1)), seen .renamed (c .before .match .keys10) (r .1) (r .2) (r .3)))

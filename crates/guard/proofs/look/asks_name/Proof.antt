@@ -1,7 +1,7 @@
 -- `asks_name`: create and rename. Assumes nothing.
 use borrow.Author.Needs.{needs}
 use Rattle.bitset.specs.Tests.{either}
-use Rattle.guard.specs.Inside.{asksName}
+use Rattle.guard.specs.Private.Inside.{asksName}
 use Rattle.guard.proofs.look.asks_name.Statement.{statement}
 use Rattle.guard.proofs.look.asks_name.Tie as tie
 

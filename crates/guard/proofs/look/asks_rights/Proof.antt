@@ -4,7 +4,7 @@ use mathlib.Core.Path.{_≡_, refl}
 use mathlib.Core.Bool.{true, false}
 use native.Mathlib.Omega.{arith}
 use Rattle.bitset.specs.Tests.{either}
-use Rattle.guard.specs.Inside.{asksWay, asksName, asksRights}
+use Rattle.guard.specs.Private.Inside.{asksWay, asksName, asksRights}
 use Rattle.guard.proofs.Ranges.{span, asks-past}
 use Rattle.guard.proofs.look.asks_rights.Statement.{statement}
 use Rattle.guard.proofs.look.asks_rights.Tie as tie

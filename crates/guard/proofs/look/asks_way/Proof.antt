@@ -1,7 +1,7 @@
 -- `asks_way`: openr and openw. Assumes nothing.
 use borrow.Author.Needs.{needs}
 use Rattle.bitset.specs.Tests.{either}
-use Rattle.guard.specs.Inside.{asksWay}
+use Rattle.guard.specs.Private.Inside.{asksWay}
 use Rattle.guard.proofs.look.asks_way.Statement.{statement}
 use Rattle.guard.proofs.look.asks_way.Tie as tie
 

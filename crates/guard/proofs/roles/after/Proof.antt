@@ -1,7 +1,7 @@
 -- `after` is the role after a grant, a revoke, or an edit of its list or its life. Assumes nothing.
 use borrow.Author.Needs.{needs}
 use borrow.Author.Tests.{eq-eqb, ne-eqb}
-use Rattle.guard.specs.Inside.{roleAfter}
+use Rattle.guard.specs.Private.Inside.{roleAfter}
 use Rattle.guard.proofs.Ranges.{in-grant, in-revoke}
 use Rattle.guard.proofs.roles.after.Statement.{statement}
 use Rattle.guard.proofs.roles.after.Tie as tie

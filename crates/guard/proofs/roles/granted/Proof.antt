@@ -1,6 +1,6 @@
 -- `granted` is the role after a grant or a revoke, set by set. Assumes nothing.
 use borrow.Author.Needs.{needs}
-use Rattle.guard.specs.Inside.{grantedAfter}
+use Rattle.guard.specs.Private.Inside.{grantedAfter}
 use Rattle.guard.proofs.roles.granted.Statement.{statement}
 use Rattle.guard.proofs.roles.granted.Tie as tie
 

@@ -2,7 +2,7 @@
 use borrow.Author.Needs.{needs}
 use borrow.Author.Tests.{not-true, not-false}
 use Rattle.guard.specs.Edits.{putIn}
-use Rattle.guard.specs.Inside.{setAfter}
+use Rattle.guard.specs.Private.Inside.{setAfter}
 use Rattle.guard.proofs.roles.set_after.Statement.{statement}
 use Rattle.guard.proofs.roles.set_after.Tie as tie
 

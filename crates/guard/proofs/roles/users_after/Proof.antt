@@ -1,7 +1,7 @@
 -- `users_after`: list adds the user, unlist takes it away, and make leaves the list. Assumes nothing.
 use borrow.Author.Needs.{needs}
 use borrow.Author.Tests.{eq-eqb, ne-eqb}
-use Rattle.guard.specs.Inside.{usersAfter}
+use Rattle.guard.specs.Private.Inside.{usersAfter}
 use Rattle.guard.proofs.Ranges.{in-list}
 use Rattle.guard.proofs.roles.users_after.Statement.{statement}
 use Rattle.guard.proofs.roles.users_after.Tie as tie

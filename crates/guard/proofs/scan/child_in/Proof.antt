@@ -1,14 +1,13 @@
 -- `child_in` looks at each entity of the level for the parent. Assumes nothing.
 use borrow.Author.Needs.{needs}
-use Prim.Native.Nat.{_+_, _*_, _/_, _%_, _-_, _≤_}
-use mathlib.Core.Path.{_≡_, sym, ap, _∙_}
-use mathlib.Core.Bool.{Bool, _||_}
+use Prim.Native.Nat.{_+_, _*_, _/_, _-_, _≤_}
+use mathlib.Core.Path.{_≡_, sym}
 use native.Mathlib.Omega.{arith}
 use lib.Dec.{eqb}
 use lib.ListN.{getD}
 use Rattle.bitset.specs.Tests.{some}
 use Rattle.bitset.specs.Tests.Laws.{some-none, some-more}
-use Rattle.guard.specs.Scan.{childBy}
+use Rattle.guard.specs.Private.Scan.{childBy}
 use Rattle.guard.proofs.scan.child_in.Statement.{statement}
 use Rattle.guard.proofs.scan.child_in.Tie as tie
 

@@ -1,13 +1,12 @@
 -- `climbs` walks the chain that `climbsBy` says. Assumes nothing.
 use Prim.Native.Nat.{_≤_, _<_}
-use mathlib.Core.Path.{_≡_, refl, sym, ap, _∙_}
-use mathlib.Core.Bool.{Bool, _&&_}
+use mathlib.Core.Path.{_≡_, refl, sym, _∙_}
 use native.Mathlib.Omega.{arith}
 use borrow.Author.Tests.{eq-eqb, ne-eqb, not-true, not-false}
 use Rattle.bitset.specs.Sets.{has}
 use Rattle.guard.specs.Chain.{climbs}
-use Rattle.guard.specs.Tested.{parentByKey}
-use Rattle.guard.specs.Scan.{climbsBy}
+use Rattle.guard.specs.Private.Tested.{parentByKey}
+use Rattle.guard.specs.Private.Scan.{climbsBy}
 use Rattle.guard.proofs.Soundness.Climb.{climbs-root, climbs-on, climbs-end}
 use Rattle.guard.proofs.scan.climbs.Statement.{statement}
 use Rattle.guard.proofs.scan.climbs.Tie as tie

@@ -1,11 +1,7 @@
 -- `column` has the four sets of each role. Assumes nothing.
 use borrow.Author.Needs.{needs}
-use Prim.Native.Nat.{ℕ, _+_, _*_, _-_, _≤_, _<_}
-use mathlib.Core.Path.{_≡_}
+use Prim.Native.Nat.{_-_, _≤_}
 use native.Mathlib.Omega.{arith}
-use lib.ListN.{length, getD}
-use Rattle.guard.specs.Tables.{roleAt}
-use Rattle.guard.specs.Scan.{side}
 use Rattle.guard.proofs.Columns.{Sides, sides-none, sides-more, sides-all}
 use Rattle.guard.proofs.scan.column.Statement.{statement}
 use Rattle.guard.proofs.scan.column.Tie as tie

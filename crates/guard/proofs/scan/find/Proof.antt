@@ -2,15 +2,14 @@
 use borrow.Author.Needs.{needs}
 use Prim.Native.Nat.{ℕ}
 use mathlib.Core.Path.{_≡_, sym, _∙_}
-use mathlib.Core.Bool.{Bool, true, false}
+use mathlib.Core.Bool.{false}
 use mathlib.Core.List.{List}
 use lib.Dec.{eqb}
-use borrow.Author.Tests.{not-true, not-false}
+use borrow.Author.Tests.{not-true}
 use Rattle.bitset.specs.Tests.Laws.{clash, either-no-l, either-no-r}
-use Rattle.guard.specs.Inside.{asksWay, asksName, asksRights}
-use Rattle.guard.specs.Scan.{reachedBy, kinBy, foundNothing, FoundBy}
+use Rattle.guard.specs.Private.Inside.{asksWay, asksName, asksRights}
+use Rattle.guard.specs.Private.Scan.{reachedBy, kinBy, foundNothing, FoundBy}
 use Rattle.guard.specs.declared.Request.{Request}
-use Rattle.guard.specs.declared.scan.Found.{Found}
 use Rattle.guard.proofs.scan.find.Statement.{statement}
 use Rattle.guard.proofs.scan.find.Tie as tie
 

@@ -2,7 +2,7 @@
 use borrow.Author.Needs.{needs}
 use mathlib.Core.Path.{sym, _∙_}
 use borrow.Author.Tests.{eq-eqb, ne-eqb}
-use Rattle.guard.specs.Scan.{kinBy}
+use Rattle.guard.specs.Private.Scan.{kinBy}
 use Rattle.guard.proofs.scan.kin.Statement.{statement}
 use Rattle.guard.proofs.scan.kin.Tie as tie
 

@@ -1,14 +1,13 @@
 -- `name_in` looks at each entity of the level for the key. Assumes nothing.
 use borrow.Author.Needs.{needs}
 use Prim.Native.Nat.{_+_, _*_, _/_, _%_, _-_, _≤_}
-use mathlib.Core.Path.{_≡_, sym, ap, _∙_}
-use mathlib.Core.Bool.{Bool, _||_}
+use mathlib.Core.Path.{_≡_, sym}
 use native.Mathlib.Omega.{arith}
 use lib.Dec.{eqb}
 use lib.ListN.{getD}
 use Rattle.bitset.specs.Tests.{some}
 use Rattle.bitset.specs.Tests.Laws.{some-none, some-more}
-use Rattle.guard.specs.Scan.{nameBy}
+use Rattle.guard.specs.Private.Scan.{nameBy}
 use Rattle.guard.proofs.scan.name_in.Statement.{statement}
 use Rattle.guard.proofs.scan.name_in.Tie as tie
 

@@ -1,7 +1,7 @@
 -- `reached`: the climb, for a kind that asks for the way up. Assumes nothing.
 use borrow.Author.Needs.{needs}
 use mathlib.Core.Path.{sym, _∙_}
-use Rattle.guard.specs.Scan.{reachedBy}
+use Rattle.guard.specs.Private.Scan.{reachedBy}
 use Rattle.guard.proofs.scan.reached.Statement.{statement}
 use Rattle.guard.proofs.scan.reached.Tie as tie
 

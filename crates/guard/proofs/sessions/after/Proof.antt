@@ -1,9 +1,8 @@
 -- `after` is the acting session after a request on it, by the request's number. Assumes nothing.
 use borrow.Author.Needs.{needs}
-use mathlib.Core.Path.{_≡_}
 use lib.ListN.{List·getD-eq-default}
 use Rattle.guard.specs.Edits.{takeRole, openReading, openWriting, closeBoth}
-use Rattle.guard.specs.Inside.{sessionAfter}
+use Rattle.guard.specs.Private.Inside.{sessionAfter}
 use Rattle.guard.proofs.Ranges.{past-five, in-login, in-take, in-openr, in-openw}
 use Rattle.guard.proofs.sessions.after.Statement.{statement}
 use Rattle.guard.proofs.sessions.after.Tie as tie

@@ -1,5 +1,5 @@
 -- `answer_of`. Assumes nothing.
-use Rattle.script.specs.LineBatch.{said}
+use Rattle.script.specs.Private.LineBatch.{said}
 use Rattle.script.proofs.batch.answer_of.Statement.{statement}
 use Rattle.script.proofs.batch.answer_of.Tie as tie
 

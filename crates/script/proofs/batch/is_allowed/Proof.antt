@@ -1,5 +1,5 @@
 -- `is_allowed`. Assumes nothing.
-use Rattle.script.specs.LineBatch.{isAllowed}
+use Rattle.script.specs.Private.LineBatch.{isAllowed}
 use borrow.Author.Needs.{needs}
 use Rattle.script.proofs.batch.is_allowed.Statement.{statement}
 use Rattle.script.proofs.batch.is_allowed.Tie as tie

@@ -1,7 +1,7 @@
 -- `load` stores the request of a line, if it asks one. Assumes nothing.
-use Rattle.script.specs.Slices.{written}
+use Rattle.script.specs.Private.Slices.{written}
 use mathlib.Core.Path.{refl}
-use Rattle.script.specs.LineBatch.{isRequest, numbersOf}
+use Rattle.script.specs.Private.LineBatch.{isRequest, numbersOf}
 use borrow.Author.Needs.{needs}
 use Rattle.script.proofs.batch.load.Statement.{statement}
 use Rattle.script.proofs.batch.load.Tie as tie

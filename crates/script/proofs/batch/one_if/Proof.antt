@@ -1,5 +1,5 @@
 -- `one_if`. Assumes nothing.
-use Rattle.script.specs.LineBatch.{one}
+use Rattle.script.specs.Private.LineBatch.{one}
 use Rattle.script.proofs.batch.one_if.Statement.{statement}
 use Rattle.script.proofs.batch.one_if.Tie as tie
 

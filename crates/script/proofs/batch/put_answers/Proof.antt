@@ -4,8 +4,8 @@ use mathlib.Core.Path.{_≡_}
 use lib.ListN.{length, take}
 use native.Mathlib.Nat.{add-zero}
 use native.Mathlib.Omega.{arith}
-use Rattle.script.specs.Slices.{Numbered, Put}
-use Rattle.script.specs.LineBatch.{asked, texts}
+use Rattle.script.specs.Private.Slices.{Numbered, Put}
+use Rattle.script.specs.Private.LineBatch.{asked, texts}
 use Rattle.script.proofs.Texts.{numbered}
 use Rattle.script.proofs.LinesInBatch.{one-least}
 use Rattle.script.proofs.BatchStep.{room-left, line-few, along, asked-none, asked-on, asked-below, texts-none, texts-more, texts-all}

@@ -4,7 +4,7 @@ use Prim.Native.Nat.{ℕ}
 use mathlib.Core.List.{List, [], _∷_, _++_}
 use denote.Ref.{now}
 use borrow.Author.Needs.{needs}
-use Rattle.script.specs.Rows.{ahead}
+use Rattle.script.specs.Private.Rows.{ahead}
 use Rattle.script.proofs.FieldsTaken.{Took, took-none, took, faulty}
 use Rattle.script.proofs.fields.first.Statement.{statement}
 use Rattle.script.proofs.fields.first.Tie as tie

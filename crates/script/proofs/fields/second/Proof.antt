@@ -5,7 +5,7 @@ use mathlib.Core.List.{List, [], _∷_, _++_}
 use denote.Ref.{now}
 use borrow.Author.Needs.{needs}
 use Rattle.script.specs.Line.{these, joined}
-use Rattle.script.specs.Rows.{front}
+use Rattle.script.specs.Private.Rows.{front}
 use Rattle.script.proofs.FieldsTaken.{Took, took-none, took, faulty, asks-bad, asks-user, asks-request}
 use Rattle.script.proofs.fields.second.Statement.{statement}
 use Rattle.script.proofs.fields.second.Tie as tie

@@ -1,7 +1,7 @@
 -- `script::line::empty` meets its contract. Assumes nothing.
 use borrow.Author.Needs.{needs}
 use mathlib.Core.Path.{refl}
-use Rattle.script.specs.Rows.{blank}
+use Rattle.script.specs.Private.Rows.{blank}
 use Rattle.script.proofs.line.empty.Statement.{statement}
 use Rattle.script.proofs.line.empty.Tie as tie
 

@@ -1,9 +1,6 @@
 -- `script::print::put_place` stores one digit, or nothing for a leading zero. Assumes nothing.
 use native.Mathlib.Omega.{arith}
-use mathlib.Core.Path.{refl, ap}
-use mathlib.Core.List.{[], _∷_}
-use Prim.Native.Nat.{ℕ, _+_}
-use Rattle.script.specs.Slices.{Put}
+use mathlib.Core.Path.{refl}
 use Rattle.script.proofs.Texts.{put-nil, put-cons, place-hit, place-miss}
 use borrow.Author.Needs.{needs}
 use Rattle.script.proofs.print.put_place.Statement.{statement}

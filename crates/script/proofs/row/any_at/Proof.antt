@@ -3,7 +3,7 @@ use denote.Ref.{now}
 use borrow.Author.Needs.{needs}
 use mathlib.Core.Path.{sym, _∙_}
 use native.Mathlib.Omega.{arith}
-use Rattle.script.specs.Rows.{coded}
+use Rattle.script.specs.Private.Rows.{coded}
 use Rattle.script.specs.declared.line.Value.the-variants.{Digits, Dash, Other}
 use Rattle.script.proofs.FirstValue.{lead-within, lead-part}
 use Rattle.script.proofs.FoundValue.{code-dash, code-word, code-value, word-small, found-any}

@@ -1,6 +1,6 @@
 -- `take_names` takes the order of a good names line, and answers a bad one by `1 17`. Assumes nothing.
 use mathlib.Core.Path.{sym, _∙_}
-use Rattle.script.specs.Run.{good, bad}
+use Rattle.script.specs.Private.Steps.{good, bad}
 use Rattle.script.proofs.Texts.{numbered, line-of}
 use borrow.Author.Needs.{needs}
 use Rattle.script.proofs.runner.take_names.Statement.{statement}

@@ -6,7 +6,7 @@ use native.Mathlib.Omega.{arith}
 use mathlib.Core.Path.{refl, sym, _∙_}
 use lib.ListN.{length}
 use Rattle.script.specs.Run.{atNames}
-use Rattle.script.specs.LineBatch.{Lent}
+use Rattle.script.specs.Private.LineBatch.{Lent}
 use Rattle.script.proofs.PieceLoop.{Held, held-none, loop-more, loop-done}
 use Rattle.script.proofs.runner.work.Statement.{statement}
 use Rattle.script.proofs.runner.work.Tie as tie

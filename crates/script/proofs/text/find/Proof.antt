@@ -4,7 +4,7 @@ use native.Mathlib.Nat.{zero-add}
 use native.Mathlib.Omega.{arith}
 use mathlib.Core.Path.{_≡_, sym}
 use lib.ListN.{length, drop}
-use Rattle.script.specs.Slices.{before}
+use Rattle.script.specs.Private.Slices.{before}
 use Rattle.script.proofs.Texts.{find-stop, find-more, find-end}
 use Rattle.script.proofs.text.find.Statement.{statement}
 use Rattle.script.proofs.text.find.Tie as tie

@@ -4,7 +4,7 @@ use mathlib.Core.Path.{_≡_, sym}
 use native.Mathlib.Nat.{zero-add}
 use native.Mathlib.Omega.{arith}
 use lib.ListN.{length, drop}
-use Rattle.script.specs.Slices.{leading}
+use Rattle.script.specs.Private.Slices.{leading}
 use Rattle.script.proofs.FirstValue.{span-space, span-line, span-more, span-end}
 use Rattle.script.proofs.text.span.Statement.{statement}
 use Rattle.script.proofs.text.span.Tie as tie

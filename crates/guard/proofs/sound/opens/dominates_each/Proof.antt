@@ -9,7 +9,7 @@ use borrow.Author.Tests.{le-leb, lt-leb}
 use Rattle.bitset.specs.Tests.Laws.{is-false, clash, every-i, every-at}
 use Rattle.bitset.specs.Sets.{has}
 use Rattle.bitset.specs.Sets.Laws.{without-le}
-use Rattle.guard.specs.Tested.{dominated, members}
+use Rattle.guard.specs.Private.Tested.{dominated, members}
 use Rattle.guard.proofs.Soundness.Members.{lowest, without-less, members-next, members-miss, members-none, left-none, left-some}
 use Rattle.guard.proofs.sound.opens.dominates_each.Statement.{statement}
 use Rattle.guard.proofs.sound.opens.dominates_each.Tie as tie

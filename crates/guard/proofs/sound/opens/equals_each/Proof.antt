@@ -9,7 +9,7 @@ use lib.ListN.{getD}
 use borrow.Author.Tests.{eq-eqb, ne-eqb}
 use Rattle.bitset.specs.Sets.{has}
 use Rattle.bitset.specs.Sets.Laws.{without-le}
-use Rattle.guard.specs.Tested.{members}
+use Rattle.guard.specs.Private.Tested.{members}
 use Rattle.guard.proofs.Soundness.Members.{lowest, without-less, members-next, members-miss, members-none}
 use Rattle.guard.proofs.sound.opens.equals_each.Statement.{statement}
 use Rattle.guard.proofs.sound.opens.equals_each.Tie as tie

@@ -5,7 +5,7 @@ use native.Mathlib.Omega.{arith}
 use mathlib.Core.Path.{refl}
 use lib.ListN.{getD}
 use Rattle.guard.specs.Tables.{noEntity}
-use Rattle.guard.specs.Tested.{labelNumber}
+use Rattle.guard.specs.Private.Tested.{labelNumber}
 use Rattle.guard.proofs.Soundness.Loops.{Filled, filled-none, filled-more, filled-all}
 use Rattle.guard.proofs.sound.opens.labels.Statement.{statement}
 use Rattle.guard.proofs.sound.opens.labels.Tie as tie

@@ -8,7 +8,7 @@ use Rattle.bitset.specs.Tests.{all}
 use Rattle.bitset.specs.Tests.Laws.{all-none}
 use Rattle.guard.specs.Level.{sessionLevel}
 use Rattle.guard.specs.Tables.{noSession}
-use Rattle.guard.specs.Tested.{sessionTest}
+use Rattle.guard.specs.Private.Tested.{sessionTest}
 use Rattle.guard.proofs.Soundness.Loops.{all-miss, all-next, all-done}
 use Rattle.guard.proofs.sound.opens.sessions_ok.Statement.{statement}
 use Rattle.guard.proofs.sound.opens.sessions_ok.Tie as tie

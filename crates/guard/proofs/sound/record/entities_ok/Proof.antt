@@ -7,7 +7,7 @@ use lib.ListN.{getD}
 use Rattle.bitset.specs.Tests.{all}
 use Rattle.bitset.specs.Tests.Laws.{all-none}
 use Rattle.guard.specs.Tables.{noEntity}
-use Rattle.guard.specs.Tested.{entityTest}
+use Rattle.guard.specs.Private.Tested.{entityTest}
 use Rattle.guard.proofs.Soundness.Loops.{all-miss, all-next, all-done}
 use Rattle.guard.proofs.sound.record.entities_ok.Statement.{statement}
 use Rattle.guard.proofs.sound.record.entities_ok.Tie as tie

@@ -7,7 +7,7 @@ use lib.ListN.{getD}
 use Rattle.bitset.specs.Tests.{all}
 use Rattle.bitset.specs.Tests.Laws.{clash, all-none}
 use Rattle.guard.specs.Tables.{noRole}
-use Rattle.guard.specs.Tested.{grantableIn, roleTest}
+use Rattle.guard.specs.Private.Tested.{grantableIn, roleTest}
 use Rattle.guard.proofs.Soundness.Loops.{all-miss, all-next, all-done, Listed, listed-none, listed-more}
 use Rattle.guard.proofs.Soundness.Grants.{role-masked}
 use Rattle.guard.proofs.sound.rights.roles_ok.Statement.{statement}

@@ -5,7 +5,7 @@ use mathlib.Core.Bool.{true}
 use mathlib.Core.Path.{_≡_}
 use Rattle.bitset.specs.Tests.{all}
 use Rattle.bitset.specs.Tests.Laws.{all-none}
-use Rattle.guard.specs.Tested.{ends, parentByKey}
+use Rattle.guard.specs.Private.Tested.{ends, parentByKey}
 use Rattle.guard.proofs.Soundness.Loops.{all-miss, all-next, all-done}
 use Rattle.guard.proofs.sound.tree.end_at_root.Statement.{statement}
 use Rattle.guard.proofs.sound.tree.end_at_root.Tie as tie

@@ -3,7 +3,7 @@ use Prim.Native.Nat.{_≤_, _<_}
 use native.Mathlib.Omega.{arith}
 use mathlib.Core.Path.{_≡_, refl, sym, _∙_}
 use borrow.Author.Tests.{eq-eqb, ne-eqb}
-use Rattle.guard.specs.Tested.{ends, parentByKey}
+use Rattle.guard.specs.Private.Tested.{ends, parentByKey}
 use Rattle.guard.proofs.Soundness.Climb.{climbs-root, climbs-on, climbs-end}
 use Rattle.guard.proofs.sound.tree.ends_at_root.Statement.{statement}
 use Rattle.guard.proofs.sound.tree.ends_at_root.Tie as tie

@@ -5,7 +5,7 @@ use mathlib.Core.Bool.{true}
 use mathlib.Core.Path.{_≡_}
 use Rattle.bitset.specs.Tests.{all}
 use Rattle.bitset.specs.Tests.Laws.{all-none}
-use Rattle.guard.specs.Tested.{ownKey}
+use Rattle.guard.specs.Private.Tested.{ownKey}
 use Rattle.guard.proofs.Soundness.Loops.{all-miss, all-next, all-done}
 use Rattle.guard.proofs.sound.tree.have_own_keys.Statement.{statement}
 use Rattle.guard.proofs.sound.tree.have_own_keys.Tie as tie

@@ -13,8 +13,8 @@ use Rattle.bitset.specs.Sets.{has, without}
 use Rattle.guard.specs.Level.{roleCount, entityCount, entitiesPerLevel}
 use Rattle.guard.specs.Tables.{noRole, noEntity}
 use Rattle.guard.specs.Chain.{climbs}
-use Rattle.guard.specs.Tested.{keyOf, parentByKey}
-use Rattle.guard.specs.Inside.{asksWay, asksName, asksRights}
+use Rattle.guard.specs.Private.Tested.{keyOf, parentByKey}
+use Rattle.guard.specs.Private.Inside.{asksWay, asksName, asksRights}
 use Rattle.guard.specs.Kind as kind
 use Rattle.guard.specs.declared.Role.{Role}
 use Rattle.guard.specs.declared.Entity.{Entity}

@@ -10,7 +10,7 @@ use Rattle.bitset.specs.Sets.{has, with}
 use Rattle.script.specs.Text.{bytes, same, values}
 use Rattle.script.specs.Names.{nameCount, column}
 use Rattle.script.specs.Line.{valueOf, words, Numbers, unreadable, joined}
-use Rattle.script.specs.Slices.{leading}
+use Rattle.script.specs.Private.Slices.{leading}
 use Rattle.script.specs.declared.line.Value.{Value}
 use Rattle.script.specs.declared.line.Value.the-variants.{Digits, Dash, Other}
 use Rattle.script.specs.declared.fields.Taken.{Taken}

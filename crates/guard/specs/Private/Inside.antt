@@ -165,3 +165,8 @@ roleAfter q p =
 abbrev pub owning : ℕ → Role → Role
 owning e p =
     record { live = p .live; users = p .users; reads = p .reads; writes = p .writes; executes = p .executes; owns = with (p .owns) e }
+
+-- ---- a request as a row
+abbrev pub rowOf : Request → List ℕ
+rowOf q =
+    q .call ∷ q .seat ∷ q .user ∷ q .role ∷ q .entity ∷ q .parent ∷ q .kind ∷ q .name ∷ q .grade ∷ q .cats ∷ q .rights ∷ []

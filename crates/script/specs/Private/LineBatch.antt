@@ -6,10 +6,11 @@ use mathlib.Core.Bool.{Bool, true, false, not}
 use mathlib.Core.List.{List, [], _∷_, _++_}
 use lib.ListN.{length, take, drop, getD}
 use Rattle.guard.specs.Step.{run, answers}
-use Rattle.guard.specs.Batch.{rowLength, rowOf, requests}
+use Rattle.guard.specs.Batch.{rowLength, requests}
+use Rattle.guard.specs.Private.Inside.{rowOf}
 use Rattle.guard.specs.declared.Tables.{Tables}
 use Rattle.script.specs.Report.{unreadAnswer, lineText, lineRoom, lastLine}
-use Rattle.script.specs.Slices.{Ordered}
+use Rattle.script.specs.Names.{Ordered}
 use Rattle.script.specs.Run.{bench, toldFirst, fromLine}
 use Rattle.script.specs.declared.line.Line.{Line}
 use Rattle.script.specs.declared.line.Line.the-variants.{Ask, SetUser, Bad}
