@@ -1,6 +1,7 @@
 -- The isolation rule of one request, in the parts of which Theorem is made.
 pub mod Lists
 pub mod Views
+pub mod UpperInWords
 pub mod Edits
 pub mod Keep
 pub mod Respect
