@@ -7,6 +7,7 @@ pub mod Keep
 pub mod Respect
 pub mod Agree
 pub mod Rule
+pub mod SameRequests
 
 -- one proof for each rule: `of-login and of-logout and .. and tt`
 infixr 5 _and_
