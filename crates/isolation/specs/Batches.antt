@@ -3,17 +3,17 @@
 -- `Tables::run` (guard/src/run.rt). Each of the sixteen methods is a `step` (guard/src/methods.rt).
 --     Call, Calls         one call, and calls one after the other: from which tables, the requests made, their answers, to which tables
 --     compared            of the answers beside a log, those that the rule compares
---     calls-isolate       the isolation rule, for any two such rows of calls
+--     calls-isolate       the isolation rule, for any two such sequences of calls
 -- Assumes nothing.
 use Prim.Native.Nat.{ℕ, _≤_}
 use mathlib.Core.Path.{_≡_, refl, sym, ap, _∙_}
-use mathlib.Core.Bool.{Bool, true, false, cond}
+use mathlib.Core.Bool.{true, cond}
 use mathlib.Core.List.{List, [], _∷_, _++_}
 use lib.ListN.{length, take}
 use lib.Seq.{take-at}
 use Rattle.bitset.specs.Tests.{every}
 use Rattle.guard.specs.Sound.{sound}
-use Rattle.guard.specs.Step.{answer, next, step, run, answers}
+use Rattle.guard.specs.Step.{next, step, run, answers}
 use Rattle.guard.specs.SameRequest.{sameRequests}
 use Rattle.guard.specs.Upper.{upper, isUpper, namesUpper, upperRequests, upperAnswers}
 use Rattle.guard.specs.Batch.{batch, RunsBatch}
@@ -55,7 +55,7 @@ one-logged (ran {t = t} {rows = rows} {old = old} r) =
 logged : {t u : Tables} {a : List Request} {p : List ℕ} → Calls t a p u → Logged t a p u
 unfolding run answers
 logged none = (refl, refl)
-logged (more {t = t} {a = a} {b = b} {p = p} {q = q} call calls) =
+logged (more call calls) =
     let (u-is, p-is) = one-logged call in
     let (v-is, q-is) = logged calls in
     (v-is ∙ rw (u-is, run-append), rw (p-is, q-is, u-is, answers-append))

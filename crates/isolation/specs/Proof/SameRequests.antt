@@ -6,12 +6,11 @@ use Prim.Native.Nat.{ℕ}
 use mathlib.Core.Path.{_≡_, refl, sym, ap, _∙_}
 use mathlib.Core.Bool.{Bool, true, false, cond, true≢false}
 use mathlib.Core.List.{List, [], _∷_}
-use Rattle.bitset.specs.Tests.{every}
 use Rattle.bitset.specs.Tests.Laws.{every-at}
 use Rattle.guard.specs.Sound.{sound}
-use Rattle.guard.specs.Step.{answer, next, run}
+use Rattle.guard.specs.Step.{next, run}
 use Rattle.guard.specs.SameRequest.{sameRequest, sameRequests}
-use Rattle.guard.specs.Upper.{upper, isUpper, namesUpper, upperRequests, upperAnswers}
+use Rattle.guard.specs.Upper.{upper, isUpper, upperRequests, upperAnswers}
 use Rattle.guard.specs.declared.Tables.{Tables}
 use Rattle.guard.specs.declared.Request.{Request}
 use Rattle.guard.proofs.Laws.SameRequest.{same-answer, same-next, same-upper, same-names, same-refl}
