@@ -4,8 +4,8 @@
 --     reaches-above                   "x reaches e": x has execute on every container above e, up to and with the root
 -- Assumes nothing.
 use Prim.Native.Nat.{ℕ, zero, suc, _≤_, _<_}
-use mathlib.Core.Path.{_≡_, refl, sym, ap, _∙_}
-use mathlib.Core.Bool.{Bool, true, false}
+use mathlib.Core.Path.{_≡_, refl, ap, _∙_}
+use mathlib.Core.Bool.{true, false}
 use mathlib.Core.Logic.{_⊎_, inl, inr, _↔_}
 use native.Mathlib.Decide.{decLt}
 use native.Mathlib.Omega.{arith}
@@ -19,7 +19,7 @@ use Rattle.guard.specs.Chain.{parentOf, endsAtRoot, reaches}
 use Rattle.guard.specs.Sound.{fieldsInRange, isRootRecord, rootsAsSaid, keepersAsSaid, hasOwnName, isPlaced, entitiesPlaced, deadAreEmpty, deadAreUnused, rightsWithin, readingWithin, writingWithin, sound}
 use Rattle.guard.specs.declared.Entity.{Entity}
 use Rattle.guard.specs.declared.Tables.{Tables}
-use Rattle.guard.proofs.Laws.Chain.{ancestor, climbs-root, ends-somewhere, ends-within, Above, reaches-iff}
+use Rattle.guard.proofs.Laws.Chain.{ancestor, climbs-root, ends-somewhere, ends-iff, Above, reaches-iff}
 use Rattle.guard.proofs.Laws.Sound.{_also_, no-more, every-of}
 
 -- A live entity that is no root has ..
@@ -88,7 +88,6 @@ module _ (t : Tables) (words : SoundInWords t) where
   unfolding isPlaced endsAtRoot
   placed-i e l live other =
       let p = words .placed e l live other in
-      let (n, root) = p .chain in
       every-of _
       (le-leb _ _ (p .name)
       also p .live
@@ -96,7 +95,7 @@ module _ (t : Tables) (words : SoundInWords t) where
       also eq-eqb _ _ (p .level)
       also p .label
       also p .ownName
-      also ends-within (parentOf t) e (λ k. stays k e l live) n root
+      also ends-iff (parentOf t) e (λ k. stays k e l live) .1 (p .chain)
       also no-more)
 
   sound-of : sound t ≡ true
