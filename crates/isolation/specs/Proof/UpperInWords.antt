@@ -12,7 +12,7 @@ use Rattle.bitset.specs.Sets.{has, contains, from}
 use Rattle.bitset.specs.Sets.Laws.{sets-ext}
 use Rattle.bitset.specs.Sets.Shift.{from-ext}
 use Rattle.guard.specs.Level.{sessionLevel, roleLevel}
-use Rattle.guard.specs.Tables.{noSession, noRole, noEntity, sessionAt, roleAt, rightsOf}
+use Rattle.guard.specs.Tables.{noSession, noRole, noEntity, sessionAt, roleAt, entityAt, rightsOf}
 use Rattle.guard.specs.Sound.{sound}
 use Rattle.guard.specs.Upper.{firstSession, firstRole, firstEntity, upperSession, upperRole, upper}
 use Rattle.guard.specs.declared.Role.{Role}
@@ -79,13 +79,16 @@ module _ (L : ℕ) (t u : Tables) where
           owns = set-alike (λ p. p .owns) 8 contains-own r up i;
         }
 
+    entity-alike : (e : ℕ) → firstEntity L ≤ e → entityAt t e ≡ entityAt u e
+    entity-alike e h = words .entity e (omega arith)
+
     of-words : Sized t → Sized u → Same L t u
     of-words st su =
         record {
           users = words .users;
           sessions = seen-ext _ _ (t .sessions) (u .sessions) noSession (st .sessions ∙ sym (su .sessions)) session-alike;
           roles = seen-ext _ _ (t .roles) (u .roles) noRole (st .roles ∙ sym (su .roles)) role-alike;
-          entities = seen-ext (λ e. e) (firstEntity L) (t .entities) (u .entities) noEntity (st .entities ∙ sym (su .entities)) (λ e he. words .entity e (omega arith));
+          entities = seen-ext _ _ (t .entities) (u .entities) noEntity (st .entities ∙ sym (su .entities)) entity-alike;
         }
 
 pub upper-iff : (L : ℕ) (t u : Tables) → Sized t → Sized u → (upper L t ≡ upper L u ↔ SameUpper L t u)
