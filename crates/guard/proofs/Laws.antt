@@ -9,4 +9,5 @@ pub mod Fresh
 pub mod Refusals
 pub mod Requests
 pub mod Step
+pub mod SameRequest
 pub mod Morning

@@ -1,4 +1,5 @@
 -- Logs, request by request, as a run over rows goes.
+--     run-append, answers-append    one log after the other
 --     run-snoc, answers-snoc, length-answers      one request more at the end of a log
 --     store-more, ones-store        the next answer, stored in its place
 --     batch-room, batch-rows        a batch has room for its answers, and each of its rows is whole
@@ -21,15 +22,23 @@ use Rattle.guard.specs.declared.Tables.{Tables}
 use Rattle.guard.specs.declared.Request.{Request}
 use Rattle.guard.proofs.Laws.Requests.{unsound-answer}
 
+pub run-append : (t : Tables) (a b : List Request) → run t (a ++ b) ≡ run (run t a) b
+unfolding run
+run-append t [] b = refl
+run-append t (p ∷ a) b = run-append (next t p) a b
+
+pub answers-append : (t : Tables) (a b : List Request) → answers t (a ++ b) ≡ answers t a ++ answers (run t a) b
+unfolding run answers
+answers-append t [] b = refl
+answers-append t (p ∷ a) b = ap (λ (l : List ℕ). answer t p ∷ l) (answers-append (next t p) a b)
+
 pub run-snoc : (t : Tables) (log : List Request) (q : Request) → run t (log ++ (q ∷ [])) ≡ next (run t log) q
 unfolding run
-run-snoc t [] q = refl
-run-snoc t (p ∷ log) q = run-snoc (next t p) log q
+run-snoc t log q = run-append t log (q ∷ [])
 
 pub answers-snoc : (t : Tables) (log : List Request) (q : Request) → answers t (log ++ (q ∷ [])) ≡ answers t log ++ (answer (run t log) q ∷ [])
-unfolding run answers
-answers-snoc t [] q = refl
-answers-snoc t (p ∷ log) q = ap (λ (l : List ℕ). answer t p ∷ l) (answers-snoc (next t p) log q)
+unfolding answers
+answers-snoc t log q = answers-append t log (q ∷ [])
 
 pub length-answers : (t : Tables) (log : List Request) → length (answers t log) ≡ length log
 unfolding answers

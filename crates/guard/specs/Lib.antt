@@ -11,6 +11,7 @@ pub mod Refusals
 pub mod Conditions
 pub mod Requests
 pub mod Step
+pub mod SameRequest
 pub mod Upper
 pub mod Kind
 pub mod Methods

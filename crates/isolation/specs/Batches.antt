@@ -1,19 +1,40 @@
--- The isolation rule over the code: for what `Tables::run` of the guard hands back. Its contract is `RunsBatch`
--- (guard/src/run.rt), so each premise below is what a host has who called it.
+-- The isolation rule over the code: for what the guard hands back to a host in any number of calls, one request at a time or many,
+-- in any cut. The premises are what the host has who made the calls: the contracts of `Tables::step` (guard/src/step.rt) and
+-- `Tables::run` (guard/src/run.rt). Each of the sixteen methods is a `step` (guard/src/methods.rt).
+--     Call, Calls         one call, and calls one after the other: from which tables, the requests made, their answers, to which tables
+--     compared            of the answers beside a log, those that the rule compares
+--     calls-isolate       the isolation rule, for any two such sequences of calls
 -- Assumes nothing.
 use Prim.Native.Nat.{ℕ, _≤_}
 use mathlib.Core.Path.{_≡_, refl, sym, ap, _∙_}
-use mathlib.Core.Bool.{Bool, true, false, cond}
+use mathlib.Core.Bool.{true, cond}
 use mathlib.Core.List.{List, [], _∷_, _++_}
-use lib.ListN.{length}
+use lib.ListN.{length, take}
+use lib.Seq.{take-at}
 use Rattle.bitset.specs.Tests.{every}
 use Rattle.guard.specs.Sound.{sound}
-use Rattle.guard.specs.Step.{answer, next, answers}
+use Rattle.guard.specs.Step.{next, step, run, answers}
+use Rattle.guard.specs.SameRequest.{sameRequests}
 use Rattle.guard.specs.Upper.{upper, isUpper, namesUpper, upperRequests, upperAnswers}
 use Rattle.guard.specs.Batch.{batch, RunsBatch}
 use Rattle.guard.specs.declared.Tables.{Tables}
 use Rattle.guard.specs.declared.Request.{Request}
+use Rattle.guard.specs.declared.Outcome.{Outcome}
+use Rattle.guard.proofs.Logs.{run-append, answers-append, length-answers}
 use Rattle.isolation.specs.Theorem.{isolation}
+
+-- One call on tables t: the requests that it made, the answers that it gave to them, and the tables that it handed back.
+pub data Call : Tables → List Request → List ℕ → Tables → Type 0 where
+  -- `t.step(q)` handed back o
+  stepped : {t : Tables} {q : Request} {o : Outcome} → o ≡ step t q → Call t (q ∷ []) (o .answer ∷ []) (o .tables)
+  -- `t.run(&rows, &mut answers)` handed back u, and made `new` of the answers `old`: one for each request, the rest as it was
+  ran : {t u : Tables} {rows old new : List ℕ} → RunsBatch t rows old new u
+      → Call t (batch rows (length old)) (take (length (batch rows (length old))) new) u
+
+-- Calls one after the other, each on the tables that the one before handed back.
+pub data Calls : Tables → List Request → List ℕ → Tables → Type 0 where
+  none : {t : Tables} → Calls t [] [] t
+  more : {t u v : Tables} {a b : List Request} {p q : List ℕ} → Call t a p u → Calls u b q v → Calls t (a ++ b) (p ++ q) v
 
 -- of the answers beside a log, those to upper requests that name only upper seats, roles and entities
 unfoldable pub compared : ℕ → List Request → List ℕ → List ℕ
@@ -21,32 +42,42 @@ compared L [] told = []
 compared L (q ∷ log) [] = []
 compared L (q ∷ log) (n ∷ told) = cond (every (isUpper L q ∷ namesUpper L q ∷ [])) (n ∷ compared L log told) (compared L log told)
 
--- they are the answers that the rule compares; what stands behind the log's own answers is not looked at
-compared-answers : (L : ℕ) (t : Tables) (log : List Request) (rest : List ℕ) → compared L log (answers t log ++ rest) ≡ upperAnswers L t log
+-- ---- what the calls made is one log, and what they answered are its answers
+abbrev Logged : Tables → List Request → List ℕ → Tables → Type 0
+Logged t a p u = (u ≡ run t a) × (p ≡ answers t a)
+
+one-logged : {t u : Tables} {a : List Request} {p : List ℕ} → Call t a p u → Logged t a p u
+unfolding run answers step
+one-logged (stepped e) = (ap (λ (o : Outcome). o .tables) e, ap (λ (o : Outcome). o .answer ∷ []) e)
+one-logged (ran {t = t} {rows = rows} {old = old} r) =
+    (r .tables, rw (r .answered) (take-at (answers t (batch rows (length old))) _ _ (length-answers t (batch rows (length old)))))
+
+logged : {t u : Tables} {a : List Request} {p : List ℕ} → Calls t a p u → Logged t a p u
+unfolding run answers
+logged none = (refl, refl)
+logged (more call calls) =
+    let (u-is, p-is) = one-logged call in
+    let (v-is, q-is) = logged calls in
+    (v-is ∙ rw (u-is, run-append), rw (p-is, q-is, u-is, answers-append))
+
+-- the answers to a log that are compared are those of the rule
+compared-answers : (L : ℕ) (t : Tables) (log : List Request) → compared L log (answers t log) ≡ upperAnswers L t log
 unfolding compared answers upperAnswers
-compared-answers L t [] rest = refl
-compared-answers L t (q ∷ log) rest = go (every (isUpper L q ∷ namesUpper L q ∷ [])) (compared-answers L (next t q) log rest)
-  where
-    go : (b : Bool) → compared L log (answers (next t q) log ++ rest) ≡ upperAnswers L (next t q) log
-        → cond b (answer t q ∷ compared L log (answers (next t q) log ++ rest)) (compared L log (answers (next t q) log ++ rest))
-        ≡ cond b (answer t q ∷ upperAnswers L (next t q) log) (upperAnswers L (next t q) log)
-    go true h = ap (λ (l : List ℕ). answer t q ∷ l) h
-    go false h = h
+compared-answers L t [] = refl
+compared-answers L t (q ∷ log) = rw (compared-answers L (next t q) log)
 
--- what a batch hands back
-told : (L : ℕ) {t u : Tables} {rows old new : List ℕ} → RunsBatch t rows old new u
-    → compared L (batch rows (length old)) new ≡ upperAnswers L t (batch rows (length old))
-told L {t = t} {rows = rows} {old = old} ran = rw (ran .answered) (compared-answers L t (batch rows (length old)) _)
-
-pub batches-isolate :
+-- ---- the rule
+pub calls-isolate :
     (L : ℕ) → 1 ≤ L → L ≤ 3
     → (t u : Tables) → sound t ≡ true → sound u ≡ true → upper L t ≡ upper L u
-    -- two calls of `run`, on rows a and b; p and q are what they have for answers at first, p2 and q2 at last
-    → (a b p q p2 q2 : List ℕ) (t2 u2 : Tables) → RunsBatch t a p p2 t2 → RunsBatch u b q q2 u2
-    → upperRequests L (batch a (length p)) ≡ upperRequests L (batch b (length q))
-    → (upper L t2 ≡ upper L u2) × (compared L (batch a (length p)) p2 ≡ compared L (batch b (length q)) q2)
-batches-isolate L low high t u st su same a b p q p2 q2 t2 u2 ran did requests =
-    let (parts, answered) = isolation L low high t u st su same (batch a (length p)) (batch b (length q)) requests in (
-      ap (upper L) (ran .tables) ∙ parts ∙ sym (ap (upper L) (did .tables)),
-      told L ran ∙ answered ∙ sym (told L did),
+    -- calls that made the logs a and b, answered p and q, and at last handed back t2 and u2
+    → (a b : List Request) (p q : List ℕ) (t2 u2 : Tables) → Calls t a p t2 → Calls u b q u2
+    → sameRequests (upperRequests L a) (upperRequests L b) ≡ true
+    → (upper L t2 ≡ upper L u2) × (compared L a p ≡ compared L b q)
+calls-isolate L low high t u st su e a b p q t2 u2 left right same =
+    let (parts, told) = isolation L low high t u st su e a b same in
+    let (t2-is, p-is) = logged left in
+    let (u2-is, q-is) = logged right in (
+      ap (upper L) t2-is ∙ parts ∙ sym (ap (upper L) u2-is),
+      ap (compared L a) p-is ∙ compared-answers L t a ∙ told ∙ sym (ap (compared L b) q-is ∙ compared-answers L u b),
     )

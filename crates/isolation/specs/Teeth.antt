@@ -1,5 +1,6 @@
 -- What the isolation rule speaks of and what it shuts out, for level 1, on concrete tables and logs, by computing.
 --     lower-logs-differ, lower-parts-differ      logs that differ below in kind, number and place, and leave different lower parts
+--     unused-differ                              upper requests that differ in a field that they do not use ask the same
 --     named-lower                                an upper request that names something lower, answered 12 in one log and 7 in the other
 --     guard-isolates                             the rule for the step by any rules: guard's isolate ..
 --     openw-fails, grant-fails, delete-fails     .. and three misreadings do not
@@ -22,6 +23,7 @@ use Rattle.guard.specs.Refusals.{Refusal, _when_, first}
 use Rattle.guard.specs.Conditions.{recordedParent}
 use Rattle.guard.specs.Requests.{Rule, fieldInRange, ruleOf}
 use Rattle.guard.specs.Step.{inRanges, answer, next, answers, run}
+use Rattle.guard.specs.SameRequest.{sameField, sameRequest}
 use Rattle.guard.specs.Upper.{upperSession, upperRole, upper, isUpper, fieldUpper, namesUpper, upperRequests}
 use Rattle.guard.specs.declared.Tables.{Tables}
 use Rattle.guard.specs.declared.Request.{Request}
@@ -90,6 +92,11 @@ lower-logs-differ = (refl, refl, refl, refl)
 pub lower-parts-differ : upper 0 (run start log-a) ≡ upper 0 (run start log-b) → ⊥
 unfolding computing morningUsers start run upper upperSession upperRole from
 lower-parts-differ e = true≢false (ap (λ (v : Tables). getD (v .sessions) 0 noSession .live) e)
+
+-- ---- two logouts of the upper seat 4 that differ in the role, which logout does not use, ask the same; two takes do not
+pub unused-differ : (sameRequest (ask 1 4 0 0 0) (ask 1 4 9 0 0) ≡ true) × (sameRequest take-4 take-1 ≡ false)
+unfolding computing sameField sameRequest
+unused-differ = (refl, refl)
 
 -- ---- an upper request that names the lower role 1: not listed in the one log, where it was made, not live in the other
 pub named-lower : (upperRequests 1 (make-1 ∷ login-4 ∷ take-1 ∷ []) ≡ upperRequests 1 (login-4 ∷ take-1 ∷ []))

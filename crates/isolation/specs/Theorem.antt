@@ -1,5 +1,6 @@
 -- The isolation rule: demand 3, whole, as one statement on all pairs of logs. (The field's word: noninterference.)
--- It is stated over guard's definitions alone: sound (Sound), run (Step), upper, upperRequests, upperAnswers (Upper).
+-- It is stated over guard's definitions alone: sound (Sound), run (Step), sameRequests (SameRequest), upper, upperRequests,
+-- upperAnswers (Upper). UpperInWords says what equal upper parts are, sentence by sentence.
 -- The bounds of L are the paper's: the proof needs none. Assumes nothing.
 use Prim.Native.Nat.{ℕ, _≤_}
 use mathlib.Core.Path.{_≡_}
@@ -7,10 +8,11 @@ use mathlib.Core.Bool.{true}
 use mathlib.Core.List.{List}
 use Rattle.guard.specs.Sound.{sound}
 use Rattle.guard.specs.Step.{run}
+use Rattle.guard.specs.SameRequest.{sameRequests}
 use Rattle.guard.specs.Upper.{upper, upperRequests, upperAnswers}
 use Rattle.guard.specs.declared.Tables.{Tables}
 use Rattle.guard.specs.declared.Request.{Request}
-use Rattle.isolation.specs.Proof.Rule.{rule}
+use Rattle.isolation.specs.Proof.SameRequests.{rule-same}
 
 pub isolation :
     -- For every level L from 1 to 3
@@ -19,11 +21,12 @@ pub isolation :
     → (t u : Tables) → sound t ≡ true → sound u ≡ true → upper L t ≡ upper L u
     -- and every two logs, of any length, refused requests included
     → (a b : List Request)
-    -- If both logs hold the same requests of level L and above in the same order,
-    → upperRequests L a ≡ upperRequests L b
+    -- If both logs hold the same requests of level L and above in the same order (in the fields that each uses: the others are
+    -- not looked at),
+    → sameRequests (upperRequests L a) (upperRequests L b) ≡ true
     -- then the upper parts after the two logs are equal, whatever was asked from below L, in kind, number or place.
     → (upper L (run t a) ≡ upper L (run u b))
     -- And of the requests of level L and above, each that names only seats, roles and entities of level L or above gets
     -- the same answer in both logs.
     × (upperAnswers L t a ≡ upperAnswers L u b)
-isolation L low high = rule L
+isolation L low high = rule-same L

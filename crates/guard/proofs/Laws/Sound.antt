@@ -1,4 +1,4 @@
--- Sound tables, read as facts (Facts).
+-- Sound tables, read as facts (Facts), and with the paper's own chain of parents (Chains).
 --     sound-e, sound-i                the test `sound` says this, and no more
 --     writing-level, parent-level     two of the facts, of the tables
 -- Assumes nothing.
@@ -21,6 +21,7 @@ use Rattle.guard.specs.declared.Entity.{Entity}
 use Rattle.guard.specs.declared.Tables.{Tables}
 use Rattle.guard.proofs.Laws.Rights.{rights-none, rights-zero}
 pub mod Facts
+pub mod Chains
 pub use Facts.*
 
 -- ---- tests of what is dead

@@ -1,16 +1,16 @@
 -- Lists of which only the part from k on is seen, and of that part only g of each record.
---     seen-at                    records at a seen place are alike as far as g shows
+--     seen-at, seen-ext          records at a seen place are alike as far as g shows, and back
 --     set-hidden, set-same       one record replaced: at a hidden place, or by one that looks the same
 --     set-alike                  .. by records that look alike, on two sides that do
 --     Hidden, Image, Seen        a change f of which g shows nothing, what an image f′ does, or the one or other by number
 --     each-hidden, each-alike    every record changed by f
 -- Assumes nothing.
-use Prim.Native.Nat.{ℕ, zero, suc, _-_, _≤_, _<_}
+use Prim.Native.Nat.{ℕ, zero, suc, _+_, _-_, _≤_, _<_}
 use mathlib.Core.Path.{_≡_, refl, sym, ap, _∙_}
 use mathlib.Core.List.{List, [], _∷_, map}
 use native.Mathlib.Nat.{add-sub-of-le}
-use lib.ListN.{getD, set, drop, List·getD-map}
-use lib.Seq.{getD-drop, set-getD, drop-set-add, drop-set-lt}
+use lib.ListN.{length, getD, set, drop, length-map, length-drop, List·getD-map}
+use lib.Seq.{getD-drop, ext-getD, set-getD, drop-set-add, drop-set-lt}
 use native.Mathlib.Decide.{decLt}
 use native.Mathlib.Omega.{arith}
 
@@ -55,6 +55,16 @@ module _ {A : Type 0} where
       where
         from-seen : (r : List A) → g (getD r i d) ≡ getD (map g (drop k r)) (i - k) (g d)
         from-seen r = rw (List·getD-map g (drop k r) (i - k) d, getD-drop k r (i - k) d, add-sub-of-le h)
+
+    -- and back, for lists of one length
+    pub seen-ext : (l m : List A) (d : A) → length l ≡ length m → ((i : ℕ) → k ≤ i → g (getD l i d) ≡ g (getD m i d)) → seen l ≡ seen m
+    seen-ext l m d long f = ext-getD (g d) (seen l) (seen m) as-long (λ i h. at l i ∙ f (k + i) (omega arith) ∙ sym (at m i))
+      where
+        as-long : length (seen l) ≡ length (seen m)
+        as-long = simp (length-map, length-drop) (rw long)
+
+        at : (r : List A) (i : ℕ) → getD (map g (drop k r)) i (g d) ≡ g (getD r (k + i) d)
+        at r i = rw (List·getD-map g (drop k r) i d, getD-drop k r i d)
 
     map-set : (l : List A) (i : ℕ) (a : A) → map g (set l i a) ≡ set (map g l) i (g a)
     map-set [] i a = refl

@@ -140,7 +140,7 @@ module _ (L : ℕ) (t u : Tables) (same : Same L t u) where
   unfolding upperRole
   listed-same r hr = ap (λ (p : Role). p .users) (role-same r hr)
 
-  rightsOn-same : (r e : ℕ) → firstRole L ≤ r → firstEntity L ≤ e → rightsOn t r e ≡ rightsOn u r e
+  pub rightsOn-same : (r e : ℕ) → firstRole L ≤ r → firstEntity L ≤ e → rightsOn t r e ≡ rightsOn u r e
   rightsOn-same r e hr he =
       sym (upper-rights L _ e he) ∙ ap (λ (p : Role). rightsOf p (e - firstEntity L)) (role-same r hr) ∙ upper-rights L _ e he
 

@@ -1,0 +1,58 @@
+-- The isolation rule for logs whose upper requests ask the same: fields that a request does not use may differ.
+--     swapped         a log with other upper requests that ask the same runs the same
+--     rule-same       the isolation rule, for any level
+-- Assumes nothing.
+use Prim.Native.Nat.{ℕ}
+use mathlib.Core.Path.{_≡_, refl, sym, ap, _∙_}
+use mathlib.Core.Bool.{Bool, true, false, cond, true≢false}
+use mathlib.Core.List.{List, [], _∷_}
+use Rattle.bitset.specs.Tests.Laws.{every-at}
+use Rattle.guard.specs.Sound.{sound}
+use Rattle.guard.specs.Step.{next, run}
+use Rattle.guard.specs.SameRequest.{sameRequest, sameRequests}
+use Rattle.guard.specs.Upper.{upper, isUpper, upperRequests, upperAnswers}
+use Rattle.guard.specs.declared.Tables.{Tables}
+use Rattle.guard.specs.declared.Request.{Request}
+use Rattle.guard.proofs.Laws.SameRequest.{same-answer, same-next, same-upper, same-names, same-refl}
+use Rattle.isolation.specs.Proof.Rule.{rule}
+
+module _ (L : ℕ) where
+  -- c and b run the same, from every tables
+  abbrev Alike : List Request → List Request → Type 0
+  Alike c b = (u : Tables) → (run u c ≡ run u b) × (upperAnswers L u c ≡ upperAnswers L u b)
+
+  -- one request more: p in the place of q
+  alike-more : (p q : Request) → sameRequest p q ≡ true → (c b : List Request) → Alike c b → Alike (p ∷ c) (q ∷ b)
+  unfolding run upperAnswers
+  alike-more p q same c b alike u =
+      let (ran, told) = alike (next u q) in
+      (rw (same-next p q same u) ran, rw (same-upper p q same L, same-names p q same L, same-answer p q same u, same-next p q same u, told))
+
+  -- a log that runs as b does, with the upper requests `ups`
+  abbrev Swapped : List Request → List Request → Type 0
+  Swapped ups b = (c : List Request) × (upperRequests L c ≡ ups) × Alike c b
+
+  swapped : (b ups : List Request) → sameRequests ups (upperRequests L b) ≡ true → Swapped ups b
+  unfolding sameRequests upperRequests
+  swapped [] [] h = ([], refl, λ u. (refl, refl))
+  swapped [] (p ∷ ups) h = absurd (true≢false (sym h))
+  swapped (q ∷ b) ups h = go (isUpper L q) refl ups h (swapped b)
+    where
+      go : (up : Bool) → isUpper L q ≡ up → (ups : List Request) → sameRequests ups (cond up (q ∷ upperRequests L b) (upperRequests L b)) ≡ true
+          → ((ups : List Request) → sameRequests ups (upperRequests L b) ≡ true → Swapped ups b) → Swapped ups (q ∷ b)
+      go true up [] h more = absurd (true≢false (sym h))
+      go true up (p ∷ ups) h more =
+          let same = every-at _ h 0 in
+          let (c, is, alike) = more ups (every-at _ h 1) in
+          (p ∷ c, rw (same-upper p q same L, up, is), alike-more p q same c b alike)
+      go false low ups h more =
+          let (c, is, alike) = more ups h in
+          (q ∷ c, rw (low, is), alike-more q q (same-refl q) c b alike)
+
+  pub rule-same : (t u : Tables) → sound t ≡ true → sound u ≡ true → upper L t ≡ upper L u
+      → (a b : List Request) → sameRequests (upperRequests L a) (upperRequests L b) ≡ true
+      → (upper L (run t a) ≡ upper L (run u b)) × (upperAnswers L t a ≡ upperAnswers L u b)
+  rule-same t u st su e a b same =
+      let (c, is, alike) = swapped b (upperRequests L a) same in
+      let (parts, told) = rule L t u st su e a c (sym is) in
+      (parts ∙ ap (upper L) (alike u .0), told ∙ alike u .1)
