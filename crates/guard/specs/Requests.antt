@@ -258,24 +258,7 @@ unknown = record { uses = seat ∷ call ∷ []; refusals = λ t q. []; effect = 
 
 -- The request's number: 0 to 15 in the order in which the paper lists the sixteen.
 unfoldable pub rules : List Rule
-rules =
-    login
-    ∷ logout
-    ∷ take
-    ∷ drop
-    ∷ openr
-    ∷ openw
-    ∷ close
-    ∷ create
-    ∷ delete
-    ∷ rename
-    ∷ grant
-    ∷ revoke
-    ∷ list
-    ∷ unlist
-    ∷ make
-    ∷ unmake
-    ∷ []
+rules = login ∷ logout ∷ take ∷ drop ∷ openr ∷ openw ∷ close ∷ create ∷ delete ∷ rename ∷ grant ∷ revoke ∷ list ∷ unlist ∷ make ∷ unmake ∷ []
 
 unfoldable pub ruleOf : Request → Rule
 ruleOf q = getD rules (q .call) unknown

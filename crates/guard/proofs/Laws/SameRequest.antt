@@ -14,7 +14,7 @@ use borrow.Author.Tests.{eqb-true, eq-eqb}
 use Rattle.bitset.specs.Tests.Laws as tests
 use Rattle.bitset.specs.Tests.Laws.{every-i, every-e, every-at}
 use Rattle.guard.specs.Label.{sameLabel}
-use Rattle.guard.specs.Conditions.{pastUser, createBelow, grantBelow, cannotOpen, cannotChange, notOpen, nameTaken, hasChildren}
+use Rattle.guard.specs.Conditions.{userTooLow, createOutOfLevel, grantBelow, cannotOpen, cannotChangeIn, notOpen, nameTaken, hasChildren}
 use Rattle.guard.specs.Requests.{Rule, Field, call, seat, user, role, entity, parent, kind, name, label, rights, fieldInRange, loggedIn, created, login, logout, take, drop, openr, openw, close, create, delete, rename, grant, revoke, list, unlist, make, unmake, unknown, rules, ruleOf}
 use Rattle.guard.specs.Step.{inRanges, answer, next, step}
 use Rattle.guard.specs.SameRequest.{sameField, sameRequest, sameRequests}
@@ -33,7 +33,7 @@ SameField p q entity = p .entity ≡ q .entity
 SameField p q parent = p .parent ≡ q .parent
 SameField p q kind = p .kind ≡ q .kind
 SameField p q name = p .name ≡ q .name
-SameField p q label = (p .level ≡ q .level) × (p .cats ≡ q .cats)
+SameField p q label = (p .grade ≡ q .grade) × (p .cats ≡ q .cats)
 SameField p q rights = p .rights ≡ q .rights
 
 abbrev SameFields : Request → Request → List Field → Type 0
@@ -97,7 +97,7 @@ Reads r =
     → (p .seat ≡ q .seat) × ((t : Tables) → r .refusals t p ≡ r .refusals t q) × ((t : Tables) → r .effect p t ≡ r .effect q t)
 
 reads-login : Reads login
-unfolding login loggedIn pastUser
+unfolding login loggedIn userTooLow
 reads-login p q (s, (u, ((g, c), more))) = (s, λ t. rw (s, u, g, c), λ t. rw (s, u, g, c))
 
 reads-logout : Reads logout
@@ -125,15 +125,15 @@ unfolding close notOpen
 reads-close p q (s, (e, more)) = (s, λ t. rw (s, e), λ t. rw (s, e))
 
 reads-create : Reads create
-unfolding create created createBelow cannotChange nameTaken
+unfolding create created createOutOfLevel cannotChangeIn nameTaken
 reads-create p q (s, (e, (k, (m, (n, ((g, c), (r, more))))))) = (s, λ t. rw (s, e, m, n, g, c, r), λ t. rw (e, k, m, n, g, c, r))
 
 reads-delete : Reads delete
-unfolding delete cannotChange hasChildren
+unfolding delete cannotChangeIn hasChildren
 reads-delete p q (s, (e, more)) = (s, λ t. rw (s, e), λ t. rw e)
 
 reads-rename : Reads rename
-unfolding rename cannotChange nameTaken
+unfolding rename cannotChangeIn nameTaken
 reads-rename p q (s, (e, (n, more))) = (s, λ t. rw (s, e, n), λ t. rw (e, n))
 
 reads-grant : Reads grant
@@ -221,7 +221,7 @@ module _ (q : Request) where
   field-refl parent = itself (q .parent)
   field-refl kind = itself (q .kind)
   field-refl name = itself (q .name)
-  field-refl label = every-i _ (itself (q .level), (itself (q .cats), tt))
+  field-refl label = every-i _ (itself (q .grade), (itself (q .cats), tt))
   field-refl rights = itself (q .rights)
 
   fields-refl : (fs : List Field) → tests.Each (map (sameField q q) fs)
