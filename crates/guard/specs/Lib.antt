@@ -12,7 +12,6 @@ pub mod Conditions
 pub mod Requests
 pub mod Step
 pub mod SameRequest
-pub mod Upper
 pub mod Kind
 pub mod Methods
 pub mod Batch

@@ -15,7 +15,7 @@ use Rattle.bitset.specs.Tests.{every}
 use Rattle.guard.specs.Sound.{sound}
 use Rattle.guard.specs.Step.{next, step, run, answers}
 use Rattle.guard.specs.SameRequest.{sameRequests}
-use Rattle.guard.specs.Upper.{upper, isUpper, namesUpper, upperRequests, upperAnswers}
+use Rattle.isolation.specs.Upper.{upper, isUpper, namesUpper, upperRequests, upperAnswers}
 use Rattle.guard.specs.Batch.{batch, RunsBatch}
 use Rattle.guard.specs.declared.Tables.{Tables}
 use Rattle.guard.specs.declared.Request.{Request}

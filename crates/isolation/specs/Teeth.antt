@@ -24,7 +24,7 @@ use Rattle.guard.specs.Conditions.{recordedParent}
 use Rattle.guard.specs.Requests.{Rule, fieldInRange, ruleOf}
 use Rattle.guard.specs.Step.{inRanges, answer, next, answers, run}
 use Rattle.guard.specs.SameRequest.{sameField, sameRequest}
-use Rattle.guard.specs.Upper.{upperSession, upperRole, upper, isUpper, fieldUpper, namesUpper, upperRequests}
+use Rattle.isolation.specs.Upper.{upperSession, upperRole, upper, isUpper, fieldUpper, namesUpper, upperRequests}
 use Rattle.guard.specs.declared.Tables.{Tables}
 use Rattle.guard.specs.declared.Request.{Request}
 use Rattle.guard.proofs.Compute.{computing}

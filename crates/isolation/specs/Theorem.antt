@@ -9,7 +9,7 @@ use mathlib.Core.List.{List}
 use Rattle.guard.specs.Sound.{sound}
 use Rattle.guard.specs.Step.{run}
 use Rattle.guard.specs.SameRequest.{sameRequests}
-use Rattle.guard.specs.Upper.{upper, upperRequests, upperAnswers}
+use Rattle.isolation.specs.Upper.{upper, upperRequests, upperAnswers}
 use Rattle.guard.specs.declared.Tables.{Tables}
 use Rattle.guard.specs.declared.Request.{Request}
 use Rattle.isolation.specs.Proof.SameRequests.{rule-same}

@@ -1,7 +1,7 @@
 -- Requests that ask the same.
 --     Reads, each-reads           each rule: its refusals and its effect read no other fields than those that it uses
 --     same-answer, same-next      two requests that ask the same have one answer and leave one next tables
---     same-upper, same-names      they belong to one level, and name alike
+--     same-rule, same-fields, same-seat, map-same      they have one rule and one seat, and agree in each field that it uses
 --     unused-fields               "Fields that a request does not use are not looked at": they have one step, from every tables
 --     same-refl, same-refls       a request asks the same as itself, and so does a log
 -- Assumes nothing.
@@ -18,13 +18,12 @@ use Rattle.guard.specs.Conditions.{userTooLow, createOutOfLevel, grantBe
 use Rattle.guard.specs.Requests.{Rule, Field, call, seat, user, role, entity, parent, kind, name, label, rights, fieldInRange, loggedIn, created, login, logout, take, drop, openr, openw, close, create, delete, rename, grant, revoke, list, unlist, make, unmake, unknown, rules, ruleOf}
 use Rattle.guard.specs.Step.{inRanges, answer, next, step}
 use Rattle.guard.specs.SameRequest.{sameField, sameRequest, sameRequests}
-use Rattle.guard.specs.Upper.{isUpper, fieldUpper, namesUpper}
 use Rattle.guard.specs.declared.Tables.{Tables}
 use Rattle.guard.specs.declared.Request.{Request}
 use Rattle.guard.proofs.Laws.Step.{Each, each-rule}
 
 -- ---- the fields, as equations
-abbrev SameField : Request → Request → Field → Type 0
+abbrev pub SameField : Request → Request → Field → Type 0
 SameField p q call = p .call ≡ q .call
 SameField p q seat = p .seat ≡ q .seat
 SameField p q user = p .user ≡ q .user
@@ -36,7 +35,7 @@ SameField p q name = p .name ≡ q .name
 SameField p q label = (p .grade ≡ q .grade) × (p .cats ≡ q .cats)
 SameField p q rights = p .rights ≡ q .rights
 
-abbrev SameFields : Request → Request → List Field → Type 0
+abbrev pub SameFields : Request → Request → List Field → Type 0
 SameFields p q [] = Unit {0}
 SameFields p q (f ∷ fs) = SameField p q f × SameFields p q fs
 
@@ -71,21 +70,8 @@ module _ (p q : Request) where
   range-same label (g, c) = rw (g, c)
   range-same rights e = rw e
 
-  upper-same : (L : ℕ) (f : Field) → SameField p q f → fieldUpper L p f ≡ fieldUpper L q f
-  unfolding fieldUpper
-  upper-same L call e = refl
-  upper-same L seat e = rw e
-  upper-same L user e = refl
-  upper-same L role e = rw e
-  upper-same L entity e = rw e
-  upper-same L parent e = rw e
-  upper-same L kind e = refl
-  upper-same L name e = refl
-  upper-same L label e = refl
-  upper-same L rights e = refl
-
   -- a test of each field
-  map-same : (of-p of-q : Field → Bool) → ((f : Field) → SameField p q f → of-p f ≡ of-q f) → (fs : List Field) → SameFields p q fs
+  pub map-same : (of-p of-q : Field → Bool) → ((f : Field) → SameField p q f → of-p f ≡ of-q f) → (fs : List Field) → SameFields p q fs
       → map of-p fs ≡ map of-q fs
   map-same of-p of-q same [] e = refl
   map-same of-p of-q same (f ∷ fs) (here, more) = ap₂ _∷_ (same f here) (map-same of-p of-q same fs more)
@@ -176,30 +162,25 @@ reads = each-rule Reads each-reads reads-unknown
 
 -- ---- two requests that ask the same
 module _ (p q : Request) (same : sameRequest p q ≡ true) where
-  same-rule : ruleOf q ≡ ruleOf p
+  pub same-rule : ruleOf q ≡ ruleOf p
   unfolding sameRequest ruleOf
   same-rule = rw (eqb-true (p .call) (q .call) (every-at _ same 0))
 
-  fields : SameFields p q (ruleOf p .uses)
+  pub same-fields : SameFields p q (ruleOf p .uses)
   unfolding sameRequest
-  fields = fields-e p q (ruleOf p .uses) (every-e _ same .1)
+  same-fields = fields-e p q (ruleOf p .uses) (every-e _ same .1)
+
+  pub same-seat : p .seat ≡ q .seat
+  same-seat = reads p p q same-fields .0
 
   pub same-answer : (t : Tables) → answer t p ≡ answer t q
   unfolding answer inRanges
   same-answer t =
-      rw (same-rule, map-same p q (fieldInRange p) (fieldInRange q) (range-same p q) (ruleOf p .uses) fields, reads p p q fields .1 t)
+      rw (same-rule, map-same p q (fieldInRange p) (fieldInRange q) (range-same p q) (ruleOf p .uses) same-fields, reads p p q same-fields .1 t)
 
   pub same-next : (t : Tables) → next t p ≡ next t q
   unfolding next
-  same-next t = rw (same-rule, same-answer t, reads p p q fields .2 t)
-
-  pub same-upper : (L : ℕ) → isUpper L p ≡ isUpper L q
-  unfolding isUpper
-  same-upper L = rw (reads p p q fields .0)
-
-  pub same-names : (L : ℕ) → namesUpper L p ≡ namesUpper L q
-  unfolding namesUpper
-  same-names L = rw (same-rule, map-same p q (fieldUpper L p) (fieldUpper L q) (upper-same p q L) (ruleOf p .uses) fields)
+  same-next t = rw (same-rule, same-answer t, reads p p q same-fields .2 t)
 
 -- Fields that a request does not use are not looked at.
 pub unused-fields : (p q : Request) → sameRequest p q ≡ true → (t : Tables) → step t p ≡ step t q

@@ -19,7 +19,7 @@ use Rattle.guard.specs.Sound.{sound}
 use Rattle.guard.specs.Refusals.{_when_}
 use Rattle.guard.specs.Conditions.{labelAsked, seatLive, userTooLow, seatDead, createOutOfLevel, grantBelow, userUnlisted, keeperNotHeld, cannotOpen, cannotChangeIn, roleHeld, openForReading, openForWriting, notOpen, entityDead, roleDead, roleLive, nameTaken, hasChildren, recordedParent}
 use Rattle.guard.specs.Requests.{Rule, fieldInRange, login, logout, take, drop, openr, openw, close, create, delete, rename, grant, revoke, list, unlist, make, unmake, unknown, rules, ruleOf}
-use Rattle.guard.specs.Upper.{firstEntity, fieldUpper}
+use Rattle.isolation.specs.Upper.{firstEntity, fieldUpper}
 use Rattle.guard.specs.declared.Label.{Label}
 use Rattle.guard.specs.declared.Entity.{Entity}
 use Rattle.guard.specs.declared.Tables.{Tables}

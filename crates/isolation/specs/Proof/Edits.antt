@@ -15,7 +15,7 @@ use Rattle.bitset.specs.Sets.{from}
 use Rattle.bitset.specs.Sets.Shift.{with-below, with-above, without-below, without-above}
 use Rattle.guard.specs.Tables.{noSession, noRole, noEntity}
 use Rattle.guard.specs.Edits.{withSessions, withRoles, withEntities, takeRole, dropRole, openReading, openWriting, closeBoth, putIn, setRights, listUser, unlistUser}
-use Rattle.guard.specs.Upper.{firstSession, firstRole, firstEntity, upperSession, upperRole}
+use Rattle.isolation.specs.Upper.{firstSession, firstRole, firstEntity, upperSession, upperRole}
 use Rattle.guard.specs.declared.Session.{Session}
 use Rattle.guard.specs.declared.Role.{Role}
 use Rattle.guard.specs.declared.Entity.{Entity}

@@ -16,7 +16,7 @@ use Rattle.guard.specs.Sound.{sound}
 use Rattle.guard.specs.Edits.{atSession, atRole, atEntity, eachSession, eachRole, dropRole, closeBoth, addRights, removeRights, clearRights, setRights}
 use Rattle.guard.specs.Conditions.{entityDead, createOutOfLevel, grantBelow, cannotChangeIn, seatBelowRole, recordedParent}
 use Rattle.guard.specs.Requests.{Rule, fieldInRange, login, logout, take, drop, openr, openw, close, create, delete, rename, grant, revoke, list, unlist, make, unmake, unknown, rules, ruleOf}
-use Rattle.guard.specs.Upper.{firstRole, firstEntity, upperSession, fieldUpper}
+use Rattle.isolation.specs.Upper.{firstRole, firstEntity, upperSession, fieldUpper}
 use Rattle.guard.specs.declared.Session.{Session}
 use Rattle.guard.specs.declared.Role.{Role}
 use Rattle.guard.specs.declared.Entity.{Entity}

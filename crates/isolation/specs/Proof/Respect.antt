@@ -13,7 +13,7 @@ use Rattle.guard.specs.Level.{sessionLevel, roleLevel, entityLevel}
 use Rattle.guard.specs.Tables.{noSession, noRole}
 use Rattle.guard.specs.Edits.{atSession, atRole, atEntity, eachSession, eachRole, dropRole, closeBoth, addRights, removeRights, clearRights, madeRole}
 use Rattle.guard.specs.Requests.{Rule, loggedIn, login, logout, take, drop, openr, openw, close, create, delete, rename, grant, revoke, list, unlist, make, unmake, unknown, rules, ruleOf}
-use Rattle.guard.specs.Upper.{upperSession, upperRole, fieldUpper}
+use Rattle.isolation.specs.Upper.{upperSession, upperRole, fieldUpper}
 use Rattle.guard.specs.declared.Session.{Session}
 use Rattle.guard.specs.declared.Role.{Role}
 use Rattle.guard.specs.declared.Entity.{Entity}

@@ -13,7 +13,7 @@ use Rattle.bitset.specs.Tests.Laws.{every-i, every-e, every-at, is-false, clash
 use Rattle.guard.specs.Sound.{sound}
 use Rattle.guard.specs.Requests.{Rule, Field, seat, fieldInRange, login, logout, take, drop, openr, openw, close, create, delete, rename, grant, revoke, list, unlist, make, unmake, unknown, rules, ruleOf}
 use Rattle.guard.specs.Step.{inRanges, answer, next, run}
-use Rattle.guard.specs.Upper.{upper, isUpper, fieldUpper, namesUpper, upperRequests, upperAnswers}
+use Rattle.isolation.specs.Upper.{upper, isUpper, fieldUpper, namesUpper, upperRequests, upperAnswers}
 use Rattle.guard.specs.declared.Tables.{Tables}
 use Rattle.guard.specs.declared.Request.{Request}
 use Rattle.guard.proofs.Laws.Refusals.{alike-first}

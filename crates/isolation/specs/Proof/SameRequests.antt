@@ -1,4 +1,5 @@
 -- The isolation rule for logs whose upper requests ask the same: fields that a request does not use may differ.
+--     same-upper, same-names      requests that ask the same belong to one level, and name alike
 --     swapped         a log with other upper requests that ask the same runs the same
 --     rule-same       the isolation rule, for any level
 -- Assumes nothing.
@@ -10,12 +11,37 @@ use Rattle.bitset.specs.Tests.Laws.{every-at}
 use Rattle.guard.specs.Sound.{sound}
 use Rattle.guard.specs.Step.{next, run}
 use Rattle.guard.specs.SameRequest.{sameRequest, sameRequests}
-use Rattle.guard.specs.Upper.{upper, isUpper, upperRequests, upperAnswers}
+use Rattle.isolation.specs.Upper.{upper, isUpper, fieldUpper, namesUpper, upperRequests, upperAnswers}
 use Rattle.guard.specs.declared.Tables.{Tables}
 use Rattle.guard.specs.declared.Request.{Request}
-use Rattle.guard.proofs.Laws.SameRequest.{same-answer, same-next, same-upper, same-names, same-refl}
+use Rattle.guard.specs.Requests.{Field, call, seat, user, role, entity, parent, kind, name, label, rights, ruleOf}
+use Rattle.guard.proofs.Laws.SameRequest.{SameField, map-same, same-rule, same-fields, same-seat, same-answer, same-next, same-refl}
 use Rattle.isolation.specs.Proof.Rule.{rule}
 
+-- ---- two requests that ask the same
+upper-same : (p q : Request) (L : ℕ) (f : Field) → SameField p q f → fieldUpper L p f ≡ fieldUpper L q f
+unfolding fieldUpper
+upper-same p q L call e = refl
+upper-same p q L seat e = rw e
+upper-same p q L user e = refl
+upper-same p q L role e = rw e
+upper-same p q L entity e = rw e
+upper-same p q L parent e = rw e
+upper-same p q L kind e = refl
+upper-same p q L name e = refl
+upper-same p q L label e = refl
+upper-same p q L rights e = refl
+
+module _ (p q : Request) (same : sameRequest p q ≡ true) where
+  same-upper : (L : ℕ) → isUpper L p ≡ isUpper L q
+  unfolding isUpper
+  same-upper L = rw (same-seat p q same)
+
+  same-names : (L : ℕ) → namesUpper L p ≡ namesUpper L q
+  unfolding namesUpper
+  same-names L = rw (same-rule p q same, map-same p q (fieldUpper L p) (fieldUpper L q) (upper-same p q L) (ruleOf p .uses) (same-fields p q same))
+
+-- ---- two logs
 module _ (L : ℕ) where
   -- c and b run the same, from every tables
   abbrev Alike : List Request → List Request → Type 0

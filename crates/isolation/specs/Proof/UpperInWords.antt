@@ -14,7 +14,7 @@ use Rattle.bitset.specs.Sets.Shift.{from-ext}
 use Rattle.guard.specs.Level.{sessionLevel, roleLevel}
 use Rattle.guard.specs.Tables.{noSession, noRole, noEntity, sessionAt, roleAt, entityAt, rightsOf}
 use Rattle.guard.specs.Sound.{sound}
-use Rattle.guard.specs.Upper.{firstSession, firstRole, firstEntity, upperSession, upperRole, upper}
+use Rattle.isolation.specs.Upper.{firstSession, firstRole, firstEntity, upperSession, upperRole, upper}
 use Rattle.guard.specs.declared.Role.{Role}
 use Rattle.guard.specs.declared.Tables.{Tables}
 use Rattle.guard.proofs.Laws.Rights.{contains-read, contains-write, contains-execute, contains-own}

@@ -24,7 +24,7 @@ use Rattle.guard.specs.Level.{roleCount, entityCount, sessionLevel, roleLevel, 
 use Rattle.guard.specs.Tables.{noSession, noRole, noEntity, sessionAt, roleAt, entityAt, holds, isReading, isWriting, rightsOf, rightsOn, hasRight, isChild, execute}
 use Rattle.guard.specs.Chain.{climbs, parentOf, reaches}
 use Rattle.guard.specs.Sound.{sound}
-use Rattle.guard.specs.Upper.{firstSession, firstRole, firstEntity, upperSession, upperRole, upper}
+use Rattle.isolation.specs.Upper.{firstSession, firstRole, firstEntity, upperSession, upperRole, upper}
 use Rattle.guard.specs.declared.Session.{Session}
 use Rattle.guard.specs.declared.Role.{Role}
 use Rattle.guard.specs.declared.Entity.{Entity}
