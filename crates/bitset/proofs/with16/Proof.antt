@@ -1,5 +1,6 @@
--- `bitset::with16` is `with`: the member has a place in the width. Assumes nothing.
+-- `bitset::with16` is `with`: the remainder has a place in the width. Assumes nothing.
 use borrow.Author.Needs.{needs}
+use native.Mathlib.Omega.{arith}
 use Rattle.bitset.proofs.Words.{with-code}
 use Rattle.bitset.proofs.with16.Statement.{statement}
 use Rattle.bitset.proofs.with16.Tie as tie
@@ -11,7 +12,7 @@ shl-result : tie.Need-shl-result
 shl-result c = search needs
 
 returns : tie.Need-returns
-returns c = with-code 16 _ _ (c .pre)
+returns c = with-code 16 _ _ (omega arith)
 
 pub with16-spec : {M : Type 1} → statement M
 with16-spec = tie.close (tie.spec cast-result shl-result returns)

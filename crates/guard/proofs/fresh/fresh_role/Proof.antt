@@ -1,5 +1,5 @@
 -- `fresh::fresh_role` gives the fresh role at a number. Assumes nothing.
-use Prim.Native.Nat.{_/_, _*_}
+use Prim.Native.Nat.{_/_, _%_, _*_}
 use mathlib.Core.Path.{_≡_}
 use native.Mathlib.Omega.{arith}
 use borrow.Author.Tests.{eq-eqb, ne-eqb}
@@ -22,7 +22,7 @@ with64-requires c κs = search needs
 returns : tie.Need-returns
 unfolding freshRole putIn contains with join
 returns c =
-    let e : c .before .before .args .r / 4 * 16 ≡ 16 * (c .before .before .args .r / 4) = omega arith in
+    let e : c .before .before .args .r / 4 * 16 % 64 ≡ 16 * (c .before .before .args .r / 4) = omega arith in
     rw (eq-eqb _ _ (c .before .if1 .taken), c .with64 .ensures, e)
 
 empty-requires : tie.Need-empty-requires

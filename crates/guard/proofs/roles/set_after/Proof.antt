@@ -1,5 +1,6 @@
 -- `set_after`: the entity goes in or out of a set that is named. Assumes nothing.
 use borrow.Author.Needs.{needs}
+use native.Mathlib.Nat.{mod-eq-of-lt}
 use borrow.Author.Tests.{not-true, not-false}
 use Rattle.guard.specs.Edits.{putIn}
 use Rattle.guard.specs.Private.Inside.{setAfter}
@@ -15,7 +16,7 @@ with64-requires c κs = search needs
 
 returns-2 : tie.Need-returns-2
 unfolding setAfter putIn
-returns-2 c = rw (not-false (c .before .before .before .args .named) (c .before .before .if1 .left), c .before .if2 .taken, c .with64 .ensures)
+returns-2 c = rw (not-false (c .before .before .before .args .named) (c .before .before .if1 .left), c .before .if2 .taken, c .with64 .ensures, mod-eq-of-lt (c .before .before .before .pre))
 
 without64-requires : tie.Need-without64-requires
 without64-requires c κs = search needs

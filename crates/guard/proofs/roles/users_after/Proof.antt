@@ -1,5 +1,6 @@
 -- `users_after`: list adds the user, unlist takes it away, and make leaves the list. Assumes nothing.
 use borrow.Author.Needs.{needs}
+use native.Mathlib.Nat.{mod-eq-of-lt}
 use borrow.Author.Tests.{eq-eqb, ne-eqb}
 use Rattle.guard.specs.Private.Inside.{usersAfter}
 use Rattle.guard.proofs.Ranges.{in-list}
@@ -7,11 +8,13 @@ use Rattle.guard.proofs.roles.users_after.Statement.{statement}
 use Rattle.guard.proofs.roles.users_after.Tie as tie
 
 with16-requires : tie.Need-with16-requires
-with16-requires c κs = in-list _ (c .before .before .pre) (c .if1 .taken) .2
+with16-requires c κs = search needs
 
 returns : tie.Need-returns
 unfolding usersAfter
-returns c = rw (eq-eqb _ _ (c .before .if1 .taken), c .with16 .ensures)
+returns c =
+    let one = c .before in
+    rw (eq-eqb _ _ (one .if1 .taken), c .with16 .ensures, mod-eq-of-lt (in-list _ (one .before .before .pre) (one .if1 .taken) .2))
 
 without16-requires : tie.Need-without16-requires
 without16-requires c κs = search needs

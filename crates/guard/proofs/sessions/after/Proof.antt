@@ -1,5 +1,6 @@
 -- `after` is the acting session after a request on it, by the request's number. Assumes nothing.
 use borrow.Author.Needs.{needs}
+use native.Mathlib.Nat.{mod-eq-of-lt}
 use lib.ListN.{List·getD-eq-default}
 use Rattle.guard.specs.Edits.{takeRole, openReading, openWriting, closeBoth}
 use Rattle.guard.specs.Private.Inside.{sessionAfter}
@@ -22,7 +23,7 @@ unfolding sessionAfter
 returns-2 c = rw (c .before .match .keys2, c .empty .ensures)
 
 with16-requires : tie.Need-with16-requires
-with16-requires c κs = in-take _ (c .before .pre) (c .match .keys3) .1
+with16-requires c κs = search needs
 
 dropped-requires : tie.Need-dropped-requires
 dropped-requires c κs = search needs
@@ -32,10 +33,10 @@ unfolding sessionAfter
 returns-3 c = rw (c .before .match .keys4, c .dropped .ensures)
 
 with64-requires : tie.Need-with64-requires
-with64-requires c κs = in-openr _ (c .before .pre) (c .match .keys5) .1
+with64-requires c κs = search needs
 
 with64-requires-2 : tie.Need-with64-requires-2
-with64-requires-2 c κs = in-openw _ (c .before .pre) (c .match .keys6) .1
+with64-requires-2 c κs = search needs
 
 closed-requires : tie.Need-closed-requires
 closed-requires c κs = search needs
@@ -46,15 +47,15 @@ returns-4 c = rw (List·getD-eq-default _ (closeBoth _ _) (past-five _ (c .befor
 
 returns-5 : tie.Need-returns-5
 unfolding sessionAfter takeRole
-returns-5 c = rw (c .before .match .keys3, c .with16 .ensures)
+returns-5 c = let m = c .before in rw (m .match .keys3, c .with16 .ensures, mod-eq-of-lt (in-take _ (m .before .pre) (m .match .keys3) .1))
 
 returns-6 : tie.Need-returns-6
 unfolding sessionAfter openReading
-returns-6 c = rw (c .before .match .keys5, c .with64 .ensures)
+returns-6 c = let m = c .before in rw (m .match .keys5, c .with64 .ensures, mod-eq-of-lt (in-openr _ (m .before .pre) (m .match .keys5) .1))
 
 returns-7 : tie.Need-returns-7
 unfolding sessionAfter openWriting
-returns-7 c = rw (c .before .match .keys6, c .with642 .ensures)
+returns-7 c = let m = c .before in rw (m .match .keys6, c .with642 .ensures, mod-eq-of-lt (in-openw _ (m .before .pre) (m .match .keys6) .1))
 
 pub after-spec : {M : Type 1} → statement M
 after-spec =
