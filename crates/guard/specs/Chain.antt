@@ -8,8 +8,8 @@ use Rattle.guard.specs.Tables.{entityAt, hasRight, execute}
 use Rattle.guard.specs.declared.Tables.{Tables}
 
 -- The chain of parents from e ends at the root within n steps, and p holds of each container on it above e, up to and
--- with the root; for a root there is none above. (proofs/Laws/Chain: this is the paper's chain, of any
--- number of steps.)
+-- with the root; for a root there is none above. (proofs/Laws/Sound/Chains: in sound tables this
+-- is the paper's chain, of any number of steps.)
 unfoldable pub climbs : (ℕ → ℕ) → (ℕ → Bool) → ℕ → ℕ → Bool
 climbs parent p zero e = isRoot e
 climbs parent p (suc n) e = either (isRoot e) (every (p (parent e) ∷ climbs parent p n (parent e) ∷ []))

@@ -11,7 +11,11 @@ use Rattle.guard.specs.Tables.{noSession, noRole, noEntity, container, r
 use Rattle.guard.specs.Sound.{topName}
 use Rattle.guard.specs.Edits.{atSession, atRole, atEntity, eachSession, eachRole, takeRole, dropRole, openReading, openWriting, closeBoth, addRights, removeRights, clearRights, listUser, unlistUser, renameTo, madeRole}
 use Rattle.guard.specs.Refusals.{Refusal, _when_}
-use Rattle.guard.specs.Conditions.{labelAsked, seatLive, userTooLow, seatDead, parentNoContainer, entityBelowSeat, seatBelowEntity, createOutOfLevel, grantBelow, seatBelowRole, labelBelowEntity, labelsDiffer, labelBelowParent, userUnlisted, roleNotHeld, keeperNotHeld, cannotOpen, cannotChangeIn, notOwned, roleHeld, openForReading, openForWriting, userListed, notOpen, userNotListed, entityDead, parentDead, roleDead, entityLive, roleLive, nameTaken, hasChildren, recordedParent}
+use Rattle.guard.specs.Conditions.{labelAsked, seatLive, userTooLow, seatDead, parentNoContainer, recordedParent}
+use Rattle.guard.specs.Conditions.{entityBelowSeat, seatBelowEntity, createOutOfLevel, grantBelow, seatBelowRole, labelBelowEntity, labelsDiffer, labelBelowParent}
+use Rattle.guard.specs.Conditions.{userUnlisted, roleNotHeld, keeperNotHeld, cannotOpen, cannotChangeIn, notOwned}
+use Rattle.guard.specs.Conditions.{roleHeld, openForReading, openForWriting, userListed, notOpen, userNotListed}
+use Rattle.guard.specs.Conditions.{entityDead, parentDead, roleDead, entityLive, roleLive, nameTaken, hasChildren}
 use Rattle.guard.specs.declared.Session.{Session}
 use Rattle.guard.specs.declared.Entity.{Entity}
 use Rattle.guard.specs.declared.Tables.{Tables}

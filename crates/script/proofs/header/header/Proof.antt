@@ -1,8 +1,11 @@
 -- `script::header::header` meets its contract. The loop's invariant: the names so far, and the set of those seen. The measure
 -- is what is left of the line. Assumes nothing.
 use Prim.Native.Nat.{_-_}
+use mathlib.Core.Path.{_≡_, ap, _∙_}
+use native.Mathlib.Nat.{mod-eq-of-lt}
 use lib.ListN.{length}
 use borrow.Author.Needs.{needs}
+use Rattle.bitset.specs.Sets.{with}
 use Rattle.script.proofs.ValuesInTurn.{part-length}
 use Rattle.script.proofs.HeaderLoop.{Seen, seen-start, seen-more, seen-end, seen-over, name-fits}
 use Rattle.script.proofs.header.header.Statement.{statement}
@@ -42,7 +45,11 @@ cast-with16 : tie.Need-cast-with16 Inv-loop μ-loop
 cast-with16 c = search needs
 
 with16-requires : tie.Need-with16-requires Inv-loop μ-loop
-with16-requires c κs = name-fits _ _ (c .name-at .ensures)
+with16-requires c κs = search needs
+
+-- a name's place is below sixteen
+added : (c : tie.After-with16 Inv-loop μ-loop) → c .with16 .result ≡ with (c .before .before .before .before .before .loop .seen) (c .before .name-at .result)
+added c = c .with16 .ensures ∙ ap (with _) (mod-eq-of-lt (name-fits _ _ (c .before .name-at .ensures)))
 
 add-j : tie.Need-add-j Inv-loop μ-loop
 add-j c = search needs
@@ -57,7 +64,7 @@ returns c =
     let at-name-at = at-with16 .before in
     let at-find = at-name-at .before .before in
     let at-loop = at-find .before .before in
-    seen-end (at-loop .loop .inv) (at-find .find .ensures) (at-name-at .name-at .ensures) (at-with16 .with16 .ensures) (at-if1 .if1 .taken) _ (c .contains16 .ensures)
+    seen-end (at-loop .loop .inv) (at-find .find .ensures) (at-name-at .name-at .ensures) (added at-with16) (at-if1 .if1 .taken) _ (c .contains16 .ensures)
 
 returns-2 : tie.Need-returns-2 Inv-loop μ-loop
 returns-2 c =
@@ -66,7 +73,7 @@ returns-2 c =
     let at-name-at = at-with16 .before in
     let at-find = at-name-at .before .before in
     let at-loop = at-find .before .before in
-    seen-over (at-loop .loop .inv) (at-find .find .ensures) (at-name-at .name-at .ensures) (at-with16 .with16 .ensures) (at-if1 .if1 .left) (c .if2 .taken)
+    seen-over (at-loop .loop .inv) (at-find .find .ensures) (at-name-at .name-at .ensures) (added at-with16) (at-if1 .if1 .left) (c .if2 .taken)
 
 add-from : tie.Need-add-from Inv-loop μ-loop
 add-from c = search needs
@@ -84,7 +91,7 @@ loop-again c =
     let at-name-at = at-with16 .before in
     let at-find = at-name-at .before .before in
     let at-loop = at-find .before .before in
-    seen-more (at-loop .loop .inv) (at-find .find .ensures) (at-name-at .name-at .ensures) (at-with16 .with16 .ensures) (at-if1 .if1 .left) (c .if2 .left)
+    seen-more (at-loop .loop .inv) (at-find .find .ensures) (at-name-at .name-at .ensures) (added at-with16) (at-if1 .if1 .left) (c .if2 .left)
 
 pub header-spec : {M : Type 1} → statement M
 header-spec =

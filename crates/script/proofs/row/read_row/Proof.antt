@@ -1,10 +1,13 @@
 -- `script::row::read_row` meets its contract. The loop's invariant: the numbers so far stand under their names. The measure is
 -- what is left of the slice. Assumes nothing.
 use Prim.Native.Nat.{_-_}
+use mathlib.Core.Path.{ap, _∙_}
+use native.Mathlib.Nat.{mod-eq-of-lt}
 use native.Mathlib.Omega.{arith}
 use lib.ListN.{length}
 use borrow.Author.Needs.{needs}
 use borrow.Author.Tests.{not-true, not-false}
+use Rattle.bitset.specs.Sets.{with}
 use Rattle.script.proofs.RowLoop.{Filled, filled-start, row-other, row-over}
 use Rattle.script.proofs.RowStores.{filled-number, filled-dash, row-number, row-dash, filled-slice, found-slice, found-less, filled-skip}
 use Rattle.script.proofs.row.read_row.Statement.{statement}
@@ -73,7 +76,7 @@ returns-2 c =
     let at-if4 = at-with16 .before in
     let at-code-at = at-if4 .before .before in
     let at-loop = at-code-at .before .before .before .before in
-    row-number (at-loop .loop .inv) (at-code-at .code-at .ensures) (at-if4 .if4 .taken) (at-with16 .with16 .ensures) (not-true _ (c .if5 .taken)) (omega arith)
+    row-number (at-loop .loop .inv) (at-code-at .code-at .ensures) (at-if4 .if4 .taken) (at-with16 .with16 .ensures ∙ ap (with _) (mod-eq-of-lt (omega arith))) (not-true _ (c .if5 .taken)) (omega arith)
 
 add-from-2 : tie.Need-add-from-2 Inv-loop μ-loop
 add-from-2 c =
@@ -93,7 +96,7 @@ loop-again-2 c =
     let at-if4 = at-with16 .before in
     let at-code-at = at-if4 .before .before in
     let at-loop = at-code-at .before .before .before .before in
-    filled-number (at-loop .loop .inv) (at-code-at .code-at .ensures) (at-if4 .if4 .taken) (at-with16 .with16 .ensures) (not-false _ (c .if5 .left)) (omega arith)
+    filled-number (at-loop .loop .inv) (at-code-at .code-at .ensures) (at-if4 .if4 .taken) (at-with16 .with16 .ensures ∙ ap (with _) (mod-eq-of-lt (omega arith))) (not-false _ (c .if5 .left)) (omega arith)
 
 end-of-requires-2 : tie.Need-end-of-requires-2 Inv-loop μ-loop
 end-of-requires-2 c κs =
