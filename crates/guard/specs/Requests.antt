@@ -204,17 +204,20 @@ revoke =
     }
 
 -- list, unlist (x, role, user): 7, 10, 12, 16. Seats that hold the role keep it.
+abbrev pub listRefusals : (Tables → Request → Bool) → Tables → Request → List Refusal
+listRefusals already t q =
+    5 when seatDead t q
+    ∷ 7 when roleDead t q
+    ∷ 10 when seatBelowRole t q
+    ∷ 12 when keeperNotHeld t q
+    ∷ 16 when already t q
+    ∷ []
+
 unfoldable pub list : Rule
 list =
     record {
       uses = seat ∷ role ∷ user ∷ [];
-      refusals = λ t q.
-          5 when seatDead t q
-          ∷ 7 when roleDead t q
-          ∷ 10 when seatBelowRole t q
-          ∷ 12 when keeperNotHeld t q
-          ∷ 16 when userListed t q
-          ∷ [];
+      refusals = listRefusals userListed;
       effect = λ q. atRole (q .role) (listUser (q .user));
     }
 
@@ -222,13 +225,7 @@ unfoldable pub unlist : Rule
 unlist =
     record {
       uses = seat ∷ role ∷ user ∷ [];
-      refusals = λ t q.
-          5 when seatDead t q
-          ∷ 7 when roleDead t q
-          ∷ 10 when seatBelowRole t q
-          ∷ 12 when keeperNotHeld t q
-          ∷ 16 when userNotListed t q
-          ∷ [];
+      refusals = listRefusals userNotListed;
       effect = λ q. atRole (q .role) (unlistUser (q .user));
     }
 
