@@ -13,11 +13,18 @@ use crate::Label;
 use crate::Session;
 use crate::User;
 use crate::labels;
+use crate::sizes::CONTAINER;
 use crate::sizes::ENTITIES;
+use crate::sizes::LEVEL_ENTITIES;
+use crate::sizes::TOP_LEVEL;
 use crate::sizes::USERS;
 
-// The count as the loop has it that hands a number on.
+// Counts as the fields have them, and how many entities a level has.
+const USER_COUNT: u8 = USERS as u8;
+
 const ENTITY_COUNT: u8 = ENTITIES as u8;
+
+const LEVEL: u8 = LEVEL_ENTITIES as u8;
 
 fn is_no_label(a: Label) -> bool
     ensures { λ r. ⌜ r ≡ sameLabel a noLabel ⌝ }
@@ -28,7 +35,7 @@ fn is_no_label(a: Label) -> bool
 fn user_in_range(u: User) -> bool
     ensures { λ r. ⌜ r ≡ userInRange u ⌝ }
 {
-    (u.ceiling <= 3) & labels::in_range(u.clearance)
+    (u.ceiling <= TOP_LEVEL) & labels::in_range(u.clearance)
 }
 
 pub fn users_in_range(users: [User; USERS]) -> bool
@@ -47,7 +54,7 @@ pub fn users_in_range(users: [User; USERS]) -> bool
 pub fn session_in_range(s: Session) -> bool
     ensures { λ r. ⌜ r ≡ sessionInRange s ⌝ }
 {
-    (s.user < 16) & labels::in_range(s.label)
+    (s.user < USER_COUNT) & labels::in_range(s.label)
 }
 
 pub fn is_empty_session(s: Session) -> bool
@@ -60,13 +67,13 @@ pub fn is_empty_session(s: Session) -> bool
 fn entity_in_range(n: Entity) -> bool
     ensures { λ r. ⌜ r ≡ entityInRange n ⌝ }
 {
-    (n.kind <= 1) & ((n.parent < 64) & labels::in_range(n.label))
+    (n.kind <= CONTAINER) & ((n.parent < ENTITY_COUNT) & labels::in_range(n.label))
 }
 
 fn is_root_record(e: u8, n: Entity) -> bool
     ensures { λ r. ⌜ r ≡ isRootRecord e n ⌝ }
 {
-    n.live & ((n.kind == 1) & (is_no_label(n.label) & ((n.name == 0) & (n.parent == e))))
+    n.live & ((n.kind == CONTAINER) & (is_no_label(n.label) & ((n.name == 0) & (n.parent == e))))
 }
 
 fn is_empty_entity(n: Entity) -> bool
@@ -79,7 +86,9 @@ fn is_empty_entity(n: Entity) -> bool
 fn fits_in(e: u8, n: Entity, p: Entity) -> bool
     ensures { λ r. ⌜ r ≡ fits e n p ⌝ }
 {
-    p.live & ((p.kind == 1) & ((n.parent / 16 == e / 16) & labels::dominates(n.label, p.label)))
+    p.live
+        & ((p.kind == CONTAINER)
+            & ((n.parent / LEVEL == e / LEVEL) & labels::dominates(n.label, p.label)))
 }
 
 // Whether the entity `e`, whose record is `n` and whose parent's is `p`, is as soundness asks, but for its name among its
@@ -89,9 +98,9 @@ fn entity_ok(e: u8, n: Entity, p: Entity) -> bool
     ensures { λ r. ⌜ r ≡ entityTest e n p ⌝ }
 {
     if !n.live {
-        return (e % 16 != 0) & is_empty_entity(n);
+        return (e % LEVEL != 0) & is_empty_entity(n);
     }
-    if e % 16 == 0 {
+    if e % LEVEL == 0 {
         return is_root_record(e, n);
     }
     entity_in_range(n) & ((1 <= n.name) & fits_in(e, n, p))

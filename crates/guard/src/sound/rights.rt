@@ -12,8 +12,10 @@ use crate::Role;
 use crate::sizes::LEVEL_ROLES;
 use crate::sizes::ROLES;
 
-// The count as the loop has it that hands a number on.
+// The count as the loop has it that hands a number on, and how many roles a level has.
 const ROLE_COUNT: u8 = ROLES as u8;
+
+const LEVEL: u8 = LEVEL_ROLES as u8;
 
 // What is found of the roles: whether each is as soundness asks, and if so the set of those that are live.
 pub struct Roles {
@@ -32,7 +34,7 @@ fn bound(live: bool, set: u64) -> u64
 fn role_ok(set: u64, r: u8, p: Role) -> bool
     ensures { λ ok. ⌜ ok ≡ roleTest (has set) r p ⌝ }
 {
-    if !p.live & ((r % 4 == 0) | (p.users != 0)) {
+    if !p.live & ((r % LEVEL == 0) | (p.users != 0)) {
         return false;
     }
     bitset::contains64(bound(p.live, set), p.reads | p.writes | p.executes | p.owns)
