@@ -18,7 +18,7 @@ pub const UNUSED: Request = Request {
     parent: MOST,
     kind: MOST,
     name: MOST,
-    level: MOST,
+    grade: MOST,
     cats: MOST,
     rights: MOST,
 };
@@ -35,7 +35,7 @@ pub fn with(mut q: Request, field: u64, n: u32) -> Request {
         5 => q.parent = n,
         6 => q.kind = n,
         7 => q.name = n,
-        8 => q.level = n,
+        8 => q.grade = n,
         9 => q.cats = n,
         _ => q.rights = n,
     }
@@ -52,7 +52,7 @@ pub fn field(q: Request, n: usize) -> u32 {
         5 => q.parent,
         6 => q.kind,
         7 => q.name,
-        8 => q.level,
+        8 => q.grade,
         9 => q.cats,
         _ => q.rights,
     }
@@ -116,7 +116,7 @@ pub fn read(s: &[u8], from: usize) -> Asked {
 fn by_method(t: Tables, q: Request) -> Outcome {
     let call = q.call;
     match call {
-        0 => t.login(q.seat, q.user, q.level, q.cats),
+        0 => t.login(q.seat, q.user, q.grade, q.cats),
         1 => t.logout(q.seat),
         2 => t.take(q.seat, q.role),
         3 => t.drop(q.seat, q.role),
@@ -129,7 +129,7 @@ fn by_method(t: Tables, q: Request) -> Outcome {
             q.kind,
             q.parent,
             q.name,
-            q.level,
+            q.grade,
             q.cats,
             q.role,
         ),

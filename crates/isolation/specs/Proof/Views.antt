@@ -59,6 +59,12 @@ pub record Same (L : ℕ) (t u : Tables) : Type 0 where
   pub roles : seen (upperRole L) (firstRole L) (t .roles) ≡ seen (upperRole L) (firstRole L) (u .roles)
   pub entities : seen (λ e. e) (firstEntity L) (t .entities) ≡ seen (λ e. e) (firstEntity L) (u .entities)
 
+pub of-same : (L : ℕ) (t u : Tables) → Same L t u → upper L t ≡ upper L u
+unfolding upper
+of-same L t u e =
+    let whole : drop (firstEntity L) (t .entities) ≡ drop (firstEntity L) (u .entities) = simp map-whole at (e .entities) in
+    λ i. record { users = e .users i; sessions = e .sessions i; roles = e .roles i; entities = whole i }
+
 pub same-of : (L : ℕ) (t u : Tables) → upper L t ≡ upper L u → Same L t u
 unfolding upper
 same-of L t u e =
@@ -68,12 +74,6 @@ same-of L t u e =
       roles = ap (λ (v : Tables). v .roles) e;
       entities = ap (λ (v : Tables). map (λ e. e) (v .entities)) e;
     }
-
-pub of-same : (L : ℕ) (t u : Tables) → Same L t u → upper L t ≡ upper L u
-unfolding upper
-of-same L t u e =
-    let whole : drop (firstEntity L) (t .entities) ≡ drop (firstEntity L) (u .entities) = simp map-whole at (e .entities) in
-    λ i. record { users = e .users i; sessions = e .sessions i; roles = e .roles i; entities = whole i }
 
 -- a role's rights on an upper entity, read off the role's upper part
 pub upper-rights : (L : ℕ) (p : Role) (e : ℕ) → firstEntity L ≤ e → rightsOf (upperRole L p) (e - firstEntity L) ≡ rightsOf p e
