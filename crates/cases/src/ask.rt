@@ -23,7 +23,7 @@ pub const UNUSED: Request = Request {
     rights: MOST,
 };
 
-// Fields by number, in the order of the record: call 0, seat 1, user 2, role 3, entity 4, parent 5, kind 6, name 7, level
+// Fields by number, in the order of the record: call 0, seat 1, user 2, role 3, entity 4, parent 5, kind 6, name 7, grade
 // 8, cats 9, rights 10.
 pub fn with(mut q: Request, field: u64, n: u32) -> Request {
     match field {
@@ -61,10 +61,10 @@ pub fn field(q: Request, n: usize) -> u32 {
 // The fields that the numbers behind a request's word fill, one hexadecimal digit for each, from the last digit on.
 fn fields(call: u32) -> u64 {
     match call {
-        0 => 0x9821, // login: seat, user, level, cats
+        0 => 0x9821, // login: seat, user, grade, cats
         2 | 3 | 14 | 15 => 0x31, // take, drop, make, unmake: seat, role
         4 | 5 | 6 | 8 => 0x41, // openr, openw, close, delete: seat, entity
-        7 => 0x39875641, // create: seat, entity, kind, parent, name, level, cats, role
+        7 => 0x39875641, // create: seat, entity, kind, parent, name, grade, cats, role
         9 => 0x741, // rename: seat, entity, name
         10 | 11 => 0xa431, // grant, revoke: seat, role, entity, rights
         12 | 13 => 0x231, // list, unlist: seat, role, user

@@ -17,7 +17,7 @@ fn past(field: u64) -> u32 {
     }
 }
 
-// The answers with one field past its range, or at the last number: seat, user, role, entity, parent, kind, name, level,
+// The answers with one field past its range, or at the last number: seat, user, role, entity, parent, kind, name, grade,
 // cats, rights.
 fn each(t: Tables, q: Request, most: bool) {
     let mut field = 1u64;

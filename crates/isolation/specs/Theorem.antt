@@ -1,5 +1,5 @@
 -- The isolation rule: demand 3, whole, as one statement on all pairs of logs. (The field's word: noninterference.)
--- It is stated over guard's definitions alone: sound (Sound), run (Step), sameRequests (SameRequest), upper, upperRequests,
+-- It is stated over definitions alone: sound, run, sameRequests (guard/specs: Sound, Step, SameRequest) and upper, upperRequests,
 -- upperAnswers (Upper). UpperInWords says what equal upper parts are, sentence by sentence.
 -- The bounds of L are the paper's: the proof needs none. Assumes nothing.
 use Prim.Native.Nat.{ℕ, _≤_}

@@ -1,4 +1,4 @@
--- The upper part for a level L, in the paper's words. `upper` (guard/specs/Upper) cuts lists and sets off at L and compares them by
+-- The upper part for a level L, in the paper's words. `upper` (Upper) cuts lists and sets off at L and compares them by
 -- one equation; here the same stands sentence by sentence. That the two say the same is `upper-iff` (Proof/UpperInWords).
 use Prim.Native.Nat.{ℕ, _≤_}
 use mathlib.Core.Path.{_≡_}

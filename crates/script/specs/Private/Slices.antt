@@ -1,4 +1,4 @@
--- Words on slices.
+-- Words on slices, in which the contracts of private functions are put.
 --     before, leading     what stands before a byte; the first value of the first line
 --     written, Put        a store into a slice
 --     Numbered            a number with its digits, as line numbers are counted up
