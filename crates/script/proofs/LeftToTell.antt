@@ -78,10 +78,22 @@ by-test : (t : Bool) (v w : List ℕ) (b c : Bench)
 by-test true v w b c = refl
 by-test false v w b c = refl
 
+-- what is printed below the heading of lines, the first of which has the names
+abbrev belowHeading : List (List ℕ) → Told
+belowHeading ls = record { text = below ls; bench = closing ls }
+
+below-first : (h : List ℕ) (ls : List (List ℕ))
+    → belowHeading (h ∷ ls) ≡ cond (isNames (values h)) (record { text = answered (values h) firstBench 2 ls; bench = finally (values h) firstBench ls }) refused
+unfolding below closing
+below-first h ls = by-test (isNames (values h)) _ _ _ _
+
+first-line : (s : List ℕ) → 0 < length s → take lastLine (lines s) ≡ before 10 s ∷ take (lastLine - 1) (lines (after 10 s))
+first-line s l = rw (lines-first s l)
+
 pub names-on : (s : List ℕ) → 0 < length s
     → fromNames s ≡ cond (isNames (values (before 10 s))) (fromLine (values (before 10 s)) firstBench 1 (after 10 s)) refused
-unfolding fromNames fromLine below closing
-names-on s l = rw (lines-first s l) (by-test (isNames (values (before 10 s))) _ _ _ _)
+unfolding fromNames fromLine
+names-on s l = ap belowHeading (first-line s l) ∙ below-first (before 10 s) (take (lastLine - 1) (lines (after 10 s)))
 
 names-none : fromNames [] ≡ refused
 unfolding fromNames below closing lines
