@@ -13,14 +13,16 @@ ghost use mathlib.Core.List.{[], _∷_};
 ghost use lib.Dec.{ltb, eqb};
 ghost use Rattle.bitset.specs.Tests.{either};
 ghost use Rattle.bitset.specs.Sets.{has};
-ghost use Rattle.guard.specs.Level.{roleLevel, entityLevel, isRoot};
-ghost use Rattle.guard.specs.Label.{dominates};
+ghost use Rattle.guard.specs.Sound.{topName};
+ghost use Rattle.guard.specs.Level.{roleLevel, entityLevel, isRoot, entityCount};
+ghost use Rattle.guard.specs.Label.{dominates, allCategories, topGrade};
 ghost use Rattle.guard.specs.Tables.{container, noEntity};
 ghost use Rattle.guard.specs.Edits.{renameTo};
 ghost use Rattle.guard.specs.Refusals.{first, _when_};
 ghost use Rattle.guard.specs.Conditions.{labelAsked};
 ghost use Rattle.guard.specs.Requests.{created};
 ghost use Rattle.guard.specs.Step.{inRanges};
+ghost use Rattle.guard.specs.Kind as kind;
 ghost use Rattle.guard.specs.Private.Inside.{entityAfter};
 
 // The refusals of create up to 9: what has to be there, and what not.
@@ -44,7 +46,7 @@ fn create_refusal_to_9(v: View) -> u8
 
 // Those from 10 on.
 fn create_refusal_from_10(q: Request, v: View) -> u8
-    requires { ⌜ (q .grade ≤ 3) × (q .cats ≤ 255) ⌝ }
+    requires { ⌜ (q .grade ≤ topGrade) × (q .cats ≤ allCategories) ⌝ }
     ensures { λ n. ⌜ n ≡ first (10 when either (not (eqb (entityLevel (q .entity)) (entityLevel (q .parent)))) (ltb (roleLevel (q .role)) (entityLevel (q .entity))) ∷ 11 when not (dominates (labelAsked q) (v .parent .label)) ∷ 12 when not (has (v .session .roles) (q .role)) ∷ 13 when either (not (has (v .session .writing) (q .parent))) (not (has (v .found .rights .executes) (q .parent))) ∷ 14 when v .found .child ∷ []) ⌝ }
 {
     if (q.entity / sizes::LEVEL_ENTITIES != q.parent / sizes::LEVEL_ENTITIES)
@@ -71,7 +73,7 @@ fn create_refusal_from_10(q: Request, v: View) -> u8
 }
 
 pub fn create_refusal(q: Request, v: View) -> u8
-    requires { ⌜ (q .grade ≤ 3) × (q .cats ≤ 255) ⌝ }
+    requires { ⌜ (q .grade ≤ topGrade) × (q .cats ≤ allCategories) ⌝ }
     ensures { λ n. ⌜ n ≡ first (5 when not (v .session .live) ∷ 7 when either (not (v .parent .live)) (not (v .live)) ∷ 8 when v .entity .live ∷ 9 when not (eqb (v .parent .kind) container) ∷ 10 when either (not (eqb (entityLevel (q .entity)) (entityLevel (q .parent)))) (ltb (roleLevel (q .role)) (entityLevel (q .entity))) ∷ 11 when not (dominates (labelAsked q) (v .parent .label)) ∷ 12 when not (has (v .session .roles) (q .role)) ∷ 13 when either (not (has (v .session .writing) (q .parent))) (not (has (v .found .rights .executes) (q .parent))) ∷ 14 when v .found .child ∷ []) ⌝ }
 {
     let n = create_refusal_to_9(v);
@@ -107,7 +109,7 @@ pub fn change_refusal(q: Request, v: View, last: u8) -> u8
 
 // The entity that a create makes.
 fn made(q: Request) -> Entity
-    requires { ⌜ (q .kind ≤ 1) × (q .parent < 64) × (q .name ≤ 65535) × (q .grade ≤ 3) × (q .cats ≤ 255) ⌝ }
+    requires { ⌜ (q .kind ≤ container) × (q .parent < entityCount) × (q .name ≤ topName) × (q .grade ≤ topGrade) × (q .cats ≤ allCategories) ⌝ }
     ensures { λ n. ⌜ n ≡ created q ⌝ }
 {
     let label = labels::made(q.grade, q.cats);
@@ -121,7 +123,7 @@ fn made(q: Request) -> Entity
 }
 
 fn renamed(name: u32, f: Entity) -> Entity
-    requires { ⌜ name ≤ 65535 ⌝ }
+    requires { ⌜ name ≤ topName ⌝ }
     ensures { λ n. ⌜ n ≡ renameTo name f ⌝ }
 {
     let mut n = f;
@@ -144,7 +146,7 @@ pub fn empty() -> Entity
 
 // Entity `f` after a create, a delete or a rename.
 pub fn after(q: Request, f: Entity) -> Entity
-    requires { ⌜ (7 ≤ q .call) × (q .call ≤ 9) × (inRanges q ≡ true) ⌝ }
+    requires { ⌜ (kind.create ≤ q .call) × (q .call ≤ kind.rename) × (inRanges q ≡ true) ⌝ }
     ensures { λ n. ⌜ n ≡ entityAfter q f ⌝ }
 {
     if q.call == kinds::CREATE {

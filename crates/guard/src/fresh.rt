@@ -18,13 +18,14 @@ use crate::sizes::USERS;
 use crate::sound::record;
 ghost use mathlib.Core.Path.{_≡_};
 ghost use Prim.Native.Nat.{_<_};
+ghost use Rattle.guard.specs.Level.{entityCount, roleCount};
 ghost use Rattle.guard.specs.Fresh.{freshRole, freshEntity, tabulate, fresh, build};
 
 // How many roles a level has, as an index.
 const LEVEL: usize = LEVEL_ROLES as usize;
 
 fn fresh_role(r: usize) -> Role
-    requires { ⌜ r < 16 ⌝ }
+    requires { ⌜ r < roleCount ⌝ }
     ensures { λ p. ⌜ p ≡ freshRole r ⌝ }
 {
     if r % LEVEL == 0 {
@@ -42,7 +43,7 @@ fn fresh_role(r: usize) -> Role
 }
 
 fn fresh_entity(e: usize) -> Entity
-    requires { ⌜ e < 64 ⌝ }
+    requires { ⌜ e < entityCount ⌝ }
     ensures { λ n. ⌜ n ≡ freshEntity e ⌝ }
 {
     if e % BLOCK == 0 {

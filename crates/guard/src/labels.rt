@@ -3,7 +3,7 @@ use crate::Label;
 use crate::sizes::TOP_GRADE;
 ghost use Prim.Native.Nat.{_≤_};
 ghost use mathlib.Core.Path.{_≡_};
-ghost use Rattle.guard.specs.Label.{labelInRange, dominates as dominatesOf, sameLabel, label};
+ghost use Rattle.guard.specs.Label.{labelInRange, dominates as dominatesOf, sameLabel, label, allCategories, topGrade};
 
 // Whether `a`'s grade is at least `b`'s and `a`'s set contains `b`'s.
 pub fn dominates(a: Label, b: Label) -> bool
@@ -28,8 +28,8 @@ pub fn in_range(a: Label) -> bool
 
 // The label asked for, in a host's wider numbers.
 pub fn made(grade: u32, cats: u32) -> Label
-    requires { ⌜ grade ≤ 3 ⌝ }
-    requires { ⌜ cats ≤ 255 ⌝ }
+    requires { ⌜ grade ≤ topGrade ⌝ }
+    requires { ⌜ cats ≤ allCategories ⌝ }
     ensures { λ r. ⌜ r ≡ label grade cats ⌝ }
 {
     Label {

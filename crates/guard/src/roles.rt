@@ -12,8 +12,8 @@ ghost use mathlib.Core.List.{[], _∷_, map};
 ghost use lib.Dec.{ltb};
 ghost use Rattle.bitset.specs.Tests.{either};
 ghost use Rattle.bitset.specs.Sets.{has};
-ghost use Rattle.guard.specs.Level.{sessionLevel, roleLevel, entityLevel, keeperOf, isKeeper};
-ghost use Rattle.guard.specs.Tables.{noRole};
+ghost use Rattle.guard.specs.Level.{sessionLevel, roleLevel, entityLevel, keeperOf, isKeeper, entityCount};
+ghost use Rattle.guard.specs.Tables.{noRole, allRights};
 ghost use Rattle.guard.specs.Edits.{clearRights};
 ghost use Rattle.guard.specs.Refusals.{first, _when_};
 ghost use Rattle.guard.specs.Step.{inRanges};
@@ -116,7 +116,7 @@ fn users_after(q: Request, users: u16) -> u16
 
 // The entities of one right, after it is given or taken away where it is named.
 fn set_after(given: bool, named: bool, e: u32, set: u64) -> u64
-    requires { ⌜ e < 64 ⌝ }
+    requires { ⌜ e < entityCount ⌝ }
     ensures { λ n. ⌜ n ≡ setAfter given named e set ⌝ }
 {
     if !named {
@@ -130,7 +130,7 @@ fn set_after(given: bool, named: bool, e: u32, set: u64) -> u64
 
 // Role `p` after a grant or a revoke of the rights named.
 fn granted(given: bool, rights: u32, e: u32, p: Role) -> Role
-    requires { ⌜ (rights ≤ 15) × (e < 64) ⌝ }
+    requires { ⌜ (rights ≤ allRights) × (e < entityCount) ⌝ }
     ensures { λ n. ⌜ n ≡ grantedAfter given rights e p ⌝ }
 {
     let named = rights as u8;
@@ -183,7 +183,7 @@ pub fn after(q: Request, p: Role) -> Role
 
 // Role `p` with own on entity `e`, as the role named at a create gains it.
 pub fn owning(e: u32, p: Role) -> Role
-    requires { ⌜ e < 64 ⌝ }
+    requires { ⌜ e < entityCount ⌝ }
     ensures { λ n. ⌜ n ≡ owningOf e p ⌝ }
 {
     let mut n = p;

@@ -1,14 +1,12 @@
 // Requests as rows of numbers, in the order of the record's fields, and their answers as bytes.
 use crate::Request;
+use crate::sizes::ROW;
 ghost use Prim.Native.Nat.{_+_, _*_, _≤_};
 ghost use mathlib.Core.Path.{_≡_};
 ghost use mathlib.Core.List.{_++_};
 ghost use lib.ListN.{length, drop, replicate};
 ghost use Rattle.guard.specs.Batch.{rowLength, requestAt, batchLength};
 ghost use Rattle.guard.specs.Private.Inside.{rowOf};
-
-// How many numbers a row has.
-pub const ROW: usize = 11;
 
 // As many requests as stand whole in so many numbers and have room for their answers.
 pub fn count(numbers: usize, room: usize) -> usize

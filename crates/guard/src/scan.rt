@@ -11,10 +11,11 @@ use crate::sizes::ENTITY_END;
 use crate::sizes::LEVEL_ENTITIES;
 use crate::sizes::ROLES;
 use crate::sound::tree::NAMES;
-ghost use Prim.Native.Nat.{_<_};
+ghost use Prim.Native.Nat.{_*_, _<_};
 ghost use mathlib.Core.Path.{_≡_};
 ghost use lib.ListN.{length};
 ghost use Rattle.bitset.specs.Sets.{has};
+ghost use Rattle.guard.specs.Level.{entityCount, roleCount};
 ghost use Rattle.guard.specs.Private.Scan.{Grants, Granted, Cleared, Gathered, climbsBy, reachedBy, nameBy, childBy, kinBy, foundNothing, FoundBy};
 
 // A role has four sets, one for each right; how many the column of the roles has.
@@ -63,7 +64,7 @@ fn column(roles: [Role; ROLES]) -> [u64; GRANTS]
 
 // The sets of role `r`.
 pub fn put(grants: &mut [u64; GRANTS], r: usize, p: Role) -> usize
-    requires { ⌜ (r < 16) × (length (now grants) ≡ 64) ⌝ }
+    requires { ⌜ (r < roleCount) × (length (now grants) ≡ 4 * roleCount) ⌝ }
     ensures { λ n. ⌜ Granted (now (grants .entry)) r p (now (grants .exit)) ⌝ }
 {
     let b = SETS * r;
@@ -76,7 +77,7 @@ pub fn put(grants: &mut [u64; GRANTS], r: usize, p: Role) -> usize
 
 // A deleted entity goes from every set.
 pub fn clear(grants: &mut [u64; GRANTS], e: usize) -> usize
-    requires { ⌜ (e < 64) × (length (now grants) ≡ 64) ⌝ }
+    requires { ⌜ (e < entityCount) × (length (now grants) ≡ 4 * roleCount) ⌝ }
     ensures { λ n. ⌜ Cleared (now (grants .entry)) e (now (grants .exit)) ⌝ }
 {
     let mut j = 0usize;
@@ -115,7 +116,7 @@ fn gather(grants: &[u64; GRANTS], held: u16) -> Rights
 
 // `i` is a member. (`bitset::has64` would test that it is below 64.)
 fn is_in(set: u64, i: usize) -> bool
-    requires { ⌜ i < 64 ⌝ }
+    requires { ⌜ i < entityCount ⌝ }
     ensures { λ b. ⌜ b ≡ has set i ⌝ }
 {
     (set >> (i as u64)) & 1 == 1
@@ -123,7 +124,7 @@ fn is_in(set: u64, i: usize) -> bool
 
 // Whether each container above `e` is in the set, up to and with the root.
 fn climbs(keys: &[u32; ENTITIES], through: u64, e: usize) -> bool
-    requires { ⌜ e < 64 ⌝ }
+    requires { ⌜ e < entityCount ⌝ }
     ensures { λ b. ⌜ b ≡ climbsBy (now (keys .entry)) through e ⌝ }
 {
     let mut at = e;
@@ -142,7 +143,7 @@ fn climbs(keys: &[u32; ENTITIES], through: u64, e: usize) -> bool
 }
 
 fn reached(keys: &[u32; ENTITIES], call: u32, e: usize, through: u64) -> bool
-    requires { ⌜ e < 64 ⌝ }
+    requires { ⌜ e < entityCount ⌝ }
     ensures { λ b. ⌜ b ≡ reachedBy (now (keys .entry)) call e through ⌝ }
 {
     if look::asks_way(call) {
@@ -153,7 +154,7 @@ fn reached(keys: &[u32; ENTITIES], call: u32, e: usize, through: u64) -> bool
 
 // Whether a child of `p` has the name.
 fn name_in(keys: &[u32; ENTITIES], p: usize, name: u32) -> bool
-    requires { ⌜ p < 64 ⌝ }
+    requires { ⌜ p < entityCount ⌝ }
     ensures { λ b. ⌜ b ≡ nameBy (now (keys .entry)) p name ⌝ }
 {
     let key = (p as u32) * NAMES + name % NAMES;
@@ -169,7 +170,7 @@ fn name_in(keys: &[u32; ENTITIES], p: usize, name: u32) -> bool
 
 // Whether `p` has a child.
 fn child_in(keys: &[u32; ENTITIES], p: usize) -> bool
-    requires { ⌜ p < 64 ⌝ }
+    requires { ⌜ p < entityCount ⌝ }
     ensures { λ b. ⌜ b ≡ childBy (now (keys .entry)) p ⌝ }
 {
     let parent = p as u32;
@@ -185,7 +186,7 @@ fn child_in(keys: &[u32; ENTITIES], p: usize) -> bool
 
 // What 14 and 15 ask: delete whether `e` has a child, create and rename whether a child of `o` has the name.
 fn kin(keys: &[u32; ENTITIES], call: u32, e: usize, o: usize, name: u32) -> bool
-    requires { ⌜ (e < 64) × (o < 64) ⌝ }
+    requires { ⌜ (e < entityCount) × (o < entityCount) ⌝ }
     ensures { λ b. ⌜ b ≡ kinBy (now (keys .entry)) call e o name ⌝ }
 {
     if call == kinds::DELETE {
@@ -222,7 +223,7 @@ pub fn find(
     e: usize,
     o: usize,
 ) -> Found
-    requires { ⌜ (e < 64) × (o < 64) ⌝ }
+    requires { ⌜ (e < entityCount) × (o < entityCount) ⌝ }
     ensures { λ f. ⌜ FoundBy (now (keys .entry)) (now (grants .entry)) q held e o f ⌝ }
 {
     if !look::asks_rights(q.call) {

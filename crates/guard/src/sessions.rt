@@ -15,8 +15,8 @@ ghost use mathlib.Core.List.{[], _∷_, map};
 ghost use lib.Dec.{ltb};
 ghost use Rattle.bitset.specs.Tests.{either};
 ghost use Rattle.bitset.specs.Sets.{has};
-ghost use Rattle.guard.specs.Level.{sessionLevel};
-ghost use Rattle.guard.specs.Label.{dominates};
+ghost use Rattle.guard.specs.Level.{sessionLevel, userCount};
+ghost use Rattle.guard.specs.Label.{dominates, allCategories, topGrade};
 ghost use Rattle.guard.specs.Tables.{noSession};
 ghost use Rattle.guard.specs.Edits.{dropRole, closeBoth};
 ghost use Rattle.guard.specs.Refusals.{first, _when_};
@@ -26,7 +26,7 @@ ghost use Rattle.guard.specs.Step.{inRanges};
 ghost use Rattle.guard.specs.Private.Inside.{sessionAfter};
 
 pub fn login_refusal(q: Request, v: View) -> u8
-    requires { ⌜ (q .grade ≤ 3) × (q .cats ≤ 255) ⌝ }
+    requires { ⌜ (q .grade ≤ topGrade) × (q .cats ≤ allCategories) ⌝ }
     ensures { λ n. ⌜ n ≡ first (3 when v .session .live ∷ 4 when either (ltb (v .user .ceiling) (sessionLevel (q .seat))) (not (dominates (v .user .clearance) (labelAsked q))) ∷ []) ⌝ }
 {
     if v.session.live {
@@ -85,7 +85,7 @@ pub fn drop_refusal(q: Request, v: View) -> u8
 
 // The session that a login makes.
 fn entered(q: Request) -> Session
-    requires { ⌜ (q .user < 16) × (q .grade ≤ 3) × (q .cats ≤ 255) ⌝ }
+    requires { ⌜ (q .user < userCount) × (q .grade ≤ topGrade) × (q .cats ≤ allCategories) ⌝ }
     ensures { λ s. ⌜ s ≡ loggedIn q ⌝ }
 {
     let label = labels::made(q.grade, q.cats);

@@ -1,4 +1,4 @@
-// How many records the tables hold, and where ranges end (specs/Level, Label, Tables, Sound).
+// How many records the tables hold, where ranges end, and how long a row is (specs/Level, Label, Tables, Sound, Batch).
 pub const USERS: usize = 16;
 
 pub const SESSIONS: usize = 16;
@@ -29,6 +29,8 @@ pub const BLOCK: usize = LEVEL_ENTITIES as usize;
 // The last number of a range.
 pub const TOP_LEVEL: u8 = 3;
 
+pub const TOP_LEVEL_ASKED: u32 = TOP_LEVEL as u32;
+
 pub const TOP_GRADE: u8 = 3;
 
 pub const TOP_GRADE_ASKED: u32 = TOP_GRADE as u32;
@@ -52,3 +54,6 @@ pub const WRITE: u8 = 2;
 pub const EXECUTE: u8 = 4;
 
 pub const OWN: u8 = 8;
+
+// The numbers of a request as a row.
+pub const ROW: usize = 11;

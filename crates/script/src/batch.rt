@@ -5,6 +5,7 @@ use crate::line;
 use crate::line::Line;
 use crate::print;
 use guard::Request;
+use guard::sizes;
 ghost use Prim.Native.Nat.{_+_, _*_, _≤_};
 ghost use mathlib.Core.Path.{_≡_};
 ghost use lib.ListN.{length, take};
@@ -64,7 +65,7 @@ fn put_row(q: Request, rows: &mut [u32], at: usize) -> usize
     rows[at + 8] = q.grade;
     rows[at + 9] = q.cats;
     rows[at + 10] = q.rights;
-    at + limits::ROW
+    at + sizes::ROW
 }
 
 // What a line asks, behind `count` requests; whether it asks one.
@@ -74,7 +75,7 @@ fn load(l: Line, rows: &mut [u32], count: usize) -> bool
 {
     match l {
         Line::Ask(q) => {
-            put_row(q, rows, limits::ROW * count);
+            put_row(q, rows, sizes::ROW * count);
             true
         }
         Line::SetUser(_, _, _, _) => false,

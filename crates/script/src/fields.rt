@@ -76,7 +76,7 @@ fn field(n: u32, given: u16, uses: u16, i: u32) -> Taken
 }
 
 // The first six fields.
-pub fn first(vals: &[u32; 16], given: u16, uses: u16) -> Half
+pub fn first(vals: &[u32; limits::VALUES], given: u16, uses: u16) -> Half
     ensures { λ r. ⌜ ((rest : Numbers) → takeFrom uses given (now (vals .entry)) 1 6 rest ≡ ahead r rest) ⌝ }
 {
     let Taken::Number(seat) = field(vals[1], given, uses, 1) else {
@@ -108,7 +108,7 @@ pub fn first(vals: &[u32; 16], given: u16, uses: u16) -> Half
 }
 
 // The other five, and what the line asks.
-pub fn second(word: u32, six: Six, vals: &[u32; 16], given: u16, uses: u16) -> Line
+pub fn second(word: u32, six: Six, vals: &[u32; limits::VALUES], given: u16, uses: u16) -> Line
     ensures { λ r. ⌜ r ≡ asks word (ahead (Half.Numbers six) (takeFrom uses given (now (vals .entry)) 7 5 (these []))) ⌝ }
 {
     let Taken::Number(name) = field(vals[7], given, uses, 7) else {

@@ -1,7 +1,14 @@
 // The numbers of the request program.
+use guard::kinds;
+use guard::sizes;
 
 // The names in the line of names.
 pub const NAMES: usize = 12;
+
+// Room for a value under each of them; any byte has a place there by its remainder.
+pub const VALUES: usize = 16;
+
+pub const PLACES: u8 = VALUES as u8;
 
 // What is none of them, and the set of all of them.
 pub const NO_NAME: u8 = 12;
@@ -9,7 +16,7 @@ pub const NO_NAME: u8 = 12;
 pub const ALL_NAMES: u16 = 4095;
 
 // The words: `user`, which stands in front, and one for each kind of request of the guard.
-pub const KINDS: usize = 16;
+pub const KINDS: usize = kinds::KINDS as usize;
 
 pub const WORDS: usize = 1 + KINDS;
 
@@ -30,9 +37,7 @@ pub const UNREAD: u8 = 17;
 // Room for a line of output: two numbers of five digits, a space and byte 10.
 pub const LINE_ROOM: usize = 12;
 
-// The lines that a batch takes, the numbers that stand for a request, and those for a batch of requests.
+// The lines that a batch takes, and the numbers that stand for as many requests.
 pub const BATCH: usize = 256;
 
-pub const ROW: usize = 11;
-
-pub const BATCH_NUMBERS: usize = BATCH * ROW;
+pub const BATCH_NUMBERS: usize = BATCH * sizes::ROW;

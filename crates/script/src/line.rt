@@ -35,16 +35,16 @@ pub struct Front {
 }
 
 // The row of no values: no word, and 0 under each other name.
-fn empty() -> [u32; 16]
+fn empty() -> [u32; limits::VALUES]
     ensures { λ r. ⌜ r ≡ blank ⌝ }
 {
-    let mut vals = [0u32; 16];
+    let mut vals = [0u32; limits::VALUES];
     vals[0] = limits::NO_WORD;
     vals
 }
 
 // What the line of a row asks.
-fn asked(row: Row, vals: &[u32; 16]) -> Line
+fn asked(row: Row, vals: &[u32; limits::VALUES]) -> Line
     ensures { λ r. ⌜ ((h : List (List ℕ)) (at l : List ℕ) → Ordered h at → IsRow at l (now (vals .entry)) row → r ≡ readLine h l) ⌝ }
 {
     if !row.good | (limits::LONGEST < row.len) {

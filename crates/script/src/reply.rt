@@ -4,6 +4,7 @@ use crate::line::Line;
 use guard::Label;
 use guard::Tables;
 use guard::User;
+use guard::sizes;
 ghost use mathlib.Core.Path.{_≡_};
 ghost use Rattle.script.specs.Report.{answerLine};
 ghost use Rattle.script.specs.Private.Steps.{saidBy};
@@ -26,7 +27,10 @@ fn set_user(mut t: Tables, shut: bool, user: u32, level: u32, cats: u32, ceiling
             answer: limits::UNREAD,
         };
     }
-    if (16 <= user) | ((3 < level) | ((255 < cats) | (3 < ceiling))) {
+    if (sizes::USER_END <= user)
+        | ((sizes::TOP_GRADE_ASKED < level)
+            | ((sizes::ALL_CATEGORIES < cats) | (sizes::TOP_LEVEL_ASKED < ceiling)))
+    {
         return Reply {
             tables: t,
             shut,

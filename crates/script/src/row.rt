@@ -169,7 +169,7 @@ fn code_at(s: &[u8], from: usize, i: u32) -> Found
 
 // The row of the line at the front of `s`, in one pass. A dash leaves the row as it is. The names of a good header are below
 // 12; the remainder keeps any other number in the row.
-pub fn read_row(s: &[u8], at: &[u8; limits::NAMES], vals: &mut [u32; 16]) -> Row
+pub fn read_row(s: &[u8], at: &[u8; limits::NAMES], vals: &mut [u32; limits::VALUES]) -> Row
     requires { ⌜ now vals ≡ blank ⌝ }
     ensures { λ r. ⌜ IsRow (now (at .entry)) (before 10 (now (s .entry))) (now (vals .exit)) r ⌝ }
 {
@@ -192,7 +192,7 @@ pub fn read_row(s: &[u8], at: &[u8; limits::NAMES], vals: &mut [u32; 16]) -> Row
                 len: text::end_of(s, from),
             };
         }
-        let i = (at[j] % 16) as u32;
+        let i = (at[j] % limits::PLACES) as u32;
         let f = code_at(s, from, i);
         let end = f.end;
         j += 1;

@@ -11,6 +11,7 @@ use crate::text;
 use guard::Label;
 use guard::Tables;
 use guard::User;
+use guard::sizes;
 ghost use Prim.Native.Nat.{_+_, _≤_, _<_};
 ghost use mathlib.Core.Path.{_≡_};
 ghost use mathlib.Core.Bool.{true, false};
@@ -106,7 +107,7 @@ impl Runner {
             ceiling: 0,
             clearance: none,
         };
-        let o = Tables::fresh([nobody; 16]);
+        let o = Tables::fresh([nobody; sizes::USERS]);
         let tables = o.tables;
         Runner {
             tables,
@@ -258,7 +259,7 @@ fn one(
     if lines == 0 {
         return values_step(r, piece, end, out);
     }
-    let n = limits::ROW * g.count;
+    let n = sizes::ROW * g.count;
     let t = r.tables;
     let next = t.run(&rows[..n], answers);
     let wrote = batch::put_answers(marks, answers, lines, r.done + 1, out);

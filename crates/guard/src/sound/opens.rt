@@ -5,7 +5,7 @@ ghost use lib.Dec.{leb, eqb};
 ghost use lib.ListN.{getD};
 ghost use Rattle.bitset.specs.Tests.{all};
 ghost use Rattle.bitset.specs.Sets.{has};
-ghost use Rattle.guard.specs.Level.{sessionLevel, entityLevel};
+ghost use Rattle.guard.specs.Level.{sessionLevel, entityLevel, entityCount};
 ghost use Rattle.guard.specs.Tables.{noSession, noEntity};
 ghost use Rattle.guard.specs.Private.Tested.{packedLabel, labelNumber, dominated, members, openLevels, openLabels, sessionTest};
 use super::record::is_empty_session;
@@ -18,24 +18,31 @@ use crate::sizes::LEVEL_SEATS;
 use crate::sizes::SEAT_END;
 use crate::sizes::SESSIONS;
 
+// How many sets of categories there are, and the last of them; and what stands for the label of what is not live, above all
+// labels.
+const SETS: u16 = 256;
+
+const LAST_SET: u16 = SETS - 1;
+
+const DEAD: u16 = 65535;
+
 fn packed(a: Label) -> u16
     ensures { λ r. ⌜ r ≡ packedLabel a ⌝ }
 {
-    (a.grade as u16) * 256 + (a.cats as u16)
+    (a.grade as u16) * SETS + (a.cats as u16)
 }
 
-// The label of what is not live is above all.
 fn label_of(n: Entity) -> u16
     ensures { λ r. ⌜ r ≡ labelNumber n ⌝ }
 {
     if !n.live {
-        return 65535;
+        return DEAD;
     }
     packed(n.label)
 }
 
 pub fn labels(entities: [Entity; ENTITIES]) -> [u16; ENTITIES]
-    ensures { λ r. ⌜ ((e : ℕ) → e < 64 → getD r e 0 ≡ labelNumber (getD entities e noEntity)) ⌝ }
+    ensures { λ r. ⌜ ((e : ℕ) → e < entityCount → getD r e 0 ≡ labelNumber (getD entities e noEntity)) ⌝ }
 {
     let mut a = [0u16; ENTITIES];
     let mut e: usize = 0;
@@ -51,7 +58,7 @@ pub fn labels(entities: [Entity; ENTITIES]) -> [u16; ENTITIES]
 fn dominates_each(labels: &[u16; ENTITIES], label: Label, set: u64) -> bool
     ensures { λ r. ⌜ r ≡ members (dominated (now (labels .entry)) label) set ⌝ }
 {
-    let top = (label.grade as u16) * 256 + 255;
+    let top = (label.grade as u16) * SETS + LAST_SET;
     let mut m = set;
     while m != 0 {
         let e = u64::trailing_zeros(m);
@@ -59,7 +66,7 @@ fn dominates_each(labels: &[u16; ENTITIES], label: Label, set: u64) -> bool
         if top < l {
             return false;
         }
-        if bitset::minus8((l % 256) as u8, label.cats) != 0 {
+        if bitset::minus8((l % SETS) as u8, label.cats) != 0 {
             return false;
         }
         m = bitset::without64(m, e);
@@ -85,35 +92,35 @@ fn equals_each(labels: &[u16; ENTITIES], label: u16, set: u64) -> bool
 // The entities of at least a level.
 fn from_level(level: u32) -> u64
     requires { ⌜ level < 4 ⌝ }
-    ensures { λ r. ⌜ ((e : ℕ) → e < 64 → has r e ≡ leb level (entityLevel e)) ⌝ }
+    ensures { λ r. ⌜ ((e : ℕ) → e < entityCount → has r e ≡ leb level (entityLevel e)) ⌝ }
 {
     if level == 0 {
-        return 18446744073709551615;
+        return 0xffff_ffff_ffff_ffff;
     }
     if level == 1 {
-        return 18446744073709486080;
+        return 0xffff_ffff_ffff_0000;
     }
     if level == 2 {
-        return 18446744069414584320;
+        return 0xffff_ffff_0000_0000;
     }
-    18446462598732840960
+    0xffff_0000_0000_0000
 }
 
 // The entities of at most a level.
 pub fn to_level(level: u32) -> u64
     requires { ⌜ level < 4 ⌝ }
-    ensures { λ r. ⌜ ((e : ℕ) → e < 64 → has r e ≡ leb (entityLevel e) level) ⌝ }
+    ensures { λ r. ⌜ ((e : ℕ) → e < entityCount → has r e ≡ leb (entityLevel e) level) ⌝ }
 {
     if level == 0 {
-        return 65535;
+        return 0xffff;
     }
     if level == 1 {
-        return 4294967295;
+        return 0xffff_ffff;
     }
     if level == 2 {
-        return 281474976710655;
+        return 0xffff_ffff_ffff;
     }
-    18446744073709551615
+    0xffff_ffff_ffff_ffff
 }
 
 // Whether what `s`, at a level, has open is of the levels that it may have open.

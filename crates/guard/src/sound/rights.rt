@@ -5,6 +5,7 @@ ghost use mathlib.Core.Bool.{true, cond};
 ghost use lib.ListN.{getD};
 ghost use Rattle.bitset.specs.Tests.{all};
 ghost use Rattle.bitset.specs.Sets.{has, with};
+ghost use Rattle.guard.specs.Level.{roleCount};
 ghost use Rattle.guard.specs.Tables.{noRole};
 ghost use Rattle.guard.specs.Private.Tested.{grantableIn, roleTest};
 use super::opens::to_level;
@@ -42,7 +43,7 @@ fn role_ok(set: u64, r: u8, p: Role) -> bool
 
 // `set`, and `r` where it is live.
 fn listed(set: u16, r: u8, live: bool) -> u16
-    requires { ⌜ r < 16 ⌝ }
+    requires { ⌜ r < roleCount ⌝ }
     ensures { λ s. ⌜ s ≡ cond live (with set r) set ⌝ }
 {
     if !live {

@@ -6,6 +6,7 @@ ghost use lib.Dec.{eqb};
 ghost use lib.ListN.{getD};
 ghost use Rattle.bitset.specs.Tests.{all};
 ghost use Rattle.bitset.specs.Sets.{has};
+ghost use Rattle.guard.specs.Level.{entityCount};
 ghost use Rattle.guard.specs.Private.Tested.{keyOf, ownKey, ends, parentByKey, liveByKey};
 ghost use Rattle.guard.specs.Private.Scan.{Keys};
 use crate::Entity;
@@ -45,8 +46,8 @@ pub fn keys(entities: [Entity; ENTITIES]) -> [u32; ENTITIES]
 
 // The entities that are live: of a key, bit 24 alone tells it.
 pub fn live_set(keys: &[u32; ENTITIES]) -> u64
-    requires { ⌜ ((e : ℕ) → e < 64 → getD (now keys) e 0 ≤ 16777216) ⌝ }
-    ensures { λ r. ⌜ ((e : ℕ) → e < 64 → has r e ≡ liveByKey (now (keys .entry)) e) ⌝ }
+    requires { ⌜ ((e : ℕ) → e < entityCount → getD (now keys) e 0 ≤ 16777216) ⌝ }
+    ensures { λ r. ⌜ ((e : ℕ) → e < entityCount → has r e ≡ liveByKey (now (keys .entry)) e) ⌝ }
 {
     let mut dead: u64 = 0;
     let mut e = ENTITIES;
@@ -65,7 +66,7 @@ fn counted(a: u32, b: u32) -> u32
 
 // Whether `e` has no name, or no other entity of its level has its key.
 fn has_own_key(keys: &[u32; ENTITIES], e: usize) -> bool
-    requires { ⌜ e < 64 ⌝ }
+    requires { ⌜ e < entityCount ⌝ }
     ensures { λ r. ⌜ r ≡ ownKey (now (keys .entry)) e ⌝ }
 {
     let k = keys[e];
@@ -97,7 +98,7 @@ pub fn have_own_keys(keys: &[u32; ENTITIES]) -> bool
 }
 
 fn ends_at_root(keys: &[u32; ENTITIES], e: usize) -> bool
-    requires { ⌜ e < 64 ⌝ }
+    requires { ⌜ e < entityCount ⌝ }
     ensures { λ r. ⌜ r ≡ ends (parentByKey (now (keys .entry))) 16 e ⌝ }
 {
     let mut at = e;
