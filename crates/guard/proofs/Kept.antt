@@ -16,7 +16,7 @@ use Roles.{keeps-grant, keeps-revoke, keeps-list, keeps-unlist, keeps-make, keep
 use Rename.{keeps-rename}
 use Delete.{keeps-delete}
 use Create.{keeps-create}
-pub mod Parts
+pub mod EachStays
 pub mod Sessions
 pub mod Roles
 pub mod Entities

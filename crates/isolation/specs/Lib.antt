@@ -1,10 +1,10 @@
 -- The isolation rule: Upper defines the upper part and the upper requests, Theorem states the rule, UpperInWords says the upper
--- part sentence by sentence, Batches says the rule of the code, Proof proves it, Teeth shows what it shuts out. Log takes it from
+-- part sentence by sentence, Calls says the rule of the code, Proof proves it, Teeth shows what it shuts out. Log takes it from
 -- one request to logs.
 pub mod Upper
 pub mod Theorem
 pub mod UpperInWords
-pub mod Batches
+pub mod Calls
 pub mod Log
 pub mod Proof
 pub mod Teeth

@@ -21,7 +21,7 @@ use Rattle.bitset.specs.Tests.Laws.{both}
 use Rattle.script.specs.Text.{bytes, same}
 use Rattle.script.specs.Names.{names, column}
 use Rattle.script.specs.Line.{requestWords, words}
-use Rattle.script.specs.Private.Keys.{packed, keyOf, spot}
+use Rattle.script.specs.Private.ShortTexts.{packed, textKey, spot}
 
 -- ---- the loop that makes a key: k is the first i bytes
 pub record Packed (s : List ℕ) (k i : ℕ) : Type 0 where
@@ -32,8 +32,8 @@ pub record Packed (s : List ℕ) (k i : ℕ) : Type 0 where
 pub packed-start : (s : List ℕ) → Packed s 1 0
 packed-start s = record { within = omega arith; key = refl; small = omega arith }
 
-pub key-long : (s : List ℕ) → 7 < length s → 0 ≡ keyOf s
-unfolding keyOf
+pub key-long : (s : List ℕ) → 7 < length s → 0 ≡ textKey s
+unfolding textKey
 key-long s h = rw (lt-leb (length s) 7 h)
 
 module _ {s : List ℕ} {k i : ℕ} (r : Packed s k i) where
@@ -51,8 +51,8 @@ module _ {s : List ℕ} {k i : ℕ} (r : Packed s k i) where
         small = rw (add-one (i + 1), pow-suc) (omega (arith, r .small));
       }
 
-  pub packed-end : length s ≤ 7 → length s ≤ i → k ≡ keyOf s
-  unfolding keyOf packed
+  pub packed-end : length s ≤ 7 → length s ≤ i → k ≡ textKey s
+  unfolding textKey packed
   packed-end f l = rw (le-leb (length s) 7 f) (sym (r .key ∙ (rw (drop-of-length-le s l))))
 
 -- ---- two texts of one key
@@ -94,8 +94,8 @@ unfolding packed
 packed-some n [] h = h
 packed-some n (b ∷ s) h = packed-some (256 * n + b) s (omega arith)
 
-key-one : (s q : List ℕ) → Bytes s → Bytes q → length q ≤ 7 → keyOf s ≡ keyOf q → s ≡ q
-unfolding keyOf
+key-one : (s q : List ℕ) → Bytes s → Bytes q → length q ≤ 7 → textKey s ≡ textKey q → s ≡ q
+unfolding textKey
 key-one s q p r l h = go (leb (length s) 7) (h ∙ (rw (le-leb (length q) 7 l)))
   where
     go : (b : Bool) → cond b (packed 1 s) 0 ≡ packed 1 q → s ≡ q
@@ -118,11 +118,11 @@ unfolding same
 same-self [] = refl
 same-self (a ∷ s) = rw (eq-eqb a a refl) (same-self s)
 
-same-key : (s q : List ℕ) → Bytes s → Bytes q → length q ≤ 7 → same s q ≡ eqb (keyOf s) (keyOf q)
+same-key : (s q : List ℕ) → Bytes s → Bytes q → length q ≤ 7 → same s q ≡ eqb (textKey s) (textKey q)
 same-key s q p r l =
-    both (same s q) (eqb (keyOf s) (keyOf q))
-    (λ h. eq-eqb (keyOf s) (keyOf q) (ap keyOf (same-eq s q h)))
-    (λ h. rw (key-one s q p r l (eqb-true (keyOf s) (keyOf q) h)) (same-self q))
+    both (same s q) (eqb (textKey s) (textKey q))
+    (λ h. eq-eqb (textKey s) (textKey q) (ap textKey (same-eq s q h)))
+    (λ h. rw (key-one s q p r l (eqb-true (textKey s) (textKey q) h)) (same-self q))
 
 -- ---- the place of a text among others, by its key
 -- texts of at most seven bytes
@@ -147,15 +147,15 @@ bytes-all [] h i = omega arith
 bytes-all (b ∷ q) h zero = ltb-true b 256 (and-l (ltb b 256) (allBytes q) h)
 bytes-all (b ∷ q) h (suc i) = bytes-all q (and-r (ltb b 256) (allBytes q) h) i
 
-pub by-key : (s : List ℕ) (qs : List (List ℕ)) → Bytes s → short qs ≡ true → spot (keyOf s) (map keyOf qs) ≡ column s qs
+pub by-key : (s : List ℕ) (qs : List (List ℕ)) → Bytes s → short qs ≡ true → spot (textKey s) (map textKey qs) ≡ column s qs
 unfolding column
 by-key s [] p h = refl
 by-key s (q ∷ qs) p h =
     let r : (allBytes q && short qs) ≡ true = and-r (leb (length q) 7) (allBytes q && short qs) h in
     let b : Bytes q = bytes-all q (and-l (allBytes q) (short qs) r) in
     let l : length q ≤ 7 = leb-true _ _ (and-l (leb (length q) 7) (allBytes q && short qs) h) in
-    let e : same s q ≡ eqb (keyOf s) (keyOf q) = same-key s q p b l in
-    let f : spot (keyOf s) (map keyOf qs) ≡ column s qs = by-key s qs p (and-r (allBytes q) (short qs) r) in
+    let e : same s q ≡ eqb (textKey s) (textKey q) = same-key s q p b l in
+    let f : spot (textKey s) (map textKey qs) ≡ column s qs = by-key s qs p (and-r (allBytes q) (short qs) r) in
     rw (e, f)
 
 -- k is none of the numbers
@@ -169,13 +169,13 @@ spot-none k (n ∷ ns) m = let h = spot-none k ns m in (h .0 .0, rw (ne-eqb k n 
 
 -- ns are the keys of qs
 pub record Keyed (qs : List (List ℕ)) (ns : List ℕ) : Type 0 where
-  pub keys : map keyOf qs ≡ ns
+  pub keys : map textKey qs ≡ ns
   pub fit : short qs ≡ true
 
 -- s is a slice's bytes and k its key
-module _ {qs : List (List ℕ)} {ns : List ℕ} (y : Keyed qs ns) (s : List ℕ) {k : ℕ} (p : (i : ℕ) → Fits w8 (getD s i 0)) (h : k ≡ keyOf s) where
+module _ {qs : List (List ℕ)} {ns : List ℕ} (y : Keyed qs ns) (s : List ℕ) {k : ℕ} (p : (i : ℕ) → Fits w8 (getD s i 0)) (h : k ≡ textKey s) where
   by-number : spot k ns ≡ column s qs
-  by-number = ap (λ (n : ℕ). spot n ns) h ∙ ap (spot (keyOf s)) (sym (y .keys)) ∙ by-key s qs (λ i. p i .fits) (y .fit)
+  by-number = ap (λ (n : ℕ). spot n ns) h ∙ ap (spot (textKey s)) (sym (y .keys)) ∙ by-key s qs (λ i. p i .fits) (y .fit)
 
   pub at-key : {n : ℕ} → k ≡ n → spot n ns ≡ column s qs
   at-key e = ap (λ (n : ℕ). spot n ns) (sym e) ∙ by-number
@@ -201,7 +201,7 @@ nameKeys =
     ∷ []
 
 pub name-keys : Keyed names nameKeys
-unfolding names bytes keyOf packed
+unfolding names bytes textKey packed
 name-keys = record { keys = refl; fit = refl }
 
 abbrev pub wordKeys : List ℕ
@@ -226,5 +226,5 @@ wordKeys =
     ∷ []
 
 pub word-keys : Keyed words wordKeys
-unfolding words requestWords bytes keyOf packed
+unfolding words requestWords bytes textKey packed
 word-keys = record { keys = refl; fit = refl }

@@ -21,7 +21,7 @@ use Rattle.script.specs.Names.{column}
 use Rattle.script.specs.Line.{requestWords, words}
 use Rattle.script.specs.Private.Slices.{leading}
 use Rattle.script.specs.Private.Rows.{noWord}
-use Rattle.script.specs.Private.Keys.{packed, keyOf, spot, wordOf, Begins}
+use Rattle.script.specs.Private.ShortTexts.{packed, textKey, spot, wordOf, Begins}
 use Rattle.script.proofs.ByKey.{Bytes, Misses, by-key, spot-none, wordKeys, word-keys}
 use Rattle.script.proofs.NamePlaces.{column-found}
 use Rattle.script.proofs.FirstValue.{clean, lead-clean}
@@ -35,7 +35,7 @@ pub word-none : {k : ℕ} → Misses (Unit {0}) k wordKeys → 17 ≡ wordOf k
 unfolding wordOf
 word-none {k} m = sym (spot-none k wordKeys m .1) ∙ ap (spot k) (sym (word-keys .keys))
 
-pub word-text : (p : List ℕ) → Bytes p → wordOf (keyOf p) ≡ column p words
+pub word-text : (p : List ℕ) → Bytes p → wordOf (textKey p) ≡ column p words
 unfolding wordOf
 word-text p b = by-key p words b (word-keys .fit)
 
@@ -49,15 +49,15 @@ unfolding packed
 packed-last n [] b = refl
 packed-last n (a ∷ s) b = packed-last (256 * n + a) s b
 
-short-key : (t : List ℕ) (n : ℕ) → n ≤ 7 → n ≤ length t → keyOf (take n t) ≡ packed 1 (take n t)
-unfolding keyOf
+short-key : (t : List ℕ) (n : ℕ) → n ≤ 7 → n ≤ length t → textKey (take n t) ≡ packed 1 (take n t)
+unfolding textKey
 short-key t n h l = rw (le-leb (length (take n t)) 7 (rw (length-take-le n t l) h))
 
-pub key-none : (t : List ℕ) → keyOf (take 0 t) ≡ 1
-unfolding keyOf packed
+pub key-none : (t : List ℕ) → textKey (take 0 t) ≡ 1
+unfolding textKey packed
 key-none t = refl
 
-pub key-more : (t : List ℕ) (n : ℕ) → n < 7 → n < length t → keyOf (take (suc n) t) ≡ 256 * keyOf (take n t) + getD t n 0
+pub key-more : (t : List ℕ) (n : ℕ) → n < 7 → n < length t → textKey (take (suc n) t) ≡ 256 * textKey (take n t) + getD t n 0
 key-more t n h l =
     short-key t (suc n) (omega arith) (omega arith)
     ∙ ap (packed 1) (take-suc t n 0 l)
@@ -65,12 +65,12 @@ key-more t n h l =
     ∙ ap (λ (k : ℕ). 256 * k + getD t n 0) (sym (short-key t n (omega arith) (omega arith)))
 
 -- the same by the bytes of the whole text
-pub key-next : (s : List ℕ) (from n k b : ℕ) → n < 7 → n < length (drop from s) → k ≡ keyOf (take n (drop from s)) → b ≡ getD s (from + n) 0
-    → 256 * k + b ≡ keyOf (take (suc n) (drop from s))
+pub key-next : (s : List ℕ) (from n k b : ℕ) → n < 7 → n < length (drop from s) → k ≡ textKey (take n (drop from s)) → b ≡ getD s (from + n) 0
+    → 256 * k + b ≡ textKey (take (suc n) (drop from s))
 key-next s from n k b h l e f = rw (e, f, ← getD-drop from s n 0) (sym (key-more (drop from s) n h l))
 
 pub key-four : (s : List ℕ) (from a b c d : ℕ) → from + 3 < length s → a ≡ getD s from 0 → b ≡ getD s (from + 1) 0 → c ≡ getD s (from + 2) 0
-    → d ≡ getD s (from + 3) 0 → 256 * (256 * (256 * (256 + a) + b) + c) + d ≡ keyOf (take 4 (drop from s))
+    → d ≡ getD s (from + 3) 0 → 256 * (256 * (256 * (256 + a) + b) + c) + d ≡ textKey (take 4 (drop from s))
 key-four s from a b c d l x y z w =
     let n : length (drop from s) ≡ length s - from = length-drop from s in
     key-next s from 3 _ d (omega arith) (omega arith)
@@ -81,7 +81,7 @@ key-four s from a b c d l x y z w =
     z)
     w
 
-pub begins : (s : List ℕ) (from n k a : ℕ) → n < 7 → k ≡ keyOf (take n (drop from s)) → a ≡ getD s (from + n) 0 → a ≡ 32 → Begins (drop from s) k n
+pub begins : (s : List ℕ) (from n k a : ℕ) → n < 7 → k ≡ textKey (take n (drop from s)) → a ≡ getD s (from + n) 0 → a ≡ 32 → Begins (drop from s) k n
 begins s from n k a l h e z = record { within = l; key = λ i. h; space = λ i. getD-drop from s n 0 ∙ sym e ∙ z }
 
 -- ---- bytes

@@ -5,7 +5,7 @@ ghost use lib.ListN.{length, getD, take, drop};
 ghost use Rattle.script.specs.Names.{names, column};
 ghost use Rattle.script.specs.Line.{valueOf, words};
 ghost use Rattle.script.specs.Private.Slices.{before, leading};
-ghost use Rattle.script.specs.Private.Keys.{keyOf, wordOf, Begins};
+ghost use Rattle.script.specs.Private.ShortTexts.{textKey, wordOf, Begins};
 use crate::limits;
 use crate::line::Value;
 
@@ -88,7 +88,7 @@ pub fn value(s: &[u8]) -> Value
 
 // A text of at most seven bytes as one number, 1 and behind it the bytes; 0 for a longer text.
 fn key(s: &[u8]) -> u64
-    ensures { λ r. ⌜ r ≡ keyOf (now (s .entry)) ⌝ }
+    ensures { λ r. ⌜ r ≡ textKey (now (s .entry)) ⌝ }
 {
     if 7 < s.len() {
         return 0;
@@ -176,7 +176,7 @@ pub fn byte(s: &[u8], at: usize) -> u64
 // The key of four bytes.
 fn key4(s: &[u8], from: usize) -> u64
     requires { ⌜ from + 3 < length (now s) ⌝ }
-    ensures { λ r. ⌜ (r ≡ keyOf (take 4 (drop from (now (s .entry))))) × (r < 8589934592) ⌝ }
+    ensures { λ r. ⌜ (r ≡ textKey (take 4 (drop from (now (s .entry))))) × (r < 8589934592) ⌝ }
 {
     let a = byte(s, from);
     let b = byte(s, from + 1);

@@ -27,7 +27,7 @@ use Rattle.guard.specs.declared.Request.{Request}
 use Rattle.guard.proofs.Laws.Refusals.{unmet}
 use Rattle.guard.proofs.Laws.Rights.{rights-cleared}
 use Rattle.guard.proofs.Laws.Sound.{Sound, sound-e}
-use Rattle.guard.proofs.Kept.Parts.{map-each}
+use Rattle.guard.proofs.Kept.EachStays.{map-each}
 use Rattle.guard.proofs.Kept.Sessions.{Keeps, closed-ok, each-session-kept}
 use Rattle.guard.proofs.Kept.Roles.{fewer-ok, each-role-kept}
 use Rattle.guard.proofs.Kept.Entities.{others-stay, root-parent, Unused, entity-kept}

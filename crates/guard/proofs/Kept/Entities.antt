@@ -28,7 +28,7 @@ use Rattle.guard.specs.declared.Tables.{Tables}
 use Rattle.guard.proofs.Laws.Chain.{ancestor, climbs-same}
 use Rattle.guard.proofs.Laws.Rights.{rights-none, rights-zero}
 use Rattle.guard.proofs.Laws.Sound.{entityIn, readable, writable, grantable, childOf, fitsIn, SetOk, SessionOk, RoleOk, OwnName, Inside, EntityOk, Sound, sound-e, sound-i}
-use Rattle.guard.proofs.Kept.Parts.{set-each, seen-ok}
+use Rattle.guard.proofs.Kept.EachStays.{set-each, seen-ok}
 
 -- all of an entity but its name
 abbrev pub shape : Entity → Entity

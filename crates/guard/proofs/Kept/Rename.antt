@@ -21,7 +21,7 @@ use Rattle.guard.specs.declared.Tables.{Tables}
 use Rattle.guard.specs.declared.Request.{Request}
 use Rattle.guard.proofs.Laws.Refusals.{unmet}
 use Rattle.guard.proofs.Laws.Sound.{childOf, Sound, sound-e}
-use Rattle.guard.proofs.Kept.Parts.{set-each}
+use Rattle.guard.proofs.Kept.EachStays.{set-each}
 use Rattle.guard.proofs.Kept.Sessions.{Keeps}
 use Rattle.guard.proofs.Kept.Entities.{shape, Stays, parent-kin, inside-kept, entity-kept}
 

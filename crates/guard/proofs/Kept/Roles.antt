@@ -26,7 +26,7 @@ use Rattle.guard.specs.declared.Tables.{Tables}
 use Rattle.guard.proofs.Laws.Refusals.{unmet}
 use Rattle.guard.proofs.Laws.Rights.{contains-read, contains-write, contains-execute, contains-own, put-same}
 use Rattle.guard.proofs.Laws.Sound.{roleIn, entityIn, grantable, SetOk, RoleOk, Sound, sound-e, sound-i}
-use Rattle.guard.proofs.Kept.Parts.{set-each, map-each, as-ok, seen-ok, none-ok, with-ok, without-ok, put-ok}
+use Rattle.guard.proofs.Kept.EachStays.{set-each, map-each, as-ok, seen-ok, none-ok, with-ok, without-ok, put-ok}
 use Rattle.guard.proofs.Kept.Sessions.{Keeps, not-below, dropped-ok, each-session-kept}
 
 -- ---- a set with a member that it has, and one less some members

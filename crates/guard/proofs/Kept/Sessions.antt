@@ -31,7 +31,7 @@ use Rattle.guard.specs.declared.Request.{Request}
 use Rattle.guard.proofs.Laws.Refusals.{unmet}
 use Rattle.guard.proofs.Laws.Step.{Done}
 use Rattle.guard.proofs.Laws.Sound.{roleIn, entityIn, readable, writable, SetOk, SessionOk, Sound, sound-e, sound-i}
-use Rattle.guard.proofs.Kept.Parts.{set-each, map-each, none-ok, with-ok, without-ok}
+use Rattle.guard.proofs.Kept.EachStays.{set-each, map-each, none-ok, with-ok, without-ok}
 
 abbrev pub Keeps : Rule → Type 0
 Keeps rule = (t : Tables) (q : Request) → Done rule t q → sound (rule .effect q t) ≡ true

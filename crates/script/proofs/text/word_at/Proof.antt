@@ -1,7 +1,7 @@
 -- `script::text::word_at` finds the place among the words by the key. Assumes nothing.
 use borrow.Author.Needs.{needs}
 use mathlib.Core.Path.{ap, _∙_}
-use Rattle.script.specs.Private.Keys.{wordOf}
+use Rattle.script.specs.Private.ShortTexts.{wordOf}
 use Rattle.script.proofs.WordAtFront.{word-text}
 use Rattle.script.proofs.text.word_at.Statement.{statement}
 use Rattle.script.proofs.text.word_at.Tie as tie

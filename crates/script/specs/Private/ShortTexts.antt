@@ -13,8 +13,8 @@ packed n [] = n
 packed n (b ∷ s) = packed (256 * n + b) s
 
 -- 1 and behind it up to seven bytes; 0 for more
-unfoldable pub keyOf : List ℕ → ℕ
-keyOf s = cond (leb (length s) 7) (packed 1 s) 0
+unfoldable pub textKey : List ℕ → ℕ
+textKey s = cond (leb (length s) 7) (packed 1 s) 0
 
 -- the place of the first k among numbers, or how many there are
 abbrev pub spot : ℕ → List ℕ → ℕ
@@ -23,10 +23,10 @@ spot k (n ∷ ns) = cond (eqb k n) 0 (suc (spot k ns))
 
 -- which of the words has the key k
 unfoldable pub wordOf : ℕ → ℕ
-wordOf k = spot k (map keyOf words)
+wordOf k = spot k (map textKey words)
 
 -- s begins with n bytes of the key k and a space behind them; k is 0 where nothing is said of s
 pub record Begins (s : List ℕ) (k n : ℕ) : Type 0 where
   pub within : n < 7
-  pub key : 0 < k → k ≡ keyOf (take n s)
+  pub key : 0 < k → k ≡ textKey (take n s)
   pub space : 0 < k → getD s n 0 ≡ 32

@@ -1,4 +1,4 @@
--- What one stored element, one member or some members change of what is said of each.
+-- What is said of each element of a list or each member of a set stays so: after a store, a map, or a change of the set.
 --     set-each, map-each                          of each element of a list, after a store, and after a map
 --     as-ok, seen-ok                              of each member of a set, after a change in what it names
 --     none-ok, join-ok, with-ok, minus-ok, without-ok, put-ok   .. and after a change of the set
