@@ -11,7 +11,7 @@ pub const VALUES: usize = 16;
 pub const PLACES: u8 = VALUES as u8;
 
 // What is none of them, and the set of all of them.
-pub const NO_NAME: u8 = 12;
+pub const NO_NAME: u8 = NAMES as u8;
 
 pub const ALL_NAMES: u16 = 4095;
 
@@ -23,7 +23,7 @@ pub const WORDS: usize = 1 + KINDS;
 pub const USER: u32 = 0;
 
 // What is none of them.
-pub const NO_WORD: u32 = 17;
+pub const NO_WORD: u32 = WORDS as u32;
 
 // The bytes that a line may have before its byte 10.
 pub const LONGEST: usize = 255;
