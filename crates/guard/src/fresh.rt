@@ -60,7 +60,7 @@ fn fresh_entity(e: usize) -> Entity
 }
 
 fn fresh_roles() -> [Role; ROLES]
-    ensures { λ l. ⌜ l ≡ tabulate 16 freshRole ⌝ }
+    ensures { λ l. ⌜ l ≡ tabulate roleCount freshRole ⌝ }
 {
     let dead = roles::empty();
     let mut roles = [dead; ROLES];
@@ -74,7 +74,7 @@ fn fresh_roles() -> [Role; ROLES]
 }
 
 fn fresh_entities() -> [Entity; ENTITIES]
-    ensures { λ l. ⌜ l ≡ tabulate 64 freshEntity ⌝ }
+    ensures { λ l. ⌜ l ≡ tabulate entityCount freshEntity ⌝ }
 {
     let dead = entities::empty();
     let mut entities = [dead; ENTITIES];

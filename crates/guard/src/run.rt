@@ -10,42 +10,26 @@ use crate::roles;
 use crate::rows;
 use crate::scan;
 use crate::sessions;
-use crate::sizes::ENTITIES;
 use crate::sound::tree;
 use crate::view;
 ghost use Rattle.guard.specs.Batch.{RunsBatch};
-ghost use Rattle.guard.specs.Private.Scan.{Ready};
 
 impl Tables {
     // The requests in `rows`, eleven numbers each in the order of `Request`'s fields, as many as stand whole there and have room
     // in `answers`; each one's answer is stored there. Every request hands back sound tables, so soundness is tested once; where
     // there is no request, nothing is.
-    pub fn run(self, rows: &[u32], answers: &mut [u8]) -> Tables
+    pub fn run(mut self, rows: &[u32], answers: &mut [u8]) -> Tables
         ensures { λ u. ⌜ RunsBatch self (now (rows .entry)) (now (answers .entry)) (now (answers .exit)) u ⌝ }
     {
         let count = rows::count(rows.len(), answers.len());
         if count == 0 {
             return self;
         }
-        let keys = self.keys();
+        let mut keys = self.keys();
         if !self.sound_by(&keys) {
             rows::refuse(answers, count);
             return self;
         }
-        self.serve(keys, rows, answers, count)
-    }
-
-    // The requests of `count` rows, one after the other, on sound tables.
-    fn serve(
-        mut self,
-        mut keys: [u32; ENTITIES],
-        rows: &[u32],
-        answers: &mut [u8],
-        count: usize,
-    ) -> Tables
-        requires { ⌜ Ready self keys (now rows) (now answers) count ⌝ }
-        ensures { λ u. ⌜ RunsBatch self (now (rows .entry)) (now (answers .entry)) (now (answers .exit)) u ⌝ }
-    {
         let mut grants = self.grants();
         let mut i = 0usize;
         while i < count {

@@ -13,14 +13,11 @@ use Rattle.bitset.specs.Sets.{has, without}
 use Rattle.guard.specs.Level.{roleCount, entityCount, entitiesPerLevel}
 use Rattle.guard.specs.Tables.{noRole, noEntity}
 use Rattle.guard.specs.Chain.{climbs}
-use Rattle.guard.specs.Sound.{sound}
-use Rattle.guard.specs.Batch.{batchLength}
 use Rattle.guard.specs.Private.Tested.{keyOf, parentByKey}
 use Rattle.guard.specs.Private.Inside.{asksWay, asksName, asksRights}
 use Rattle.guard.specs.Kind as kind
 use Rattle.guard.specs.declared.Role.{Role}
 use Rattle.guard.specs.declared.Entity.{Entity}
-use Rattle.guard.specs.declared.Tables.{Tables}
 use Rattle.guard.specs.declared.Request.{Request}
 use Rattle.guard.specs.declared.scan.Rights.{Rights}
 use Rattle.guard.specs.declared.scan.Found.{Found}
@@ -37,12 +34,6 @@ side p k = getD (p .reads ∷ p .writes ∷ p .executes ∷ p .owns ∷ []) k 0
 pub record Grants (roles : List Role) (grants : List ℕ) : Type 0 where
   pub long : length grants ≡ 4 * roleCount
   pub at : (r k : ℕ) → r < roleCount → k < 4 → getD grants (4 * r + k) 0 ≡ side (getD roles r noRole) k
-
--- what the body of a run is handed: sound tables, their keys, and as many requests as stand in the rows and have room
-pub record Ready (t : Tables) (keys rows answers : List ℕ) (count : ℕ) : Type 0 where
-  pub isSound : sound t ≡ true
-  pub keyed : Keys (t .entities) keys
-  pub many : count ≡ batchLength (length rows) (length answers)
 
 -- the sets of role r stored anew; a deleted entity taken out of each set
 pub record Granted (old : List ℕ) (r : ℕ) (p : Role) (new : List ℕ) : Type 0 where

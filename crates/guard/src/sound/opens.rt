@@ -5,7 +5,7 @@ ghost use lib.Dec.{leb, eqb};
 ghost use lib.ListN.{getD};
 ghost use Rattle.bitset.specs.Tests.{all};
 ghost use Rattle.bitset.specs.Sets.{has};
-ghost use Rattle.guard.specs.Level.{sessionLevel, entityLevel, entityCount};
+ghost use Rattle.guard.specs.Level.{sessionCount, entityCount, sessionLevel, entityLevel};
 ghost use Rattle.guard.specs.Tables.{noSession, noEntity};
 ghost use Rattle.guard.specs.Private.Tested.{packedLabel, labelNumber, dominated, members, openLevels, openLabels, sessionTest};
 use super::record::is_empty_session;
@@ -160,7 +160,7 @@ fn session_ok(labels: &[u16; ENTITIES], roles: u16, level: u32, s: Session) -> b
 }
 
 pub fn sessions_ok(sessions: [Session; SESSIONS], labels: &[u16; ENTITIES], roles: u16) -> bool
-    ensures { λ r. ⌜ r ≡ all 16 (λ s. sessionTest (now (labels .entry)) roles (sessionLevel s) (getD sessions s noSession)) ⌝ }
+    ensures { λ r. ⌜ r ≡ all sessionCount (λ s. sessionTest (now (labels .entry)) roles (sessionLevel s) (getD sessions s noSession)) ⌝ }
 {
     let mut s: u32 = 0;
     while s < SEAT_END {

@@ -4,6 +4,7 @@ ghost use Prim.Native.Nat.{_%_};
 ghost use mathlib.Core.Path.{_≡_};
 ghost use lib.ListN.{getD};
 ghost use Rattle.bitset.specs.Tests.{all};
+ghost use Rattle.guard.specs.Level.{userCount, entityCount};
 ghost use Rattle.guard.specs.Tables.{noUser, noEntity};
 ghost use Rattle.guard.specs.Label.{sameLabel, noLabel};
 ghost use Rattle.guard.specs.Sound.{userInRange, sessionInRange, entityInRange, isRootRecord, isEmptyEntity, isEmptySession};
@@ -39,7 +40,7 @@ fn user_in_range(u: User) -> bool
 }
 
 pub fn users_in_range(users: [User; USERS]) -> bool
-    ensures { λ r. ⌜ r ≡ all 16 (λ u. userInRange (getD users u noUser)) ⌝ }
+    ensures { λ r. ⌜ r ≡ all userCount (λ u. userInRange (getD users u noUser)) ⌝ }
 {
     let mut u: usize = 0;
     while u < USERS {
@@ -107,7 +108,7 @@ fn entity_ok(e: u8, n: Entity, p: Entity) -> bool
 }
 
 pub fn entities_ok(entities: [Entity; ENTITIES]) -> bool
-    ensures { λ r. ⌜ r ≡ all 64 (λ e. entityTest e (getD entities e noEntity) (getD entities (getD entities e noEntity .parent % 64) noEntity)) ⌝ }
+    ensures { λ r. ⌜ r ≡ all entityCount (λ e. entityTest e (getD entities e noEntity) (getD entities (getD entities e noEntity .parent % 64) noEntity)) ⌝ }
 {
     let mut e: u8 = 0;
     while e < ENTITY_COUNT {

@@ -54,8 +54,8 @@ fn listed(set: u16, r: u8, live: bool) -> u16
 
 // The roles, where `live` are the live entities.
 pub fn roles_ok(roles: [Role; ROLES], live: u64) -> Roles
-    ensures { λ r. ⌜ r .ok ≡ all 16 (λ k. roleTest (grantableIn live k) k (getD roles k noRole)) ⌝ }
-    ensures { λ r. ⌜ (r .ok ≡ true → (k : ℕ) → k < 16 → has (r .live) k ≡ getD roles k noRole .live) ⌝ }
+    ensures { λ r. ⌜ r .ok ≡ all roleCount (λ k. roleTest (grantableIn live k) k (getD roles k noRole)) ⌝ }
+    ensures { λ r. ⌜ (r .ok ≡ true → (k : ℕ) → k < roleCount → has (r .live) k ≡ getD roles k noRole .live) ⌝ }
 {
     let mut found: u16 = 0;
     let mut r: u8 = 0;

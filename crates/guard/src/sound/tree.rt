@@ -6,7 +6,7 @@ ghost use lib.Dec.{eqb};
 ghost use lib.ListN.{getD};
 ghost use Rattle.bitset.specs.Tests.{all};
 ghost use Rattle.bitset.specs.Sets.{has};
-ghost use Rattle.guard.specs.Level.{entityCount};
+ghost use Rattle.guard.specs.Level.{entityCount, entitiesPerLevel};
 ghost use Rattle.guard.specs.Private.Tested.{keyOf, ownKey, ends, parentByKey, liveByKey};
 ghost use Rattle.guard.specs.Private.Scan.{Keys};
 use crate::Entity;
@@ -85,7 +85,7 @@ fn has_own_key(keys: &[u32; ENTITIES], e: usize) -> bool
 }
 
 pub fn have_own_keys(keys: &[u32; ENTITIES]) -> bool
-    ensures { λ r. ⌜ r ≡ all 64 (ownKey (now (keys .entry))) ⌝ }
+    ensures { λ r. ⌜ r ≡ all entityCount (ownKey (now (keys .entry))) ⌝ }
 {
     let mut e: usize = 0;
     while e < ENTITIES {
@@ -99,7 +99,7 @@ pub fn have_own_keys(keys: &[u32; ENTITIES]) -> bool
 
 fn ends_at_root(keys: &[u32; ENTITIES], e: usize) -> bool
     requires { ⌜ e < entityCount ⌝ }
-    ensures { λ r. ⌜ r ≡ ends (parentByKey (now (keys .entry))) 16 e ⌝ }
+    ensures { λ r. ⌜ r ≡ ends (parentByKey (now (keys .entry))) entitiesPerLevel e ⌝ }
 {
     let mut at = e;
     let mut left = LEVEL_ENTITIES;
@@ -114,7 +114,7 @@ fn ends_at_root(keys: &[u32; ENTITIES], e: usize) -> bool
 }
 
 pub fn end_at_root(keys: &[u32; ENTITIES]) -> bool
-    ensures { λ r. ⌜ r ≡ all 64 (ends (parentByKey (now (keys .entry))) 16) ⌝ }
+    ensures { λ r. ⌜ r ≡ all entityCount (ends (parentByKey (now (keys .entry))) entitiesPerLevel) ⌝ }
 {
     let mut e: usize = 0;
     while e < ENTITIES {
