@@ -95,22 +95,22 @@ found-by i from code form n more s v h l k f m =
       more = m;
     }
 
-one-code : (i a : ℕ) → (i ≡ 0 → ⊥) → (48 ≤ a) × (a ≤ 57) → a - 48 ≡ codeAt i (a ∷ [])
+-- one digit, or a second one behind it
+one-code : (i a n : ℕ) → (i ≡ 0 → ⊥) → (48 ≤ a) × (a ≤ 57) → n ≡ 10 * 0 + (a - 48) → n ≡ codeAt i (a ∷ [])
 unfolding allDigits number every coded
-one-code i a h d =
+one-code i a n h d e =
     let digits : allDigits (a ∷ []) ≡ true = rw (le-leb 48 a (d .0), le-leb a 57 (d .1)) in
-    let e : number 0 (a ∷ []) ≡ a - 48 = omega arith in
-    sym e ∙ code-value i (a ∷ []) (not-dash (a ∷ []) (other d)) (valueOf (a ∷ [])) _ h refl (sym (good-digits (a ∷ []) (omega arith) (omega arith) (other d) digits))
+    e ∙ code-value i (a ∷ []) (not-dash (a ∷ []) (other d)) (valueOf (a ∷ [])) _ h refl (sym (good-digits (a ∷ []) (omega arith) (omega arith) (other d) digits))
   where
     other : (48 ≤ a) × (a ≤ 57) → a ≡ 45 → ⊥
     other d e = omega arith
 
-two-code : (i a b : ℕ) → (i ≡ 0 → ⊥) → (48 ≤ a) × (a ≤ 57) → (48 ≤ b) × (b ≤ 57) → 10 * (a - 48) + (b - 48) ≡ codeAt i (a ∷ b ∷ [])
+two-code : (i a b n m : ℕ) → (i ≡ 0 → ⊥) → (48 ≤ a) × (a ≤ 57) → (48 ≤ b) × (b ≤ 57) → n ≡ 10 * 0 + (a - 48) → m ≡ 10 * n + (b - 48)
+    → m ≡ codeAt i (a ∷ b ∷ [])
 unfolding allDigits number every coded
-two-code i a b h d k =
+two-code i a b n m h d k e f =
     let digits : allDigits (a ∷ b ∷ []) ≡ true = rw (le-leb 48 a (d .0), le-leb a 57 (d .1), le-leb 48 b (k .0), le-leb b 57 (k .1)) in
-    let e : number 0 (a ∷ b ∷ []) ≡ 10 * (a - 48) + (b - 48) = omega arith in
-    sym e ∙ code-value i (a ∷ b ∷ []) (not-dash (a ∷ b ∷ []) (other d)) (valueOf (a ∷ b ∷ [])) _ h refl (sym (good-digits (a ∷ b ∷ []) (omega arith) (omega arith) (other d) digits))
+    f ∙ ap (λ (x : ℕ). 10 * x + (b - 48)) e ∙ code-value i (a ∷ b ∷ []) (not-dash (a ∷ b ∷ []) (other d)) (valueOf (a ∷ b ∷ [])) _ h refl (sym (good-digits (a ∷ b ∷ []) (omega arith) (omega arith) (other d) digits))
   where
     other : (48 ≤ a) × (a ≤ 57) → a ≡ 45 → ⊥
     other d e = omega arith
@@ -122,16 +122,17 @@ module _ (i from a b : ℕ) (s : List ℕ) (l : from + 2 < length s) (x : a ≡ 
   front-three : drop from s ≡ a ∷ b ∷ getD s (from + 2) 0 ∷ drop (from + 3) s
   front-three = drop-three s from l ∙ (rw (← x, ← y))
 
-  pub found-one : (i ≡ 0 → ⊥) → (48 ≤ a) × (a ≤ 57) → b ≡ 32 → IsFound i s from (record { code = a - 48; form = 0; end = from + 1; more = true })
-  found-one h d e =
-      found-by i from (a - 48) 0 1 true s (a ∷ []) (ap leading front ∙ lead-one a b _ (omega arith) e) refl (one-code i a h d) (form-number (a - 48) (omega arith)) (sym (eq-eqb _ _ (sym y ∙ e)))
+  module _ (n : ℕ) (h : i ≡ 0 → ⊥) (d : (48 ≤ a) × (a ≤ 57)) (e : n ≡ 10 * 0 + (a - 48)) where
+    pub found-one : b ≡ 32 → IsFound i s from (record { code = n; form = 0; end = from + 1; more = true })
+    found-one z =
+        found-by i from n 0 1 true s (a ∷ []) (ap leading front ∙ lead-one a b _ (omega arith) z) refl (one-code i a n h d e) (form-number n (omega arith)) (sym (eq-eqb _ _ (sym y ∙ z)))
 
-  pub found-two : (i ≡ 0 → ⊥) → (48 ≤ a) × (a ≤ 57) → (48 ≤ b) × (b ≤ 57) → getD s (from + 2) 0 ≡ 32
-      → IsFound i s from (record { code = 10 * (a - 48) + (b - 48); form = 0; end = from + 2; more = true })
-  found-two h d k e =
-      found-by i from (10 * (a - 48) + (b - 48)) 0 2 true s (a ∷ b ∷ []) (ap leading front-three ∙ lead-two a b _ (omega arith) (omega arith) _ e) refl (two-code i a b h d k)
-      (form-number (10 * (a - 48) + (b - 48)) (omega arith))
-      (sym (eq-eqb _ _ e))
+    pub found-two : (m : ℕ) → (48 ≤ b) × (b ≤ 57) → m ≡ 10 * n + (b - 48) → getD s (from + 2) 0 ≡ 32
+        → IsFound i s from (record { code = m; form = 0; end = from + 2; more = true })
+    found-two m k f z =
+        found-by i from m 0 2 true s (a ∷ b ∷ []) (ap leading front-three ∙ lead-two a b _ (omega arith) (omega arith) _ z) refl (two-code i a b n m h d k e f)
+        (form-number m (omega arith))
+        (sym (eq-eqb _ _ z))
 
 dash-same : same (45 ∷ []) (bytes "-") ≡ true
 unfolding same bytes

@@ -7,6 +7,7 @@ ghost use lib.ListN.{length, getD};
 ghost use Rattle.script.specs.Text.{bytes, same};
 ghost use Rattle.script.specs.Private.Slices.{before};
 ghost use Rattle.script.specs.Private.Rows.{blank, IsFound, IsRow};
+use crate::digit;
 use crate::limits;
 use crate::line::Value;
 use crate::text;
@@ -35,7 +36,7 @@ fn pair(s: &[u8], from: usize) -> u64
 {
     let a = text::byte(s, from);
     let b = text::byte(s, from + 1);
-    a + 256 * b
+    a + (b << 8)
 }
 
 fn is_space(s: &[u8], at: usize) -> bool
@@ -134,10 +135,11 @@ fn code_at(s: &[u8], from: usize, i: u32) -> Found
     } else if from + 2 < s.len() {
         let a = text::byte(s, from);
         if is_digit(a) {
+            let code = digit::append(0, (a - 48) as u32);
             let b = text::byte(s, from + 1);
             if b == 32 {
                 return Found {
-                    code: (a - 48) as u32,
+                    code,
                     form: 0,
                     end: from + 1,
                     more: true,
@@ -145,8 +147,9 @@ fn code_at(s: &[u8], from: usize, i: u32) -> Found
             }
             if is_digit(b) {
                 if s[from + 2] == 32 {
+                    let code = digit::append(code, (b - 48) as u32);
                     return Found {
-                        code: (10 * (a - 48) + (b - 48)) as u32,
+                        code,
                         form: 0,
                         end: from + 2,
                         more: true,

@@ -6,6 +6,7 @@ ghost use Rattle.script.specs.Names.{names, column};
 ghost use Rattle.script.specs.Line.{valueOf, words};
 ghost use Rattle.script.specs.Private.Slices.{before, leading};
 ghost use Rattle.script.specs.Private.ShortTexts.{textKey, wordOf, Begins};
+use crate::digit;
 use crate::limits;
 use crate::line::Value;
 
@@ -80,7 +81,7 @@ pub fn value(s: &[u8]) -> Value
         if b'9' < b {
             return Value::Other;
         }
-        n = 10 * n + (b as u32 - 48);
+        n = digit::append(n, b as u32 - 48);
         i += 1;
     }
     Value::Digits(n)

@@ -15,8 +15,8 @@ word-key-requires c κs = search needs
 word-of-requires : tie.Need-word-of-requires
 word-of-requires c κs = search needs
 
-add-t13 : tie.Need-add-t13
-add-t13 c = search needs
+add-t15 : tie.Need-add-t15
+add-t15 c = search needs
 
 returns : tie.Need-returns
 returns c =
@@ -38,31 +38,35 @@ byte-requires c κs = search needs
 is-digit-requires : tie.Need-is-digit-requires
 is-digit-requires c κs = search needs
 
+sub-append : tie.Need-sub-append
+sub-append c = omega (arith, c .before .is-digit .ensures (c .if5 .taken))
+
+cast-append : tie.Need-cast-append
+cast-append c = search needs
+
+append-requires : tie.Need-append-requires
+append-requires c κs = (omega arith, omega (arith, c .before .is-digit .ensures (c .if5 .taken)))
+
 add-byte : tie.Need-add-byte
 add-byte c = search needs
 
 byte-requires-2 : tie.Need-byte-requires-2
 byte-requires-2 c κs = search needs
 
-sub-t20 : tie.Need-sub-t20
-sub-t20 c = omega (arith, c .before .before .before .is-digit .ensures (c .before .before .if5 .taken))
-
-cast-t21 : tie.Need-cast-t21
-cast-t21 c = search needs
-
-add-t22 : tie.Need-add-t22
-add-t22 c = search needs
+add-t24 : tie.Need-add-t24
+add-t24 c = search needs
 
 returns-2 : tie.Need-returns-2
 returns-2 c =
     let at-byte2 = c .before in
-    let at-if5 = at-byte2 .before in
+    let at-append = at-byte2 .before in
+    let at-if5 = at-append .before in
     let at-is-digit = at-if5 .before in
     let at-byte = at-is-digit .before in
     let at-if4 = at-byte .before in
     let at-if1 = at-if4 .before in
     let start = at-if1 .before .before in
-    found-one (start .args .i) (start .args .from) _ _ (now (start .args .s)) (at-if4 .if4 .taken) (at-byte .byte .ensures .0) (at-byte2 .byte2 .ensures .0) (at-if1 .if1 .left) (at-is-digit .is-digit .ensures (at-if5 .if5 .taken)) (c .if6 .taken)
+    found-one (start .args .i) (start .args .from) _ _ (now (start .args .s)) (at-if4 .if4 .taken) (at-byte .byte .ensures .0) (at-byte2 .byte2 .ensures .0) _ (at-if1 .if1 .left) (at-is-digit .is-digit .ensures (at-if5 .if5 .taken)) (at-append .append .ensures) (c .if6 .taken)
 
 is-digit-requires-2 : tie.Need-is-digit-requires-2
 is-digit-requires-2 c κs = search needs
@@ -73,45 +77,44 @@ add-if8 c = search needs
 shared-slice-read-if8 : tie.Need-shared-slice-read-if8
 shared-slice-read-if8 c = search needs
 
-sub-t28 : tie.Need-sub-t28
-sub-t28 c =
-    let at-if5 = c .before .before .before .before .before .before in
-    let at-is-digit = at-if5 .before in
-    omega (arith, at-is-digit .is-digit .ensures (at-if5 .if5 .taken))
+sub-append-2 : tie.Need-sub-append-2
+sub-append-2 c =
+    let at-if7 = c .before .before in
+    omega (arith, at-if7 .before .is-digit2 .ensures (at-if7 .if7 .taken))
 
-mul-t29 : tie.Need-mul-t29
-mul-t29 c = search needs
+cast-append-2 : tie.Need-cast-append-2
+cast-append-2 c = search needs
 
-sub-t30 : tie.Need-sub-t30
-sub-t30 c = omega (arith, c .before .before .before .is-digit2 .ensures (c .before .before .if7 .taken))
+append-requires-2 : tie.Need-append-requires-2
+append-requires-2 c κs =
+    let at-if7 = c .before .before in
+    let at-append = at-if7 .before .before .before .before in
+    let at-if5 = at-append .before in
+    (omega (arith, at-append .append .ensures, at-if5 .before .is-digit .ensures (at-if5 .if5 .taken)), omega (arith, at-if7 .before .is-digit2 .ensures (at-if7 .if7 .taken)))
 
-add-t31 : tie.Need-add-t31
-add-t31 c = search needs
-
-cast-t32 : tie.Need-cast-t32
-cast-t32 c = search needs
-
-add-t33 : tie.Need-add-t33
-add-t33 c = search needs
+add-t32 : tie.Need-add-t32
+add-t32 c = search needs
 
 returns-3 : tie.Need-returns-3
 returns-3 c =
-    let at-if7 = c .before .before in
+    let at-if8 = c .before in
+    let at-if7 = at-if8 .before .before in
     let at-is-digit2 = at-if7 .before in
     let at-byte2 = at-is-digit2 .before .before in
-    let at-if5 = at-byte2 .before in
+    let at-append = at-byte2 .before in
+    let at-if5 = at-append .before in
     let at-is-digit = at-if5 .before in
     let at-byte = at-is-digit .before in
     let at-if4 = at-byte .before in
     let at-if1 = at-if4 .before in
     let start = at-if1 .before .before in
-    found-two (start .args .i) (start .args .from) _ _ (now (start .args .s)) (at-if4 .if4 .taken) (at-byte .byte .ensures .0) (at-byte2 .byte2 .ensures .0) (at-if1 .if1 .left) (at-is-digit .is-digit .ensures (at-if5 .if5 .taken)) (at-is-digit2 .is-digit2 .ensures (at-if7 .if7 .taken)) (c .if8 .taken)
+    found-two (start .args .i) (start .args .from) _ _ (now (start .args .s)) (at-if4 .if4 .taken) (at-byte .byte .ensures .0) (at-byte2 .byte2 .ensures .0) _ (at-if1 .if1 .left) (at-is-digit .is-digit .ensures (at-if5 .if5 .taken)) (at-append .append .ensures) _ (at-is-digit2 .is-digit2 .ensures (at-if7 .if7 .taken)) (c .append2 .ensures) (at-if8 .if8 .taken)
 
 pair-requires : tie.Need-pair-requires
 pair-requires c κs = search needs
 
-add-t36 : tie.Need-add-t36
-add-t36 c = search needs
+add-t35 : tie.Need-add-t35
+add-t35 c = search needs
 
 returns-4 : tie.Need-returns-4
 returns-4 c =
@@ -133,29 +136,28 @@ code-at-spec =
     add-if2
     word-key-requires
     word-of-requires
-    add-t13
+    add-t15
     returns
     add-if4
     byte-requires
     is-digit-requires
+    sub-append
+    cast-append
+    append-requires
     add-byte
     byte-requires-2
-    sub-t20
-    cast-t21
-    add-t22
+    add-t24
     returns-2
     is-digit-requires-2
     add-if8
     shared-slice-read-if8
-    sub-t28
-    mul-t29
-    sub-t30
-    add-t31
-    cast-t32
-    add-t33
+    sub-append-2
+    cast-append-2
+    append-requires-2
+    add-t32
     returns-3
     pair-requires
-    add-t36
+    add-t35
     returns-4
     any-at-requires
     returns-5)

@@ -42,17 +42,14 @@ returns-6 c =
     let at-if3 = at-loop .before in
     read-high (at-loop .loop .inv) (omega arith) (omega arith) (at-if3 .if3 .left) (omega arith) (c .if6 .taken)
 
-mul-n : tie.Need-mul-n Inv-loop μ-loop
-mul-n c = omega (arith, read-small (c .before .before .before .before .loop .inv) (omega arith) (omega arith))
+cast-append : tie.Need-cast-append Inv-loop μ-loop
+cast-append c = omega arith
 
-cast-n : tie.Need-cast-n Inv-loop μ-loop
-cast-n c = omega arith
+sub-append : tie.Need-sub-append Inv-loop μ-loop
+sub-append c = omega arith
 
-sub-n : tie.Need-sub-n Inv-loop μ-loop
-sub-n c = omega arith
-
-add-n : tie.Need-add-n Inv-loop μ-loop
-add-n c = omega (arith, read-small (c .before .before .before .before .loop .inv) (omega arith) (omega arith))
+append-requires : tie.Need-append-requires Inv-loop μ-loop
+append-requires c κs = (omega (arith, read-small (c .before .before .before .before .loop .inv) (omega arith) (omega arith)), omega arith)
 
 add-i : tie.Need-add-i Inv-loop μ-loop
 add-i c = omega arith
@@ -61,7 +58,10 @@ loop-less : tie.Need-loop-less Inv-loop μ-loop
 loop-less c = omega arith
 
 loop-again : tie.Need-loop-again Inv-loop μ-loop
-loop-again c = read-more (c .before .before .before .before .loop .inv) (omega arith) (c .before .if5 .left) (c .if6 .left)
+loop-again c =
+    let at-if6 = c .before in
+    let at-loop = at-if6 .before .before .before .before in
+    rw (c .append .ensures) (read-more (at-loop .loop .inv) (omega arith) (at-if6 .before .if5 .left) (at-if6 .if6 .left))
 
 returns-7 : tie.Need-returns-7 Inv-loop μ-loop
 returns-7 c = read-end (c .before .loop .inv) (omega arith) (omega arith) (c .before .before .if3 .left) (omega arith)
@@ -81,10 +81,9 @@ value-spec =
     shared-slice-read-b
     returns-5
     returns-6
-    mul-n
-    cast-n
-    sub-n
-    add-n
+    cast-append
+    sub-append
+    append-requires
     add-i
     loop-less
     loop-again
