@@ -278,7 +278,7 @@ impl Day {
             "kind" => *random.pick(&[2, 3, 10]),
             "name" => *random.pick(&[0, 65_536, 65_537, 99_999]),
             "level" => *random.pick(&[4, 5, 255, 256]),
-            "cats" => *random.pick(&[256, 257, 1_000, 65_535]),
+            "cats" => *random.pick(&[65_536, 65_537, 70_000, 99_999]),
             _ => *random.pick(&[0, 16, 17, 255, 256]),
         };
     }

@@ -57,17 +57,17 @@ pub fn without64(s: u64, i: u32) -> u64
     s & !(1 << i)
 }
 
-// Whether each member of `b` is one of `a`.
-pub fn contains8(a: u8, b: u8) -> bool
-    ensures { λ r. ⌜ r ≡ contains a b ⌝ }
-{
-    a & b == b
-}
-
-pub fn contains16(s: u16, m: u16) -> bool
+// Whether each member of the second set is one of the first.
+pub fn contains8(s: u8, m: u8) -> bool
     ensures { λ r. ⌜ r ≡ contains s m ⌝ }
 {
     s & m == m
+}
+
+pub fn contains16(a: u16, b: u16) -> bool
+    ensures { λ r. ⌜ r ≡ contains a b ⌝ }
+{
+    a & b == b
 }
 
 pub fn contains64(s: u64, m: u64) -> bool
@@ -77,7 +77,7 @@ pub fn contains64(s: u64, m: u64) -> bool
 }
 
 // The members of `s` that are none of `m`.
-pub fn minus8(s: u8, m: u8) -> u8
+pub fn minus16(s: u16, m: u16) -> u16
     ensures { λ r. ⌜ r ≡ minus s m ⌝ }
 {
     s & !m

@@ -66,12 +66,13 @@ fn entity_row(x: Entity) -> [u64; 8] {
 
 fn with_session(mut x: Session, field: usize, n: u64) -> Session {
     let byte = (n % 256) as u8;
+    let bytes = (n % 65536) as u16;
     match field {
         0 => x.live = n != 0,
         1 => x.user = byte,
         2 => x.label.grade = byte,
-        3 => x.label.cats = byte,
-        4 => x.roles = (n % 65536) as u16,
+        3 => x.label.cats = bytes,
+        4 => x.roles = bytes,
         5 => x.reading = n,
         6 => x.writing = n,
         _ => {}
@@ -81,10 +82,11 @@ fn with_session(mut x: Session, field: usize, n: u64) -> Session {
 
 fn with_user(mut x: User, field: usize, n: u64) -> User {
     let byte = (n % 256) as u8;
+    let bytes = (n % 65536) as u16;
     match field {
         0 => x.ceiling = byte,
         1 => x.clearance.grade = byte,
-        2 => x.clearance.cats = byte,
+        2 => x.clearance.cats = bytes,
         _ => {}
     }
     x
@@ -105,13 +107,14 @@ fn with_role(mut x: Role, field: usize, n: u64) -> Role {
 
 fn with_entity(mut x: Entity, field: usize, n: u64) -> Entity {
     let byte = (n % 256) as u8;
+    let bytes = (n % 65536) as u16;
     match field {
         0 => x.live = n != 0,
         1 => x.kind = byte,
         2 => x.parent = byte,
-        3 => x.name = (n % 65536) as u16,
+        3 => x.name = bytes,
         4 => x.label.grade = byte,
-        5 => x.label.cats = byte,
+        5 => x.label.cats = bytes,
         _ => {}
     }
     x

@@ -1,7 +1,8 @@
-// The statements that ask something of the guard: fresh tables, requests and batches.
+// The statements that ask something of the guard: fresh tables, tables taken over, requests and batches.
 use crate::ask;
 use crate::batch;
 use crate::edges;
+use crate::old;
 use crate::show;
 use crate::state::State;
 use crate::text;
@@ -22,6 +23,17 @@ impl State {
         let mut b = self.on(o.tables);
         b.good = o.answer == 0;
         b
+    }
+
+    // `old`: the tables, in records of the old width, are taken over; and what changed.
+    pub fn old(self, name: &[u8]) -> State {
+        let before = old::narrowed(self.now);
+        let t = before.take_over();
+        show::word(name);
+        show::say(show::COLON);
+        show::changes(self.now, t);
+        show::say(show::END);
+        self.on(t)
     }
 
     // `compare`: what is not as in the tables kept.

@@ -14,9 +14,9 @@ pub struct Word {
 // records, seat, user, role and entity; and the fields of each kind's records, eight places for each.
 pub const VERBS: usize = 16;
 
-pub const KINDS: usize = 31;
+pub const KINDS: usize = 32;
 
-pub const RECORDS: usize = 35;
+pub const RECORDS: usize = 36;
 
 fn wide(b: u8) -> u64 {
     b as u64
@@ -46,7 +46,7 @@ fn seen(s: Spot, b: u8) -> Spot {
 pub fn place(from: usize, key: u64) -> usize {
     let list: &[u8] =
         b"login logout take drop openr openw close create delete rename grant revoke list unlist make unmake \
-        clear keep back fresh set with show say compare gather run do ask broken edge \
+        clear keep back fresh old set with show say compare gather run do ask broken edge \
         seat user role entity \
         live user grade cats roles reading writing - \
         ceiling grade cats - - - - - \

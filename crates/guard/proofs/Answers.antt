@@ -14,8 +14,9 @@ use borrow.Author.Tests.{eqb-false}
 use Rattle.bitset.specs.Tests.Laws.{is-false, of-not-true, of-not-false}
 use Rattle.guard.specs.Refusals.{_when_, first, Refusal}
 use Rattle.guard.specs.Requests.{requestCount, unknown, rules, ruleOf}
-use Rattle.guard.specs.Step.{inRanges}
+use Rattle.guard.specs.Step.{inRangesIn}
 use Rattle.guard.specs.Private.Inside.{number}
+use Rattle.guard.specs.Private.InForce.{inRanges}
 use Rattle.guard.specs.declared.Tables.{Tables}
 use Rattle.guard.specs.declared.Request.{Request}
 use Rattle.guard.proofs.Laws.Refusals.{first-past, first-here}
@@ -23,11 +24,11 @@ use Rattle.guard.proofs.Ranges.{rule-at, fits-none}
 
 module _ (t : Tables) (q : Request) where
   out : inRanges q ≡ false → number (ruleOf q) t q ≡ 2
-  unfolding number first inRanges
+  unfolding number first inRangesIn
   out h = rw h
 
   inside : inRanges q ≡ true → number (ruleOf q) t q ≡ first (ruleOf q .refusals t q)
-  unfolding number first inRanges
+  unfolding number first inRangesIn
   inside h = rw h
 
   pub out-of-range : inRanges q ≡ false → 2 ≡ number (ruleOf q) t q

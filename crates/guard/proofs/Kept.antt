@@ -1,13 +1,16 @@
 -- Soundness is kept: for all sound tables and every request, of unknown kind too, done or refused, the tables handed
 -- back are sound; so also after a log of any length. One file a kind of edit.
---     sound-next, sound-run
+--     sound-nextIn                in any width
+--     sound-next, sound-run       in force
 -- Assumes nothing.
+use Prim.Native.Nat.{ℕ}
 use mathlib.Core.Path.{_≡_}
 use mathlib.Core.Bool.{true}
 use mathlib.Core.List.{List, [], _∷_}
-use Rattle.guard.specs.Sound.{sound}
+use Rattle.guard.specs.Label.{allCategories}
+use Rattle.guard.specs.Sound.{soundIn, sound}
 use Rattle.guard.specs.Requests.{grant, revoke, list, unlist, make, unmake, unknown, rules}
-use Rattle.guard.specs.Step.{next, run}
+use Rattle.guard.specs.Step.{nextIn, next, runIn, run}
 use Rattle.guard.specs.declared.Tables.{Tables}
 use Rattle.guard.specs.declared.Request.{Request}
 use Rattle.guard.proofs.Laws.Step.{next-by, Each, each-rule}
@@ -24,21 +27,24 @@ pub mod Rename
 pub mod Delete
 pub mod Create
 
-each-keeps : Each Keeps rules
+each-keeps : (width : ℕ) → Each (Keeps width) rules
 unfolding rules
-each-keeps = (keeps-login, (keeps-logout, (keeps-take, (keeps-drop, (keeps-openr, (keeps-openw, (keeps-close, (keeps-create, (keeps-delete, (keeps-rename, roles))))))))))
+each-keeps width = (keeps-login, (keeps-logout, (keeps-take, (keeps-drop, (keeps-openr, (keeps-openw, (keeps-close, (keeps-create, (keeps-delete, (keeps-rename, roles))))))))))
   where
-    roles : Each Keeps (grant ∷ revoke ∷ list ∷ unlist ∷ make ∷ unmake ∷ [])
+    roles : Each (Keeps width) (grant ∷ revoke ∷ list ∷ unlist ∷ make ∷ unmake ∷ [])
     roles = (keeps-grant, (keeps-revoke, (keeps-list, (keeps-unlist, (keeps-make, (keeps-unmake, tt))))))
 
-keeps-unknown : Keeps unknown
+keeps-unknown : (width : ℕ) → Keeps width unknown
 unfolding unknown
-keeps-unknown t q d = d .isSound
+keeps-unknown width t q d = d .isSound
+
+pub sound-nextIn : (width : ℕ) (t : Tables) (q : Request) → soundIn width t ≡ true → soundIn width (nextIn width t q) ≡ true
+sound-nextIn width t q h = next-by (λ u. soundIn width u ≡ true) t q h (each-rule (Keeps width) (each-keeps width) (keeps-unknown width) q t q)
 
 pub sound-next : (t : Tables) (q : Request) → sound t ≡ true → sound (next t q) ≡ true
-sound-next t q h = next-by (λ u. sound u ≡ true) t q h (each-rule Keeps each-keeps keeps-unknown q t q)
+sound-next = sound-nextIn allCategories
 
 pub sound-run : (t : Tables) (log : List Request) → sound t ≡ true → sound (run t log) ≡ true
-unfolding run
+unfolding runIn
 sound-run t [] h = h
 sound-run t (q ∷ log) h = sound-run (next t q) log (sound-next t q h)

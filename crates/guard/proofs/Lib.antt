@@ -7,6 +7,7 @@ pub mod RefusalSearch
 pub mod Ranges
 pub mod Answers
 pub mod Sweeps
+pub mod Taking
 pub mod Filling
 pub mod Granting
 pub mod Columns

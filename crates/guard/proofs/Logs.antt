@@ -16,32 +16,32 @@ use lib.ListN.{length, getD, set, drop, replicate, length-replicate, length-appe
 use lib.Seq.{drop-cons, set-at, append-snoc}
 use borrow.Author.Tests.{leb-true, leb-false}
 use Rattle.guard.specs.Sound.{sound}
-use Rattle.guard.specs.Step.{answer, next, run, answers}
+use Rattle.guard.specs.Step.{answer, next, nextIn, run, runIn, answers, answersIn}
 use Rattle.guard.specs.Batch.{requests, batchLength}
 use Rattle.guard.specs.declared.Tables.{Tables}
 use Rattle.guard.specs.declared.Request.{Request}
 use Rattle.guard.proofs.Laws.Requests.{unsound-answer}
 
 pub run-append : (t : Tables) (a b : List Request) → run t (a ++ b) ≡ run (run t a) b
-unfolding run
+unfolding runIn
 run-append t [] b = refl
 run-append t (p ∷ a) b = run-append (next t p) a b
 
 pub answers-append : (t : Tables) (a b : List Request) → answers t (a ++ b) ≡ answers t a ++ answers (run t a) b
-unfolding run answers
+unfolding runIn answersIn
 answers-append t [] b = refl
 answers-append t (p ∷ a) b = ap (λ (l : List ℕ). answer t p ∷ l) (answers-append (next t p) a b)
 
 pub run-snoc : (t : Tables) (log : List Request) (q : Request) → run t (log ++ (q ∷ [])) ≡ next (run t log) q
-unfolding run
+unfolding runIn
 run-snoc t log q = run-append t log (q ∷ [])
 
 pub answers-snoc : (t : Tables) (log : List Request) (q : Request) → answers t (log ++ (q ∷ [])) ≡ answers t log ++ (answer (run t log) q ∷ [])
-unfolding answers
+unfolding answersIn
 answers-snoc t log q = answers-append t log (q ∷ [])
 
 pub length-answers : (t : Tables) (log : List Request) → length (answers t log) ≡ length log
-unfolding answers
+unfolding answersIn
 length-answers t [] = refl
 length-answers t (q ∷ log) = ap suc (length-answers (next t q) log)
 
@@ -77,7 +77,7 @@ batch-rows numbers room i = go (leb (numbers / 11) room) refl
 
 -- ---- on unsound tables
 pub all-refused : (t : Tables) (log : List Request) → sound t ≡ false → (run t log ≡ t) × (answers t log ≡ replicate (length log) 1)
-unfolding run answers next
+unfolding runIn answersIn nextIn
 all-refused t [] h = (refl, refl)
 all-refused t (q ∷ log) h =
     let (r, a) = all-refused t log h in

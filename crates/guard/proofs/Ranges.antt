@@ -20,13 +20,14 @@ use borrow.Author.Tests.{ltb-true, leb-true, ne-eqb, le-ltb}
 use Rattle.bitset.specs.Tests.{every, either}
 use Rattle.bitset.specs.Tests.Laws.{every-at}
 use Rattle.guard.specs.Level.{userCount, sessionCount, roleCount, entityCount}
-use Rattle.guard.specs.Label.{topGrade, allCategories, labelInRange}
+use Rattle.guard.specs.Label.{topGrade, allCategories, labelInRangeIn}
 use Rattle.guard.specs.Tables.{container, allRights}
 use Rattle.guard.specs.Sound.{topName}
-use Rattle.guard.specs.Requests.{Rule, fieldInRange, rules, unknown, ruleOf, login, logout, take, drop, openr, openw, close, create, delete, rename, grant, revoke, list, unlist, make, unmake}
-use Rattle.guard.specs.Step.{inRanges}
+use Rattle.guard.specs.Requests.{Rule, fieldInRangeIn, rules, unknown, ruleOf, login, logout, take, drop, openr, openw, close, create, delete, rename, grant, revoke, list, unlist, make, unmake}
+use Rattle.guard.specs.Step.{inRangesIn}
 use Rattle.guard.specs.Kind as kind
 use Rattle.guard.specs.Private.Inside.{asksWay, asksName, asksRights}
+use Rattle.guard.specs.Private.InForce.{fieldInRange, inRanges}
 use Rattle.guard.specs.declared.Request.{Request}
 use Rattle.guard.proofs.Laws.Requests.{unknown-rule}
 
@@ -84,7 +85,7 @@ module _ (q : Request) where
   rule-at k h = ap (λ (n : ℕ). getD rules n unknown) h
 
   pub ranges-at : (k : ℕ) → q .call ≡ k → inRanges q ≡ every (tests (getD rules k unknown) q)
-  unfolding inRanges
+  unfolding inRangesIn
   ranges-at k h = ap (λ (rule : Rule). every (tests rule q)) (rule-at k h)
 
   -- .. of the kinds that use the same fields
@@ -95,28 +96,28 @@ module _ (q : Request) where
   by-span b low k each l h = span (Same b) low k each (q .call) l h ∙ sym (ranges-at (q .call) refl)
 
   pub fits-take : 2 ≤ q .call → q .call < 4 → (ltb (q .seat) sessionCount && ltb (q .role) roleCount) ≡ inRanges q
-  unfolding rules take drop fieldInRange every
+  unfolding rules take drop fieldInRangeIn every
   fits-take l h = by-span _ 2 2 (simp and-true, (simp and-true, tt)) l h
 
   pub fits-open : 4 ≤ q .call → q .call < 7 → (ltb (q .seat) sessionCount && ltb (q .entity) entityCount) ≡ inRanges q
-  unfolding rules openr openw close fieldInRange every
+  unfolding rules openr openw close fieldInRangeIn every
   fits-open l h = by-span _ 4 3 (simp and-true, (simp and-true, (simp and-true, tt))) l h
 
   pub fits-grant : 10 ≤ q .call → q .call < 12
       → (ltb (q .seat) sessionCount && (ltb (q .role) roleCount && (ltb (q .entity) entityCount && (leb 1 (q .rights) && leb (q .rights) allRights)))) ≡ inRanges q
-  unfolding rules grant revoke fieldInRange every
+  unfolding rules grant revoke fieldInRangeIn every
   fits-grant l h = by-span _ 10 2 (simp and-true, (simp and-true, tt)) l h
 
   pub fits-list : 12 ≤ q .call → q .call < 14 → (ltb (q .seat) sessionCount && (ltb (q .role) roleCount && ltb (q .user) userCount)) ≡ inRanges q
-  unfolding rules list unlist fieldInRange every
+  unfolding rules list unlist fieldInRangeIn every
   fits-list l h = by-span _ 12 2 (simp and-true, (simp and-true, tt)) l h
 
   pub fits-make : 14 ≤ q .call → q .call < 16 → (ltb (q .seat) sessionCount && ltb (q .role) roleCount) ≡ inRanges q
-  unfolding rules make unmake fieldInRange every
+  unfolding rules make unmake fieldInRangeIn every
   fits-make l h = by-span _ 14 2 (simp and-true, (simp and-true, tt)) l h
 
   pub fits-none : 16 ≤ q .call → false ≡ inRanges q
-  unfolding inRanges unknown fieldInRange every
+  unfolding inRangesIn unknown fieldInRangeIn every
   fits-none h = rw (unknown-rule q h, le-ltb (q .call) 16 h, and-false (ltb (q .seat) sessionCount))
 
   module _ (ok : inRanges q ≡ true) where
@@ -124,71 +125,71 @@ module _ (q : Request) where
     of-ranges k h = sym (ranges-at k h) ∙ ok
 
     pub in-login : q .call ≡ kind.login → (q .seat < sessionCount) × (q .user < userCount) × (q .grade ≤ topGrade) × (q .cats ≤ allCategories)
-    unfolding rules login fieldInRange labelInRange
+    unfolding rules login fieldInRangeIn labelInRangeIn
     in-login c =
         let met = every-at _ (of-ranges 0 c) in
         (ltb-true _ _ (met 0), ltb-true _ _ (met 1), leb-true _ _ (every-at _ (met 2) 0), leb-true _ _ (every-at _ (met 2) 1))
 
     pub in-logout : q .call ≡ kind.logout → q .seat < sessionCount
-    unfolding rules logout fieldInRange
+    unfolding rules logout fieldInRangeIn
     in-logout c = ltb-true _ _ (every-at _ (of-ranges 1 c) 0)
 
     pub in-take : q .call ≡ kind.take → (q .seat < sessionCount) × (q .role < roleCount)
-    unfolding rules take fieldInRange
+    unfolding rules take fieldInRangeIn
     in-take c = let met = every-at _ (of-ranges 2 c) in (ltb-true _ _ (met 0), ltb-true _ _ (met 1))
 
     pub in-drop : q .call ≡ kind.drop → (q .seat < sessionCount) × (q .role < roleCount)
-    unfolding rules drop fieldInRange
+    unfolding rules drop fieldInRangeIn
     in-drop c = let met = every-at _ (of-ranges 3 c) in (ltb-true _ _ (met 0), ltb-true _ _ (met 1))
 
     pub in-openr : q .call ≡ kind.openr → (q .seat < sessionCount) × (q .entity < entityCount)
-    unfolding rules openr fieldInRange
+    unfolding rules openr fieldInRangeIn
     in-openr c = let met = every-at _ (of-ranges 4 c) in (ltb-true _ _ (met 0), ltb-true _ _ (met 1))
 
     pub in-openw : q .call ≡ kind.openw → (q .seat < sessionCount) × (q .entity < entityCount)
-    unfolding rules openw fieldInRange
+    unfolding rules openw fieldInRangeIn
     in-openw c = let met = every-at _ (of-ranges 5 c) in (ltb-true _ _ (met 0), ltb-true _ _ (met 1))
 
     pub in-close : q .call ≡ kind.close → (q .seat < sessionCount) × (q .entity < entityCount)
-    unfolding rules close fieldInRange
+    unfolding rules close fieldInRangeIn
     in-close c = let met = every-at _ (of-ranges 6 c) in (ltb-true _ _ (met 0), ltb-true _ _ (met 1))
 
     pub in-delete : q .call ≡ kind.delete → (q .seat < sessionCount) × (q .entity < entityCount)
-    unfolding rules delete fieldInRange
+    unfolding rules delete fieldInRangeIn
     in-delete c = let met = every-at _ (of-ranges 8 c) in (ltb-true _ _ (met 0), ltb-true _ _ (met 1))
 
     pub in-rename : q .call ≡ kind.rename → (q .seat < sessionCount) × (q .entity < entityCount) × (1 ≤ q .name) × (q .name ≤ topName)
-    unfolding rules rename fieldInRange
+    unfolding rules rename fieldInRangeIn
     in-rename c =
         let met = every-at _ (of-ranges 9 c) in
         (ltb-true _ _ (met 0), ltb-true _ _ (met 1), leb-true _ _ (every-at _ (met 2) 0), leb-true _ _ (every-at _ (met 2) 1))
 
     pub in-grant : q .call ≡ kind.grant → (q .seat < sessionCount) × (q .role < roleCount) × (q .entity < entityCount) × (q .rights ≤ allRights)
-    unfolding rules grant fieldInRange
+    unfolding rules grant fieldInRangeIn
     in-grant c =
         let met = every-at _ (of-ranges 10 c) in
         (ltb-true _ _ (met 0), ltb-true _ _ (met 1), ltb-true _ _ (met 2), leb-true _ _ (every-at _ (met 3) 1))
 
     pub in-revoke : q .call ≡ kind.revoke → (q .seat < sessionCount) × (q .role < roleCount) × (q .entity < entityCount) × (q .rights ≤ allRights)
-    unfolding rules revoke grant fieldInRange
+    unfolding rules revoke grant fieldInRangeIn
     in-revoke c =
         let met = every-at _ (of-ranges 11 c) in
         (ltb-true _ _ (met 0), ltb-true _ _ (met 1), ltb-true _ _ (met 2), leb-true _ _ (every-at _ (met 3) 1))
 
     pub in-list : q .call ≡ kind.list → (q .seat < sessionCount) × (q .role < roleCount) × (q .user < userCount)
-    unfolding rules list fieldInRange
+    unfolding rules list fieldInRangeIn
     in-list c = let met = every-at _ (of-ranges 12 c) in (ltb-true _ _ (met 0), ltb-true _ _ (met 1), ltb-true _ _ (met 2))
 
     pub in-unlist : q .call ≡ kind.unlist → (q .seat < sessionCount) × (q .role < roleCount) × (q .user < userCount)
-    unfolding rules unlist fieldInRange
+    unfolding rules unlist fieldInRangeIn
     in-unlist c = let met = every-at _ (of-ranges 13 c) in (ltb-true _ _ (met 0), ltb-true _ _ (met 1), ltb-true _ _ (met 2))
 
     pub in-make : q .call ≡ kind.make → (q .seat < sessionCount) × (q .role < roleCount)
-    unfolding rules make fieldInRange
+    unfolding rules make fieldInRangeIn
     in-make c = let met = every-at _ (of-ranges 14 c) in (ltb-true _ _ (met 0), ltb-true _ _ (met 1))
 
     pub in-unmake : q .call ≡ kind.unmake → (q .seat < sessionCount) × (q .role < roleCount)
-    unfolding rules unmake fieldInRange
+    unfolding rules unmake fieldInRangeIn
     in-unmake c = let met = every-at _ (of-ranges 15 c) in (ltb-true _ _ (met 0), ltb-true _ _ (met 1))
 
     pub record InCreate : Type 0 where
@@ -203,7 +204,7 @@ module _ (q : Request) where
       pub role : q .role < roleCount
 
     pub in-create : q .call ≡ kind.create → InCreate
-    unfolding rules create fieldInRange labelInRange
+    unfolding rules create fieldInRangeIn labelInRangeIn
     in-create c =
         let met = every-at _ (of-ranges 7 c) in
         record {

@@ -16,9 +16,9 @@ use Rattle.guard.specs.Tables.{sessionAt, roleAt, entityAt}
 use Rattle.guard.specs.Sound.{sound}
 use Rattle.guard.specs.Edits.{withSessions, withRoles, withEntities, atSession, atRole, atEntity, eachSession, eachRole, dropRole, closeBoth, clearRights, listUser, unlistUser}
 use Rattle.guard.specs.Requests.{rules, ruleOf, login, logout, take, drop, openr, openw, close, create, delete, rename, grant, revoke, list, unlist, make, unmake}
-use Rattle.guard.specs.Step.{inRanges}
 use Rattle.guard.specs.Kind as kind
 use Rattle.guard.specs.Private.Inside.{number, Placed, changeOf, sessionAfter, entityAfter, usersAfter, roleAfter, owning}
+use Rattle.guard.specs.Private.InForce.{inRanges}
 use Rattle.guard.specs.declared.Session.{Session}
 use Rattle.guard.specs.declared.Role.{Role}
 use Rattle.guard.specs.declared.Entity.{Entity}

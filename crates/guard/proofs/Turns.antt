@@ -17,7 +17,7 @@ use Rattle.guard.specs.Fresh.{tabulate}
 use Rattle.guard.specs.Sound.{sound}
 use Rattle.guard.specs.Refusals.{first}
 use Rattle.guard.specs.Requests.{ruleOf}
-use Rattle.guard.specs.Step.{inRanges, answer, next, step, run, answers}
+use Rattle.guard.specs.Step.{inRangesIn, answer, answerIn, next, nextIn, step, run, runIn, answers, answersIn}
 use Rattle.guard.specs.Private.Inside.{rowOf, number}
 use Rattle.guard.specs.Batch.{requestAt, requests, batchLength, RunsBatch}
 use Rattle.guard.specs.Private.Scan.{Keys, Grants}
@@ -35,15 +35,15 @@ pub record Stepped (t : Tables) (q : Request) (u : Tables) (n : ℕ) : Type 0 wh
 
 module _ (t : Tables) (q : Request) (n : ℕ) (h : sound t ≡ true) (judged : n ≡ number (ruleOf q) t q) where
   told : answer t q ≡ n
-  unfolding answer first inRanges number
+  unfolding answerIn first inRangesIn number
   told = rw h (sym judged)
 
   pub refuses : (n ≡ 0 → ⊥) → Stepped t q t n
-  unfolding next
+  unfolding nextIn
   refuses k = record { tables = rw (told, ne-eqb n 0 k); answered = sym told }
 
   pub does : n ≡ 0 → (u : Tables) → u ≡ ruleOf q .effect q t → Stepped t q u n
-  unfolding next
+  unfolding nextIn
   does z u e = record { tables = rw (told, eq-eqb n 0 z) e; answered = sym told }
 
 -- ---- after i requests
@@ -55,7 +55,7 @@ pub record Held (t₀ : Tables) (rows old : List ℕ) (i : ℕ) (t : Tables) (sa
   pub grants : Grants (t .roles) g
 
 pub held-none : (t : Tables) (rows old keys grants : List ℕ) → sound t ≡ true → Keys (t .entities) keys → Grants (t .roles) grants → Held t rows old 0 t old keys grants
-unfolding run answers tabulate
+unfolding runIn answersIn tabulate
 held-none t rows old keys grants h K G = record { ran = refl; isSound = h; answered = refl; keys = K; grants = G }
 
 module _ (t₀ : Tables) (rows old : List ℕ) (i : ℕ) (t : Tables) (said keys grants : List ℕ) (held : Held t₀ rows old i t said keys grants) where
@@ -88,7 +88,7 @@ module _ (t₀ : Tables) (rows old : List ℕ) (i : ℕ) (t : Tables) (said keys
 
 -- ---- of no request
 pub no-batch : (t : Tables) (rows old : List ℕ) → 0 ≡ batchLength (length rows) (length old) → RunsBatch t rows old old t
-unfolding tabulate run answers
+unfolding tabulate runIn answersIn
 no-batch t rows old h = record { tables = rw (← h); answered = rw (← h) }
 
 -- ---- on unsound tables
@@ -104,7 +104,7 @@ unsound-batch t rows old new n h e same =
 -- ---- a batch of one request
 pub one-request : (t u : Tables) (q : Request) (rows old new : List ℕ) (o : ℕ) → rows ≡ rowOf q → old ≡ 0 ∷ [] → RunsBatch t rows old new u → o ≡ getD new 0 0
     → _≡_ {A = Outcome} (record { tables = u; answer = o }) (step t q)
-unfolding batchLength tabulate requestAt run answers step
+unfolding batchLength tabulate requestAt runIn answersIn step
 one-request t u q rows old new o row room h first =
     let after : u ≡ next t q = h .tables ∙ rw (row, room) in
     let told : new ≡ answer t q ∷ [] = h .answered ∙ rw (row, room) in

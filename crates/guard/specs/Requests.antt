@@ -6,7 +6,7 @@ use lib.Dec.{leb, ltb}
 use lib.ListN.{getD}
 use Rattle.bitset.specs.Tests.{every, either}
 use Rattle.guard.specs.Level.{userCount, sessionCount, roleCount, entityCount, isRoot, isKeeper}
-use Rattle.guard.specs.Label.{labelInRange}
+use Rattle.guard.specs.Label.{labelInRangeIn}
 use Rattle.guard.specs.Tables.{noSession, noRole, noEntity, container, read, write, own, allRights}
 use Rattle.guard.specs.Sound.{topName}
 use Rattle.guard.specs.Edits.{atSession, atRole, atEntity, eachSession, eachRole, takeRole, dropRole, openReading, openWriting, closeBoth, addRights, removeRights, clearRights, listUser, unlistUser, renameTo, madeRole}
@@ -29,17 +29,17 @@ pub data Field : Type 0 where
 abbrev pub requestCount : ℕ
 requestCount = 16
 
-unfoldable pub fieldInRange : Request → Field → Bool
-fieldInRange q call = ltb (q .call) requestCount
-fieldInRange q seat = ltb (q .seat) sessionCount
-fieldInRange q user = ltb (q .user) userCount
-fieldInRange q role = ltb (q .role) roleCount
-fieldInRange q entity = ltb (q .entity) entityCount
-fieldInRange q parent = ltb (q .parent) entityCount
-fieldInRange q kind = leb (q .kind) container
-fieldInRange q name = every (leb 1 (q .name) ∷ leb (q .name) topName ∷ [])
-fieldInRange q label = labelInRange (labelAsked q)
-fieldInRange q rights = every (leb 1 (q .rights) ∷ leb (q .rights) allRights ∷ [])
+unfoldable pub fieldInRangeIn : ℕ → Request → Field → Bool
+fieldInRangeIn width q call = ltb (q .call) requestCount
+fieldInRangeIn width q seat = ltb (q .seat) sessionCount
+fieldInRangeIn width q user = ltb (q .user) userCount
+fieldInRangeIn width q role = ltb (q .role) roleCount
+fieldInRangeIn width q entity = ltb (q .entity) entityCount
+fieldInRangeIn width q parent = ltb (q .parent) entityCount
+fieldInRangeIn width q kind = leb (q .kind) container
+fieldInRangeIn width q name = every (leb 1 (q .name) ∷ leb (q .name) topName ∷ [])
+fieldInRangeIn width q label = labelInRangeIn width (labelAsked q)
+fieldInRangeIn width q rights = every (leb 1 (q .rights) ∷ leb (q .rights) allRights ∷ [])
 
 -- What the paper says of one request: the fields that it uses, the refusals that apply after 1 and 2, and what it does.
 -- Refusals read the tables; what is done is a matter of the request alone.

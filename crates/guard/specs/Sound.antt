@@ -6,7 +6,7 @@ use lib.Dec.{leb, ltb, eqb}
 use lib.ListN.{length, getD}
 use Rattle.bitset.specs.Tests.{every, implies, all}
 use Rattle.guard.specs.Level.{userCount, sessionCount, roleCount, entityCount, topLevel, sessionLevel, roleLevel, entityLevel, isRoot, isKeeper}
-use Rattle.guard.specs.Label.{labelInRange, dominates, sameLabel, noLabel}
+use Rattle.guard.specs.Label.{allCategories, labelInRangeIn, dominates, sameLabel, noLabel}
 use Rattle.guard.specs.Tables.{noUser, sessionAt, roleAt, entityAt, container, holds, isReading, isWriting, rightsOn, isChild}
 use Rattle.guard.specs.Chain.{endsAtRoot}
 use Rattle.guard.specs.declared.User.{User}
@@ -16,14 +16,14 @@ use Rattle.guard.specs.declared.Entity.{Entity}
 use Rattle.guard.specs.declared.Tables.{Tables}
 
 -- ---- Every field is in range, ..
-unfoldable pub userInRange : User → Bool
-userInRange u = every (leb (u .ceiling) topLevel ∷ labelInRange (u .clearance) ∷ [])
+unfoldable pub userInRangeIn : ℕ → User → Bool
+userInRangeIn width u = every (leb (u .ceiling) topLevel ∷ labelInRangeIn width (u .clearance) ∷ [])
 
-unfoldable pub sessionInRange : Session → Bool
-sessionInRange s =
+unfoldable pub sessionInRangeIn : ℕ → Session → Bool
+sessionInRangeIn width s =
     every
     (ltb (s .user) userCount
-    ∷ labelInRange (s .label)
+    ∷ labelInRangeIn width (s .label)
     ∷ ltb (s .roles) (2 ^ roleCount)
     ∷ ltb (s .reading) (2 ^ entityCount)
     ∷ ltb (s .writing) (2 ^ entityCount)
@@ -43,24 +43,24 @@ roleInRange r =
 abbrev pub topName : ℕ
 topName = 65535
 
-unfoldable pub entityInRange : Entity → Bool
-entityInRange e =
-    every (leb (e .kind) container ∷ ltb (e .parent) entityCount ∷ leb (e .name) topName ∷ labelInRange (e .label) ∷ [])
+unfoldable pub entityInRangeIn : ℕ → Entity → Bool
+entityInRangeIn width e =
+    every (leb (e .kind) container ∷ ltb (e .parent) entityCount ∷ leb (e .name) topName ∷ labelInRangeIn width (e .label) ∷ [])
 
-unfoldable pub usersInRange : List User → Bool
-usersInRange us = every (eqb (length us) userCount ∷ all userCount (λ u. userInRange (getD us u noUser)) ∷ [])
+unfoldable pub usersInRangeIn : ℕ → List User → Bool
+usersInRangeIn width us = every (eqb (length us) userCount ∷ all userCount (λ u. userInRangeIn width (getD us u noUser)) ∷ [])
 
 -- a list longer or shorter than the tables hold is out of range too
-unfoldable pub fieldsInRange : Tables → Bool
-fieldsInRange t =
+unfoldable pub fieldsInRangeIn : ℕ → Tables → Bool
+fieldsInRangeIn width t =
     every
-    (usersInRange (t .users)
+    (usersInRangeIn width (t .users)
     ∷ eqb (length (t .sessions)) sessionCount
-    ∷ all sessionCount (λ s. sessionInRange (sessionAt t s))
+    ∷ all sessionCount (λ s. sessionInRangeIn width (sessionAt t s))
     ∷ eqb (length (t .roles)) roleCount
     ∷ all roleCount (λ r. roleInRange (roleAt t r))
     ∷ eqb (length (t .entities)) entityCount
-    ∷ all entityCount (λ e. entityInRange (entityAt t e))
+    ∷ all entityCount (λ e. entityInRangeIn width (entityAt t e))
     ∷ [])
 
 -- .. and roots and keepers are as said: the roots are live containers, label 0/0 (grade/categories), name 0, each its
@@ -160,10 +160,10 @@ writingWithin t =
     (every (leb (entityLevel e) (sessionLevel s) ∷ sameLabel (sessionAt t s .label) (entityAt t e .label) ∷ []))))
 
 -- Tables are sound when all of this holds.
-unfoldable pub sound : Tables → Bool
-sound t =
+unfoldable pub soundIn : ℕ → Tables → Bool
+soundIn width t =
     every
-    (fieldsInRange t
+    (fieldsInRangeIn width t
     ∷ rootsAsSaid t
     ∷ keepersAsSaid t
     ∷ entitiesPlaced t
@@ -173,3 +173,10 @@ sound t =
     ∷ readingWithin t
     ∷ writingWithin t
     ∷ [])
+
+-- ---- in force
+abbrev pub usersInRange : List User → Bool
+usersInRange = usersInRangeIn allCategories
+
+abbrev pub sound : Tables → Bool
+sound = soundIn allCategories

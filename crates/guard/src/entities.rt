@@ -21,9 +21,9 @@ ghost use Rattle.guard.specs.Edits.{renameTo};
 ghost use Rattle.guard.specs.Refusals.{first, _when_};
 ghost use Rattle.guard.specs.Conditions.{labelAsked};
 ghost use Rattle.guard.specs.Requests.{created};
-ghost use Rattle.guard.specs.Step.{inRanges};
 ghost use Rattle.guard.specs.Kind as kind;
 ghost use Rattle.guard.specs.Private.Inside.{entityAfter};
+ghost use Rattle.guard.specs.Private.InForce.{inRanges};
 
 // The refusals of create up to 9: what has to be there, and what not.
 fn create_refusal_to_9(v: View) -> u8

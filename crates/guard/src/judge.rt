@@ -8,8 +8,8 @@ use crate::sessions;
 use crate::view::View;
 ghost use mathlib.Core.Path.{_≡_};
 ghost use Rattle.guard.specs.Requests.{ruleOf};
-ghost use Rattle.guard.specs.Step.{inRanges};
 ghost use Rattle.guard.specs.Private.Inside.{number, Seen};
+ghost use Rattle.guard.specs.Private.InForce.{inRanges};
 ghost use Rattle.guard.specs.declared.Tables.{Tables as TablesOf};
 
 // A number that is none of the sixteen is out of range.

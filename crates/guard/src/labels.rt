@@ -1,4 +1,4 @@
-// Labels: a grade and a set of eight categories.
+// Labels: a grade and a set of sixteen categories.
 use crate::Label;
 use crate::sizes::TOP_GRADE;
 ghost use Prim.Native.Nat.{_≤_};
@@ -9,7 +9,7 @@ ghost use Rattle.guard.specs.Label.{labelInRange, dominates as dominates
 pub fn dominates(a: Label, b: Label) -> bool
     ensures { λ r. ⌜ r ≡ dominatesOf a b ⌝ }
 {
-    (b.grade <= a.grade) & bitset::contains8(a.cats, b.cats)
+    (b.grade <= a.grade) & bitset::contains16(a.cats, b.cats)
 }
 
 // Whether the two have one grade and one set.
@@ -19,7 +19,7 @@ pub fn same(a: Label, b: Label) -> bool
     (a.grade == b.grade) & (a.cats == b.cats)
 }
 
-// Whether the grade is one of four; every `u8` is a set of categories.
+// Whether the grade is one of four; every `u16` is a set of categories.
 pub fn in_range(a: Label) -> bool
     ensures { λ r. ⌜ r ≡ labelInRange a ⌝ }
 {
@@ -33,7 +33,7 @@ pub fn made(grade: u32, cats: u32) -> Label
     ensures { λ r. ⌜ r ≡ label grade cats ⌝ }
 {
     Label {
-        cats: cats as u8,
+        cats: cats as u16,
         grade: grade as u8,
     }
 }

@@ -2,7 +2,8 @@
 //
 // The records below hold document 01's tables, and a request as a host hands it in. What they mean, which tables are
 // sound, what each request answers and how it changes the tables is said by the definitions in specs/, in the paper's
-// order. Sets are bit sets: member `i` is bit `i` (crate `bitset`). No record holds an enum or a reference.
+// order. Sets are bit sets: member `i` is bit `i` (crate `bitset`). No record holds an enum or a reference. Tables of the old width,
+// with a set of eight categories, have records of their own (`old`).
 mod change;
 mod entities;
 mod fresh;
@@ -11,6 +12,7 @@ pub mod kinds;
 mod labels;
 mod look;
 mod methods;
+pub mod old;
 mod opens;
 mod roles;
 mod rows;
@@ -27,9 +29,9 @@ use sizes::ROLES;
 use sizes::SESSIONS;
 use sizes::USERS;
 
-// Label: a confidentiality grade, 0 to 3, and a set of eight categories.
+// Label: a confidentiality grade, 0 to 3, and a set of sixteen categories.
 pub struct Label {
-    pub cats: u8,
+    pub cats: u16,
     pub grade: u8,
 }
 

@@ -6,9 +6,9 @@ ghost use Prim.Native.Nat.{_<_};
 ghost use mathlib.Core.Path.{_≡_};
 ghost use mathlib.Core.Bool.{cond};
 ghost use lib.Dec.{eqb};
-ghost use Rattle.guard.specs.Step.{inRanges};
 ghost use Rattle.guard.specs.Kind as kind;
 ghost use Rattle.guard.specs.Private.Inside.{Below, Placed, asksWay, asksName, asksRights};
+ghost use Rattle.guard.specs.Private.InForce.{inRanges};
 
 // The places of the records that a request concerns: where a number is past its range, some other place. `fits`: every number
 // that the request's kind uses is in its range.

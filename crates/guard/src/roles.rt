@@ -16,8 +16,8 @@ ghost use Rattle.guard.specs.Level.{sessionLevel, roleLevel, entityLevel
 ghost use Rattle.guard.specs.Tables.{noRole, allRights};
 ghost use Rattle.guard.specs.Edits.{clearRights};
 ghost use Rattle.guard.specs.Refusals.{first, _when_};
-ghost use Rattle.guard.specs.Step.{inRanges};
 ghost use Rattle.guard.specs.Private.Inside.{usersAfter, setAfter, grantedAfter, roleAfter, owning as owningOf};
+ghost use Rattle.guard.specs.Private.InForce.{inRanges};
 
 // grant and revoke are refused alike.
 pub fn rights_refusal(q: Request, v: View) -> u8

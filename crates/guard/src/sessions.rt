@@ -22,8 +22,8 @@ ghost use Rattle.guard.specs.Edits.{dropRole, closeBoth};
 ghost use Rattle.guard.specs.Refusals.{first, _when_};
 ghost use Rattle.guard.specs.Conditions.{labelAsked};
 ghost use Rattle.guard.specs.Requests.{loggedIn};
-ghost use Rattle.guard.specs.Step.{inRanges};
 ghost use Rattle.guard.specs.Private.Inside.{sessionAfter};
+ghost use Rattle.guard.specs.Private.InForce.{inRanges};
 
 pub fn login_refusal(q: Request, v: View) -> u8
     requires { ⌜ (q .grade ≤ topGrade) × (q .cats ≤ allCategories) ⌝ }

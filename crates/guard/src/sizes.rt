@@ -35,7 +35,7 @@ pub const TOP_GRADE: u8 = 3;
 
 pub const TOP_GRADE_ASKED: u32 = TOP_GRADE as u32;
 
-pub const ALL_CATEGORIES: u32 = 255;
+pub const ALL_CATEGORIES: u32 = 65535;
 
 pub const TOP_NAME: u32 = 65535;
 

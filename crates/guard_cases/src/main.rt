@@ -8,6 +8,8 @@
 //   with KIND N FIELD X         one member more of a set
 //   fresh                       the tables are built anew over the users that they have
 //   fresh | NAME                the same: the answer, and what is not as in the tables kept
+//   old | NAME                  the tables, put into records of the old width, their categories modulo 256, and taken over:
+//                               what changed
 //   keep                        the tables are kept to go back to
 //   back                        to the tables kept
 //   show KIND N                 a record
@@ -31,12 +33,13 @@ use cases::state::State;
 use cases::text;
 ghost use Rattle.io.specs.Counts.{Counts};
 
-// Verbs are numbered by their places in the list of `text::place`: `clear`, `keep`, `back`; `fresh`; `set`; `with`.
+// Verbs are numbered by their places in the list of `text::place`: `clear`, `keep`, `back`; `fresh`; `old`; `set`; `with`.
 fn edits(b: State, verb: usize, s: &[u8], at: usize, name: &[u8]) -> State {
     match verb {
         0..=2 => b.tables(verb),
         3 => b.fresh(name),
-        4 => b.set(s, at),
+        4 => b.old(name),
+        5 => b.set(s, at),
         _ => b.with(s, at),
     }
 }
@@ -44,17 +47,17 @@ fn edits(b: State, verb: usize, s: &[u8], at: usize, name: &[u8]) -> State {
 // `show`; `say`; `compare`; `gather`; `run`; `do`, `ask`, `broken`, `edge`; and what is no verb is a request.
 fn verb(b: State, verb: usize, s: &[u8], at: usize, name: &[u8]) -> State {
     match verb {
-        0..=5 => edits(b, verb, s, at, name),
-        6 => b.show(s, at),
-        7 => {
+        0..=6 => edits(b, verb, s, at, name),
+        7 => b.show(s, at),
+        8 => {
             show::word(name);
             show::say(show::END);
             b
         }
-        8 => b.compare(name),
-        9 => b.gather(s, at),
-        10 => b.run(s, at, name),
-        11..=14 => b.request(verb - 11, s, at, name),
+        9 => b.compare(name),
+        10 => b.gather(s, at),
+        11 => b.run(s, at, name),
+        12..=15 => b.request(verb - 12, s, at, name),
         _ => b.request(4, s, 0, name),
     }
 }

@@ -13,7 +13,7 @@ use lib.ListN.{length, take}
 use lib.Seq.{take-at}
 use Rattle.bitset.specs.Tests.{every}
 use Rattle.guard.specs.Sound.{sound}
-use Rattle.guard.specs.Step.{next, step, run, answers}
+use Rattle.guard.specs.Step.{next, step, run, runIn, answers, answersIn}
 use Rattle.guard.specs.SameRequest.{sameRequests}
 use Rattle.isolation.specs.Upper.{upper, isUpper, namesUpper, upperRequests, upperAnswers}
 use Rattle.guard.specs.Batch.{batch, RunsBatch}
@@ -47,13 +47,13 @@ abbrev Logged : Tables → List Request → List ℕ → Tables → Type 0
 Logged t a p u = (u ≡ run t a) × (p ≡ answers t a)
 
 one-logged : {t u : Tables} {a : List Request} {p : List ℕ} → Call t a p u → Logged t a p u
-unfolding run answers step
+unfolding runIn answersIn step
 one-logged (stepped e) = (ap (λ (o : Outcome). o .tables) e, ap (λ (o : Outcome). o .answer ∷ []) e)
 one-logged (ran {t = t} {rows = rows} {old = old} r) =
     (r .tables, rw (r .answered) (take-at (answers t (batch rows (length old))) _ _ (length-answers t (batch rows (length old)))))
 
 logged : {t u : Tables} {a : List Request} {p : List ℕ} → Calls t a p u → Logged t a p u
-unfolding run answers
+unfolding runIn answersIn
 logged none = (refl, refl)
 logged (more call calls) =
     let (u-is, p-is) = one-logged call in
@@ -62,7 +62,7 @@ logged (more call calls) =
 
 -- the answers to a log that are compared are those of the rule
 compared-answers : (L : ℕ) (t : Tables) (log : List Request) → compared L log (answers t log) ≡ upperAnswers L t log
-unfolding compared answers upperAnswers
+unfolding compared answersIn upperAnswers
 compared-answers L t [] = refl
 compared-answers L t (q ∷ log) = rw (compared-answers L (next t q) log)
 

@@ -8,6 +8,7 @@ pub mod Respect
 pub mod Agree
 pub mod Rule
 pub mod SameRequests
+pub mod OldWidth
 
 -- one proof for each rule: `of-login and of-logout and .. and tt`
 infixr 5 _and_

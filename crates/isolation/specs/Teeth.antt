@@ -21,9 +21,10 @@ use Rattle.guard.proofs.Laws.Morning.{morningUsers}
 use Rattle.guard.specs.Edits.{atSession, atEntity}
 use Rattle.guard.specs.Refusals.{Refusal, _when_, first}
 use Rattle.guard.specs.Conditions.{recordedParent}
-use Rattle.guard.specs.Requests.{Rule, fieldInRange, ruleOf}
-use Rattle.guard.specs.Step.{inRanges, answer, next, answers, run}
+use Rattle.guard.specs.Requests.{Rule, ruleOf}
+use Rattle.guard.specs.Step.{inRangesIn, answerIn, nextIn, answers, run, runIn}
 use Rattle.guard.specs.SameRequest.{sameField, sameRequest}
+use Rattle.guard.specs.Private.InForce.{fieldInRange}
 use Rattle.isolation.specs.Upper.{upperSession, upperRole, upper, isUpper, fieldUpper, namesUpper, upperRequests}
 use Rattle.guard.specs.declared.Tables.{Tables}
 use Rattle.guard.specs.declared.Request.{Request}
@@ -85,12 +86,12 @@ log-b = login-4 ∷ openr-by-1 ∷ logout-0 ∷ take-4 ∷ []
 
 pub lower-logs-differ : (upperRequests 1 log-a ≡ upperRequests 1 log-b) × (upper 1 (run start log-a) ≡ upper 1 (run start log-b))
     × (answers start log-a ≡ 0 ∷ 0 ∷ 0 ∷ []) × (answers start log-b ≡ 0 ∷ 5 ∷ 0 ∷ 0 ∷ [])
-unfolding computing morningUsers start run upper upperSession upperRole from isUpper upperRequests
+unfolding computing morningUsers start runIn upper upperSession upperRole from isUpper upperRequests
 lower-logs-differ = (refl, refl, refl, refl)
 
 -- .. and leaves different lower parts: seat 0 is still signed in after the first
 pub lower-parts-differ : upper 0 (run start log-a) ≡ upper 0 (run start log-b) → ⊥
-unfolding computing morningUsers start run upper upperSession upperRole from
+unfolding computing morningUsers start runIn upper upperSession upperRole from
 lower-parts-differ e = true≢false (ap (λ (v : Tables). getD (v .sessions) 0 noSession .live) e)
 
 -- ---- two logouts of the upper seat 4 that differ in the role, which logout does not use, ask the same; two takes do not
@@ -121,7 +122,7 @@ module _ (rule : Request → Rule) where
       × (answersOf nextBy answerBy (isUpper L) (namesUpper L) t a ≡ answersOf nextBy answerBy (isUpper L) (namesUpper L) u b)
 
 pub guard-isolates : Isolates ruleOf
-unfolding answerBy nextBy answer next inRanges
+unfolding answerBy nextBy answerIn nextIn inRangesIn
 guard-isolates L low high = isolated L
 
 -- ---- a misreading: the rule of one call, with another condition at one number

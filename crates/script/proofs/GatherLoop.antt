@@ -14,7 +14,7 @@ use native.Mathlib.Nat.{add-zero}
 use native.Mathlib.Omega.{arith}
 use lib.Dec.{leb}
 use borrow.Author.Tests.{leb-false}
-use Rattle.guard.specs.Step.{answer, run, answers}
+use Rattle.guard.specs.Step.{answer, run, runIn, answers, answersIn}
 use Rattle.guard.specs.Fresh.{tabulate}
 use Rattle.guard.specs.Batch.{rowLength, requestAt, requests}
 use Rattle.guard.specs.declared.Tables.{Tables}
@@ -63,14 +63,14 @@ goes-on s used n b h = go (leb (length (take (length s - used) (drop used s))) n
 
 -- ---- what a line adds to a log
 run-on : (t : Tables) (log : List Request) (l : Line) → run t (log ++ requestsOf l) ≡ run (run t log) (requestsOf l)
-unfolding run
+unfolding runIn
 run-on t log (Ask q) = run-snoc t log q
 run-on t log (SetUser user level cats ceiling) = rw append-nil
 run-on t log Bad = rw append-nil
 
 texts-on : (t : Tables) (log : List Request) (l : Line) (n : ℕ) (ms : List Bool) → asked ms ≡ length log
     → texts n (ms ++ (isRequest l ∷ [])) (answers t (log ++ requestsOf l)) ≡ texts n ms (answers t log) ++ lineText (n + length ms) (answerTo (run t log) l)
-unfolding isRequest said answers
+unfolding isRequest said answersIn
 texts-on t log (Ask q) n ms e =
     let given : List ℕ = answers t log in
     let a : ℕ = answer (run t log) q in
@@ -92,7 +92,7 @@ pub record Taken (at s : List ℕ) (before : Bool) (rows : List ℕ) (marks : Li
       (fromLine header (bench (run t (requests count rows)) shut) (n + lines) (drop used s ++ more))
 
 pub taken-none : (at s : List ℕ) (shut : Bool) (rows : List ℕ) (marks : List Bool) → Taken at s shut rows marks 0 0 0 shut
-unfolding asked texts run tabulate
+unfolding asked texts runIn tabulate
 taken-none at s shut rows marks =
     record {
       within = omega arith;

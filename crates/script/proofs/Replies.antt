@@ -15,7 +15,7 @@ use lib.ListN.{replicate}
 use borrow.Author.Tests.{ltb-true, ltb-false, leb-true, leb-false, lt-ltb, le-ltb, lt-leb, le-leb}
 use Rattle.bitset.specs.Tests.{every}
 use Rattle.bitset.specs.Tests.Laws.{every-e, is-false, clash}
-use Rattle.guard.specs.Label.{label, labelInRange}
+use Rattle.guard.specs.Label.{allCategories, label, labelInRange, labelInRangeIn}
 use Rattle.guard.specs.Level.{userCount}
 use Rattle.guard.specs.Tables.{noUser}
 use Rattle.guard.specs.Sound.{usersInRange}
@@ -34,12 +34,12 @@ use Rattle.script.specs.declared.runner.Runner.{Runner}
 use Rattle.script.specs.declared.reply.Reply.{Reply}
 
 abbrev pub outside : ℕ → ℕ → ℕ → ℕ → Bool
-outside user level cats ceiling = leb 16 user || (ltb 3 level || (ltb 255 cats || ltb 3 ceiling))
+outside user level cats ceiling = leb 16 user || (ltb 3 level || (ltb allCategories cats || ltb 3 ceiling))
 
 pub record Inside (user level cats ceiling : ℕ) : Type 0 where
   pub user-in : user < 16
   pub level-in : level ≤ 3
-  pub cats-in : cats ≤ 255
+  pub cats-in : cats ≤ allCategories
   pub ceiling-in : ceiling ≤ 3
 
 abbrev built : ℕ → Outcome
@@ -47,9 +47,9 @@ built n = record { tables = fresh (replicate userCount noUser); answer = n }
 
 module _ (user level cats ceiling : ℕ) where
   pub inside : outside user level cats ceiling ≡ false → Inside user level cats ceiling
-  inside h = go (leb 16 user) refl (ltb 3 level) refl (ltb 255 cats) refl (ltb 3 ceiling) refl h
+  inside h = go (leb 16 user) refl (ltb 3 level) refl (ltb allCategories cats) refl (ltb 3 ceiling) refl h
     where
-      go : (a : Bool) → leb 16 user ≡ a → (b : Bool) → ltb 3 level ≡ b → (c : Bool) → ltb 255 cats ≡ c → (d : Bool) → ltb 3 ceiling ≡ d
+      go : (a : Bool) → leb 16 user ≡ a → (b : Bool) → ltb 3 level ≡ b → (c : Bool) → ltb allCategories cats ≡ c → (d : Bool) → ltb 3 ceiling ≡ d
           → (a || (b || (c || d))) ≡ false → Inside user level cats ceiling
       go false a false b false c false d h =
           record { user-in = leb-false _ _ a; level-in = ltb-false _ _ b; cats-in = ltb-false _ _ c; ceiling-in = ltb-false _ _ d }
@@ -59,18 +59,18 @@ module _ (user level cats ceiling : ℕ) where
       go true a b x c z d y h = absurd (true≢false h)
 
   in-ranges : Inside user level cats ceiling → userInRanges user level cats ceiling ≡ true
-  unfolding userInRanges labelInRange every
-  in-ranges i = rw (lt-ltb user 16 (i .user-in), le-leb level 3 (i .level-in), le-leb cats 255 (i .cats-in), le-leb ceiling 3 (i .ceiling-in))
+  unfolding userInRanges labelInRangeIn every
+  in-ranges i = rw (lt-ltb user 16 (i .user-in), le-leb level 3 (i .level-in), le-leb cats allCategories (i .cats-in), le-leb ceiling 3 (i .ceiling-in))
 
   within-ranges : userInRanges user level cats ceiling ≡ true → outside user level cats ceiling ≡ false
-  unfolding userInRanges labelInRange
+  unfolding userInRanges labelInRangeIn
   within-ranges h =
       let t = every-e (ltb user 16 ∷ labelInRange (label level cats) ∷ leb ceiling 3 ∷ []) h in
-      let l = every-e (leb level 3 ∷ leb cats 255 ∷ []) (t .1 .0) in
+      let l = every-e (leb level 3 ∷ leb cats allCategories ∷ []) (t .1 .0) in
       rw (
         lt-leb 16 user (ltb-true user 16 (t .0)),
         le-ltb 3 level (leb-true level 3 (l .0)),
-        le-ltb 255 cats (leb-true cats 255 (l .1 .0)),
+        le-ltb allCategories cats (leb-true cats allCategories (l .1 .0)),
         le-ltb 3 ceiling (leb-true ceiling 3 (t .1 .1 .0)),
       )
 

@@ -39,7 +39,7 @@ fn set_user(mut t: Tables, shut: bool, user: u32, level: u32, cats: u32, ceiling
     }
     let i = user as usize;
     let clearance = Label {
-        cats: cats as u8,
+        cats: cats as u16,
         grade: level as u8,
     };
     let set = User {

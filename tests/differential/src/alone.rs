@@ -136,7 +136,7 @@ impl Case {
         if let Some(at) = before.iter().position(|seen| seen.answer != 0) {
             return Err(format!("`{}` is not done", self.before[at]));
         }
-        let What::Request { request, met } = last.what else {
+        let What::Request { request, met, .. } = last.what else {
             return Err(String::from("the last line is no request"));
         };
         if request.call != self.call || met != wanted || last.answer != self.number {

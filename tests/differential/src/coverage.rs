@@ -17,6 +17,8 @@ pub struct Coverage {
     alone: Vec<Vec<usize>>,
     /// By call, answer and a higher number that was met as well.
     together: [[[bool; 17]; 17]; 16],
+    /// By call: refused for categories 8 to 15 alone.
+    upper_half: [usize; 16],
     forms: Vec<(&'static str, usize)>,
     files: usize,
     lines: usize,
@@ -35,6 +37,7 @@ impl Coverage {
             met: sides.clone(),
             alone: sides,
             together: [[[false; 17]; 17]; 16],
+            upper_half: [0; 16],
             forms: files::forms().into_iter().map(|form| (form, 0)).collect(),
             files: 0,
             lines: 0,
@@ -70,9 +73,14 @@ impl Coverage {
         match seen.what {
             What::Unreadable => self.unreadable += 1,
             What::User => self.users[seen.answer] += 1,
-            What::Request { request, met } => {
+            What::Request {
+                request,
+                met,
+                upper_half,
+            } => {
                 let call = request.call as usize;
                 self.answers[call][seen.answer] += 1;
+                self.upper_half[call] += usize::from(upper_half);
                 for (side, text) in paper::sides(request.call).iter().enumerate() {
                     if met & (1 << side) != 0 {
                         self.met[call][side] += 1;
@@ -193,9 +201,24 @@ impl Coverage {
                 }
             }
         }
+        let mut upper_half: Vec<String> = Vec::new();
+        for call in COMPARE_SETS {
+            let count = self.upper_half[call as usize];
+            if count == 0 {
+                missing.push(format!(
+                    "{} is never refused for categories 8 to 15 alone",
+                    call.word()
+                ));
+            }
+            upper_half.push(format!("{} {count}", call.word()));
+        }
         for line in &missing {
             println!("unmet: {line}");
         }
+        println!(
+            "refused for categories 8 to 15 alone: {}",
+            upper_half.join(", ")
+        );
         println!(
             "{both_met} of {both} pairs of numbers that one request can meet together met, the lower answered"
         );
@@ -214,6 +237,9 @@ impl Coverage {
         missing.is_empty()
     }
 }
+
+/// The requests that compare one set of categories with another.
+const COMPARE_SETS: [Call; 4] = [Call::Login, Call::Openr, Call::Openw, Call::Create];
 
 /// Whether one line can meet both numbers of a request.
 fn can_meet_both(call: Call, low: usize, high: usize) -> bool {

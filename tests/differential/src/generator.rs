@@ -41,16 +41,8 @@ pub struct Habits {
 
 impl Writer {
     pub fn new(mut random: Random, names_line: &[u8]) -> Writer {
-        let sets = [0, 1, 2, 3, 4, 5, 6, 7, 8, 128, 129, 254, 255];
-        let mut labels = vec![Label::default()];
-        for _ in 0..random.between(1, 5) {
-            labels.push(Label {
-                grade: random.below(4),
-                cats: random.pick(&sets),
-            });
-        }
         let habits = Habits {
-            labels,
+            labels: some_labels(&mut random),
             names: random.pick(&[3, 6, 12, 40]),
             unreadable: random.pick(&[0, 2, 4, 4, 8, 30]),
             zeros: random.pick(&[0, 2, 5, 50]),
@@ -270,7 +262,10 @@ impl Writer {
             }
             _ => Label {
                 grade: self.random.below(4),
-                cats: self.random.below(256),
+                cats: match self.random.below(3) {
+                    0 => self.random.pick(&[255, 256, 65_535]),
+                    _ => self.random.below(65_536),
+                },
             },
         }
     }
@@ -293,16 +288,22 @@ impl Writer {
         if side.text.ends_with("is 0") || side.text.ends_with("are 0") {
             return 0;
         }
-        let last = field.last();
-        let inside = self.random.below(last + 1);
+        let inside = self.random.below(field.last() + 1);
+        self.past_range(field, inside)
+    }
+
+    /// A number past the field's range, of at most five digits: often the first or the last of these, or one that eight
+    /// or sixteen bits take for `inside`.
+    pub fn past_range(&mut self, field: Field, inside: usize) -> usize {
+        let first = field.last() + 1;
         let choice = match self.random.below(6) {
-            0 | 1 => last + 1,
+            0 | 1 => first,
             2 => 99_999,
             3 => 65_536 + inside,
             4 => 256 + inside,
-            _ => self.random.between(last + 1, 99_999),
+            _ => self.random.between(first, 99_999),
         };
-        choice.clamp(last + 1, 99_999)
+        choice.clamp(first, 99_999)
     }
 
     /// The request that comes nearest to the target, and whether it meets it. Fields in `fixed` stay as given. A
@@ -493,6 +494,30 @@ impl Writer {
             }
         }
     }
+}
+
+/// The labels of a file. Their sets lie in the lower half of the categories, in the upper half or in both; every other
+/// label is as one before it but for the upper half, so that often this half alone decides.
+fn some_labels(random: &mut Random) -> Vec<Label> {
+    let halves = [0, 1, 2, 3, 4, 5, 6, 7, 8, 128, 129, 254, 255];
+    let mut labels = vec![Label::default()];
+    for _ in 0..random.between(1, 5) {
+        let (lower, upper) = (random.pick(&halves), random.pick(&halves) * 256);
+        let label = if random.chance(1, 2) {
+            let before = random.pick(&labels);
+            Label {
+                grade: before.grade,
+                cats: before.cats % 256 + upper,
+            }
+        } else {
+            Label {
+                grade: random.below(4),
+                cats: random.pick(&[lower, upper, lower + upper]),
+            }
+        };
+        labels.push(label);
+    }
+    labels
 }
 
 /// How far what is met is from what is to be met. What is missing weighs more, or the search would give it up first.

@@ -1,5 +1,6 @@
 //! Document 01 written down as it reads: the tables, the refusals that apply to each request, and what a done request
-//! changes. Nothing here is made for speed or shared between requests beyond what the paper shares.
+//! changes. Of document 02 it has A.1: "Categories become a set of sixteen, 0 to 65,535, in users, seats and entities."
+//! Nothing here is made for speed or shared between requests beyond what the papers share.
 //!
 //! A refusal whose condition has parts joined by "or" is written as several sides of the same number. A side is a
 //! plain question about the tables and the request. Each one can be asked whatever the others say: the record of
@@ -54,7 +55,7 @@ impl Field {
             Kind => 1,
             Name => 65_535,
             Level | Ceiling => 3,
-            Cats => 255,
+            Cats => 65_535,
             Rights => 15,
         }
     }
@@ -259,9 +260,11 @@ pub fn has(sum: usize, power: usize) -> bool {
 
 /// Category by category: what the second set has, the first has.
 pub fn contains(set: usize, other: usize) -> bool {
-    [1, 2, 4, 8, 16, 32, 64, 128]
-        .iter()
-        .all(|&category| has(set, category) || !has(other, category))
+    [
+        1, 2, 4, 8, 16, 32, 64, 128, 256, 512, 1_024, 2_048, 4_096, 8_192, 16_384, 32_768,
+    ]
+    .iter()
+    .all(|&category| has(set, category) || !has(other, category))
 }
 
 pub fn dominates(a: Label, b: Label) -> bool {
@@ -331,7 +334,7 @@ pub fn sound(tables: &Tables) -> bool {
 }
 
 fn in_range(tables: &Tables) -> bool {
-    let label_in_range = |label: Label| label.grade <= 3 && label.cats <= 255;
+    let label_in_range = |label: Label| label.grade <= 3 && label.cats <= 65_535;
     tables
         .users
         .iter()
@@ -484,8 +487,8 @@ const NAME_RANGE: Side = side(2, "the name is past 65,535", &[Name], |_, q| {
 });
 const NAME_ZERO: Side = side(2, "the name is 0", &[Name], |_, q| q.at(Name) == 0);
 const GRADE_RANGE: Side = side(2, "the grade is past 3", &[Level], |_, q| q.at(Level) > 3);
-const CATS_RANGE: Side = side(2, "the categories are past 255", &[Cats], |_, q| {
-    q.at(Cats) > 255
+const CATS_RANGE: Side = side(2, "the categories are past 65,535", &[Cats], |_, q| {
+    q.at(Cats) > 65_535
 });
 const RIGHTS_RANGE: Side = side(2, "the rights are past 15", &[Rights], |_, q| {
     q.at(Rights) > 15
@@ -905,6 +908,22 @@ pub fn answer(call: Call, met: u32) -> usize {
         .unwrap_or(0)
 }
 
+/// Whether the request would be done if every set had its categories 0 to 7 alone.
+pub fn done_in_lower_half(tables: &Tables, request: &Request) -> bool {
+    let (mut tables, mut request) = (tables.clone(), *request);
+    for user in tables.users.iter_mut() {
+        user.clearance.cats %= 256;
+    }
+    for seat in tables.seats.iter_mut() {
+        seat.label.cats %= 256;
+    }
+    for entity in tables.entities.iter_mut() {
+        entity.label.cats %= 256;
+    }
+    request.set(Cats, request.at(Cats) % 256);
+    met(&tables, &request) == 0
+}
+
 // ---- What a done request changes
 
 pub fn done(tables: &mut Tables, q: &Request) {
@@ -1008,6 +1027,18 @@ mod tests {
     fn sets_are_not_compared_as_numbers() {
         assert!(!contains(4, 3));
         assert!(contains(7, 3) && contains(255, 0) && !contains(127, 128));
+    }
+
+    #[test]
+    fn sets_have_two_halves() {
+        assert!(!contains(255, 256) && !contains(256, 255) && !contains(0x00ff, 0xff00));
+        assert!(!contains(0xff00, 0x00ff) && !contains(0x7fff, 0x8000) && contains(0x8000, 0));
+        assert!((0..65_536).all(|set| contains(65_535, set) && contains(set, set)));
+        assert!((0..65_535).all(|set| !contains(set, 65_535)));
+        for upper in 8..16 {
+            let category = 1 << upper;
+            assert!(contains(category, category) && !contains(65_535 - category, category));
+        }
     }
 
     #[test]

@@ -42,6 +42,8 @@ pub enum What {
     Request {
         request: Request,
         met: u32,
+        /// Refused for categories 8 to 15 alone.
+        upper_half: bool,
     },
 }
 
@@ -166,11 +168,18 @@ impl Program {
                 self.shut = true;
                 let met = paper::met(&self.tables, &request);
                 let answer = paper::answer(request.call, met);
+                // Only these two numbers look at labels.
+                let upper_half =
+                    [4, 11].contains(&answer) && paper::done_in_lower_half(&self.tables, &request);
                 if answer == 0 {
                     paper::done(&mut self.tables, &request);
                 }
                 Seen {
-                    what: What::Request { request, met },
+                    what: What::Request {
+                        request,
+                        met,
+                        upper_half,
+                    },
                     answer,
                 }
             }
@@ -291,6 +300,40 @@ mod tests {
              rename 12 - - 63 - - 65536 - - - -\ngrant 12 - 0 0 - - - - - 15 -\n\
              grant 12 - 0 0 - - - - - 16 -\n";
         assert_eq!(answers(lines), [0, 0, 2, 7, 2, 7, 2, 13, 2]);
+    }
+
+    /// "`cats` may reach 65,535" (document 02, A.1).
+    #[test]
+    fn edges_of_categories() {
+        let lines = "user - 0 - - - - - 3 65536 - 3\nuser - 0 - - - - - 3 99999 - 3\n\
+             user - 0 - - - - - 3 100000 - 3\nuser - 0 - - - - - 3 65535 - 3\n\
+             user - 1 - - - - - 3 255 - 3\nlogin 12 0 - - - - - 3 65536 - -\n\
+             login 12 0 - - - - - 3 99999 - -\nlogin 12 0 - - - - - 3 100000 - -\n\
+             login 12 1 - - - - - 3 256 - -\nlogin 12 1 - - - - - 3 65535 - -\n\
+             login 12 0 - - - - - 3 65535 - -\n";
+        assert_eq!(answers(lines), [2, 2, 17, 0, 0, 2, 2, 17, 4, 4, 0]);
+    }
+
+    #[test]
+    fn refused_for_the_upper_half() {
+        let input = format!(
+            "{NAMES}user - 0 - - - - - 3 511 - 3\nlogin 0 0 - - - - - 0 768 - -\n\
+             login 0 0 - - - - - 4 768 - -\nlogin 0 1 - - - - - 0 257 - -\n\
+             login 0 0 - - - - - 0 65536 - -\nlogin 0 0 - - - - - 0 257 - -\n\
+             take 0 - 0 - - - - - - - -\nopenw 0 - - 0 - - - - - - -\n\
+             login 1 0 - - - - - 0 256 - -\ntake 1 - 0 - - - - - - - -\n\
+             openw 1 - - 0 - - - - - - -\nopenr 1 - - 0 - - - - - - -\n"
+        );
+        let mut lines = Vec::new();
+        for (index, seen) in report(input.as_bytes()).seen.iter().enumerate() {
+            if let What::Request {
+                upper_half: true, ..
+            } = seen.what
+            {
+                lines.push((index + 2, seen.answer));
+            }
+        }
+        assert_eq!(lines, [(3, 4), (12, 11)]);
     }
 
     #[test]

@@ -51,7 +51,7 @@ impl Writer {
             let label = if turn == 0 && strong {
                 Label {
                     grade: 3,
-                    cats: 255,
+                    cats: self.random.pick(&[65_535, 65_535, 65_535, 255, 65_280]),
                 }
             } else {
                 let labels = self.habits.labels.clone();
@@ -85,12 +85,7 @@ impl Writer {
                     (Field::Cats, lines::USER_PAST_CATS),
                     (Field::Ceiling, lines::USER_PAST_CEILING),
                 ]);
-                values[field as usize] = self.random.pick(&[
-                    field.last() + 1,
-                    256 + values[field as usize],
-                    65_536 + values[field as usize],
-                    99_999,
-                ]);
+                values[field as usize] = self.past_range(field, values[field as usize]);
                 form = Some(past_form);
             } else {
                 set.push(user);

@@ -1,7 +1,7 @@
-//! The access guard of document 01 in plain Rust: the tables are changed in
-//! place, sets are bit sets and no request touches the heap. It follows the
-//! paper alone and shares no line with the proved guard, so that the two can be
-//! held against each other.
+//! The access guard of document 01 in plain Rust, with the categories of
+//! document 02, A.1: the tables are changed in place, sets are bit sets and no
+//! request touches the heap. It follows the papers alone and shares no line with
+//! the proved guard, so that the two can be held against each other.
 //!
 //! Numbers handed back are those of the paper: 0 for done, otherwise the
 //! refusal. The refusals of a request stand in the order in which they are
@@ -43,11 +43,13 @@ pub mod call {
     pub const UNMAKE: u32 = 15;
 }
 
-/// A confidentiality label. `grade` is in range up to 3.
+/// A confidentiality label. `grade` is in range up to 3. `cats` has one bit for
+/// each category, "a set of sixteen, 0 to 65,535" (document 02, A.1), so that
+/// each number it can hold is in range.
 #[derive(Clone, Copy, Debug, Default, PartialEq, Eq)]
 pub struct Label {
     pub grade: u8,
-    pub cats: u8,
+    pub cats: u16,
 }
 
 impl Label {
@@ -196,9 +198,9 @@ macro_rules! row {
 }
 
 fn label(grade: u32, cats: u32) -> Option<Label> {
-    (grade <= 3 && cats <= 255).then_some(Label {
+    (grade <= 3 && cats <= 65_535).then_some(Label {
         grade: grade as u8,
-        cats: cats as u8,
+        cats: cats as u16,
     })
 }
 

@@ -1,5 +1,6 @@
 //! The request program of document 01 over the reference guard: requests on
-//! standard input, answers on standard output.
+//! standard input, answers on standard output. "`cats` may reach 65,535"
+//! (document 02, A.1), which is the guard's bound.
 //!
 //! The tables start fresh and only the guard changes them, so that they stay
 //! sound, and the program does not test them again before each request. With

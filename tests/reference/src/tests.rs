@@ -125,6 +125,15 @@ fn create(seat: u32, entity: u32, kind: u8, parent: u32, name: u32, role: u32) -
     }
 }
 
+/// A container with a label, and its number as its name.
+fn labelled(seat: u32, entity: u32, parent: u32, level: u32, cats: u32) -> Request {
+    Request {
+        level,
+        cats,
+        ..create(seat, entity, CONTAINER, parent, entity, 12)
+    }
+}
+
 fn with_rights(call: u32, seat: u32, role: u32, entity: u32, rights: u32) -> Request {
     Request {
         role,
@@ -247,7 +256,15 @@ fn edges() {
             (revoke(12, 12, 63, 16), 2),
             (login(13, 0, 3, 255), 0),
             (login(14, 0, 4, 0), 2),
-            (login(14, 0, 0, 256), 2),
+            (login(14, 0, 0, 256), 4),
+            (login(14, 0, 0, 65_535), 4),
+            (login(14, 0, 0, 65_536), 2),
+            (login(14, 0, 0, 99_999), 2),
+            (login(14, 0, 0, u32::MAX), 2),
+            (labelled(12, 62, 48, 3, 65_535), 0),
+            (labelled(12, 61, 48, 3, 65_536), 2),
+            (labelled(12, 61, 48, 3, 65_536 + 255), 2),
+            (labelled(12, 61, 48, 4, 65_535), 2),
             (login(14, 16, 0, 0), 2),
             (login(16, 0, 0, 0), 2),
             (take(15, 15), 5),
@@ -266,10 +283,12 @@ fn edges() {
 
 #[test]
 fn fresh_tables() {
-    let (tables, answer) = Tables::fresh(&records(&[(15, 3, 3, 255)]));
+    let (tables, answer) = Tables::fresh(&records(&[(14, 0, 0, 256), (15, 3, 3, 65_535)]));
     assert_eq!(answer, 0);
     assert!(tables.is_sound());
     assert_eq!(tables.users[15].ceiling, 3);
+    assert_eq!(tables.users[14].clearance.cats, 256);
+    assert_eq!(tables.users[15].clearance.cats, 65_535);
     for (r, role) in tables.roles.iter().enumerate() {
         assert_eq!(role.live, r % 4 == 0);
         assert_eq!(role.users, u16::from(r % 4 == 0));
@@ -280,8 +299,15 @@ fn fresh_tables() {
     }
     let empty = Tables::fresh(&[NONE; USERS]);
     assert_eq!(empty.1, 0);
-    for past in [(3, 4, 0, 0), (3, 0, 4, 0), (3, 0, 0, 256)] {
-        let (tables, answer) = Tables::fresh(&records(&[(0, 3, 3, 255), past]));
+    for past in [
+        (3, 4, 0, 0),
+        (3, 0, 4, 0),
+        (3, 0, 0, 65_536),
+        (3, 0, 0, 65_537),
+        (3, 0, 0, 99_999),
+        (3, 0, 0, u32::MAX),
+    ] {
+        let (tables, answer) = Tables::fresh(&records(&[(0, 3, 3, 65_535), past]));
         assert_eq!(answer, 2);
         assert_eq!(tables, empty.0);
     }
@@ -298,6 +324,46 @@ fn categories_are_sets() {
             (login(13, 1, 3, 4), 0),
         ],
     );
+}
+
+#[test]
+fn both_halves_of_a_set_count() {
+    // Each set with one that it contains and one that it does not.
+    let sets = [
+        (0x00ff, 0x00ff, 0x0100),
+        (0x0100, 0x0100, 0x00ff),
+        (0x0100, 0x0000, 0x0001),
+        (0xff00, 0x8100, 0x00ff),
+        (0x00ff, 0x0081, 0xff00),
+        (0x0300, 0x0200, 0x0003),
+        (0x0004, 0x0004, 0x0304),
+        (0x0403, 0x0401, 0x0303),
+        (0x7fff, 0x7f00, 0x8000),
+        (0x8000, 0x8000, 0x0080),
+        (0x80ff, 0x80f0, 0x40ff),
+        (0xfeff, 0xfe01, 0x0100),
+        (0xff7f, 0xff00, 0x0080),
+    ];
+    for (set, inside, outside) in sets {
+        let (mut tables, _) = Tables::fresh(&records(&[(0, 3, 3, set)]));
+        run(
+            &mut tables,
+            &[
+                (login(0, 0, 0, outside), 4),
+                (login(0, 0, 0, 65_535), 4),
+                (login(0, 0, 0, inside), 0),
+                (login(1, 0, 3, set), 0),
+                (login(2, 0, 0, 0), 0),
+            ],
+        );
+    }
+    // 65,535 contains them all.
+    let (mut tables, _) = Tables::fresh(&records(&[(0, 3, 3, 65_535)]));
+    for (set, _, outside) in sets {
+        for cats in [set, outside, 65_535] {
+            run(&mut tables, &[(login(0, 0, 3, cats), 0), (logout(0), 0)]);
+        }
+    }
 }
 
 #[test]
@@ -449,18 +515,13 @@ fn different_roles_may_carry_one_chain() {
 #[test]
 fn labels() {
     let mut tables = at_work();
-    let labelled = |entity, parent, level, cats| Request {
-        level,
-        cats,
-        ..create(12, entity, CONTAINER, parent, entity, 12)
-    };
     run(
         &mut tables,
         &[
-            (labelled(49, 48, 1, 3), 0),
-            (labelled(50, 49, 3, 4), 11),
-            (labelled(50, 49, 0, 3), 11),
-            (labelled(50, 49, 1, 7), 13),
+            (labelled(12, 49, 48, 1, 3), 0),
+            (labelled(12, 50, 49, 3, 4), 11),
+            (labelled(12, 50, 49, 0, 3), 11),
+            (labelled(12, 50, 49, 1, 7), 13),
             (grant(12, 12, 49, 7), 0),
             (openr(12, 49), 11),
             (openw(12, 49), 11),
@@ -475,6 +536,40 @@ fn labels() {
             (close(14, 49), 0),
         ],
     );
+}
+
+#[test]
+fn labels_that_differ_in_the_upper_half() {
+    let (mut tables, _) = Tables::fresh(&records(&[(0, 3, 3, 65_535)]));
+    run(
+        &mut tables,
+        &[
+            (login(12, 0, 0, 0), 0),
+            (take(12, 12), 0),
+            (openw(12, 48), 0),
+            (labelled(12, 49, 48, 1, 0x0103), 0),
+            (grant(12, 12, 49, 7), 0),
+            (login(13, 0, 1, 0x0003), 0),
+            (take(13, 12), 0),
+            (openr(13, 49), 11),
+            (openw(13, 49), 11),
+            (login(14, 0, 1, 0xff03), 0),
+            (take(14, 12), 0),
+            (openr(14, 49), 0),
+            (openw(14, 49), 11),
+            (login(15, 0, 1, 0x0103), 0),
+            (take(15, 12), 0),
+            (openr(15, 49), 0),
+            (openw(15, 49), 0),
+            (labelled(15, 50, 49, 1, 0x0003), 11),
+            (labelled(15, 50, 49, 1, 0x8003), 11),
+            (labelled(15, 50, 49, 1, 0x0301), 11),
+            (labelled(15, 50, 49, 1, 0x8103), 0),
+            (labelled(15, 51, 49, 3, 0xffff), 0),
+        ],
+    );
+    assert_eq!(tables.entities[50].label.cats, 0x8103);
+    assert_eq!(tables.seats[14].label.cats, 0xff03);
 }
 
 #[test]
@@ -572,6 +667,7 @@ fn unsound_tables_give_1() {
         |t| t.entities[16].parent = 0,
         |t| t.entities[16].label.grade = 1,
         |t| t.entities[16].label.cats = 1,
+        |t| t.entities[16].label.cats = 256,
         |t| t.roles[4] = Role::EMPTY,
         // Live entities.
         |t| t.entities[51].kind = 2,
@@ -584,6 +680,7 @@ fn unsound_tables_give_1() {
         |t| t.entities[51].name = 1,
         |t| t.entities[51].label.grade = 4,
         |t| t.entities[49].label.cats = 1,
+        |t| t.entities[49].label.cats = 256,
         |t| t.entities[49].parent = 50,
         |t| t.entities[50].parent = 50,
         // Records that are not live.
@@ -591,12 +688,14 @@ fn unsound_tables_give_1() {
         |t| t.entities[1].name = 1,
         |t| t.entities[1].parent = 16,
         |t| t.entities[1].label.cats = 1,
+        |t| t.entities[1].label.cats = 256,
         |t| t.entities[1].label.grade = 1,
         |t| t.roles[1].users = 1,
         |t| t.roles[1].rights[0] = 1,
         |t| t.seats[0].user = 1,
         |t| t.seats[0].label.grade = 1,
         |t| t.seats[0].label.cats = 1,
+        |t| t.seats[0].label.cats = 32_768,
         |t| t.seats[0].roles = 1,
         |t| t.seats[0].reading = 1,
         |t| t.seats[0].writing = 1,
@@ -619,12 +718,21 @@ fn unsound_tables_give_1() {
             }
         },
         |t| t.seats[12].label.cats = 1,
+        |t| t.seats[12].label.cats = 256,
         |t| {
             t.entities[51].label.cats = 1;
             t.seats[12].reading |= 1 << 51;
         },
         |t| {
+            t.entities[51].label.cats = 256;
+            t.seats[12].reading |= 1 << 51;
+        },
+        |t| {
             t.entities[51].label.cats = 1;
+            t.seats[12].writing |= 1 << 51;
+        },
+        |t| {
+            t.entities[51].label.cats = 256;
             t.seats[12].writing |= 1 << 51;
         },
     ];
@@ -649,9 +757,10 @@ fn what_soundness_does_not_ask() {
         |t| {
             t.entities[51].label = Label {
                 grade: 3,
-                cats: 255,
+                cats: 65_535,
             }
         },
+        |t| t.users[0].clearance.cats = 65_535,
         |t| t.roles[12].rights[0] = 15,
         |t| t.seats[12].writing |= 1,
         |t| {

@@ -18,10 +18,10 @@ use Rattle.bitset.specs.Tests.Laws.{decide, clash, is-false, of-not-false, ever
 use Rattle.guard.specs.Level.{roleLevel, entityLevel, isRoot}
 use Rattle.guard.specs.Tables.{noEntity, entityAt}
 use Rattle.guard.specs.Chain.{climbs, parentOf}
-use Rattle.guard.specs.Sound.{entityInRange, isRootRecord, sound}
+use Rattle.guard.specs.Sound.{entityInRangeIn, isRootRecord, soundIn}
 use Rattle.guard.specs.Edits.{withEntities, atEntity, setRights, addRights}
 use Rattle.guard.specs.Conditions.{createOutOfLevel}
-use Rattle.guard.specs.Requests.{fieldInRange, created, create}
+use Rattle.guard.specs.Requests.{fieldInRangeIn, created, create}
 use Rattle.guard.specs.declared.Entity.{Entity}
 use Rattle.guard.specs.declared.Tables.{Tables}
 use Rattle.guard.proofs.Laws.Refusals.{unmet}
@@ -32,7 +32,7 @@ use Rattle.guard.proofs.Kept.Roles.{granted-ok, role-kept}
 use Rattle.guard.proofs.Kept.Entities.{Kin, parent-kin, kin, others-stay, dead-unused, entity-kept}
 use Rattle.guard.proofs.Kept.Rename.{free-name}
 
-module _ (t : Tables) (ok : Sound t) (e : ℕ) (n : Entity) (l : e < 64) (dead : entityAt t e .live ≡ false) where
+module _ {width : ℕ} (t : Tables) (ok : Sound width t) (e : ℕ) (n : Entity) (l : e < 64) (dead : entityAt t e .live ≡ false) where
   -- what is live is not e
   not-new : (f : ℕ) → entityAt t f .live ≡ true → f ≡ e → ⊥
   not-new f live same = clash (entityAt t e .live) (ap (λ (a : ℕ). entityAt t a .live) (sym same) ∙ live) dead
@@ -67,11 +67,11 @@ module _ (t : Tables) (ok : Sound t) (e : ℕ) (n : Entity) (l : e < 64) (dead :
         go (inl root) = by (0, omega arith, root)
         go (inr other) = by (ends-somewhere (parentOf t) _ 16 (n .parent) (ok .entity (n .parent) below .placed live other .inside .chain))
 
-pub made-sound : (t : Tables) (e : ℕ) (n : Entity) → sound t ≡ true → e < 64 → entityAt t e .live ≡ false → n .live ≡ true
-    → entityInRange n ≡ true → leb 1 (n .name) ≡ true → fitsIn e n (entityAt t (n .parent)) ≡ true → OwnName (t .entities) e n
-    → sound (withEntities t (set (t .entities) e n)) ≡ true
-unfolding entityInRange isRootRecord
-made-sound t e n h l dead live range name fits free =
+pub made-sound : (width : ℕ) (t : Tables) (e : ℕ) (n : Entity) → soundIn width t ≡ true → e < 64 → entityAt t e .live ≡ false → n .live ≡ true
+    → entityInRangeIn width n ≡ true → leb 1 (n .name) ≡ true → fitsIn e n (entityAt t (n .parent)) ≡ true → OwnName (t .entities) e n
+    → soundIn width (withEntities t (set (t .entities) e n)) ≡ true
+unfolding entityInRangeIn isRootRecord
+made-sound width t e n h l dead live range name fits free =
     let ok = sound-e t h in
     let alive = every-at _ fits 0 in
     entity-kept t e n h (inr (dead-unused t ok e l dead))
@@ -90,8 +90,8 @@ made-sound t e n h l dead live range name fits free =
       );
     })
 
-pub keeps-create : Keeps create
-unfolding create created createOutOfLevel atEntity addRights setRights fieldInRange entityInRange
+pub keeps-create : {width : ℕ} → Keeps width create
+unfolding create created createOutOfLevel atEntity addRights setRights fieldInRangeIn entityInRangeIn
 keeps-create t q d =
     let no = unmet _ refl (d .none) in
     let range = every-at _ (d .ranges) in
@@ -99,11 +99,11 @@ keeps-create t q d =
     let level = eqb-true (entityLevel (q .entity)) (entityLevel (q .parent)) (of-not-false _ (either-no-l _ _ (no 10))) in
     let fits : fitsIn (q .entity) (created q) (entityAt t (q .parent)) ≡ true =
     every-i _ (of-not-false _ (either-no-l _ _ (no 7)), (of-not-false _ (no 9), (eq-eqb _ _ (sym level), (of-not-false _ (no 11), tt)))) in
-    let made = made-sound t (q .entity) (created q) (d .isSound) l (no 8) refl
+    let made = made-sound _ t (q .entity) (created q) (d .isSound) l (no 8) refl
     (every-i _ (range 2, (range 3, (every-at _ (range 4) 1, (range 5, tt))))) (every-at _ (range 4) 0) fits
     (λ f k ne. free-name t q _ (no 14) f k) in
     let can : grantable (q .role) (q .entity) (created q) ≡ true =
     every-i _ (refl, (not-below (roleLevel (q .role)) (entityLevel (q .entity)) (either-no-r _ _ (no 10)), tt)) in
     let at = at-new t (sound-e t (d .isSound)) (q .entity) (created q) l (no 8) in
-    role-kept (atEntity (q .entity) (λ old. created q) t) (q .role) _ made (λ s k m live. live) (λ k old.
+    role-kept _ (atEntity (q .entity) (λ old. created q) t) (q .role) _ made (λ s k m live. live) (λ k old.
     granted-ok _ _ _ old (q .entity) _ (of-not-false _ (either-no-r _ _ (no 7))) l (ap (λ (a : Entity). grantable (q .role) (q .entity) a) at ∙ can))

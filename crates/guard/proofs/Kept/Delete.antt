@@ -15,15 +15,16 @@ use Rattle.bitset.specs.Tests.Laws.{decide, clash, not-of-false, every-i, every
 use Rattle.bitset.specs.Sets.{has}
 use Rattle.bitset.specs.Sets.Laws.{has-without-same, contains-zero}
 use Rattle.guard.specs.Level.{isRoot}
-use Rattle.guard.specs.Label.{labelInRange, sameLabel}
+use Rattle.guard.specs.Label.{sameLabel}
 use Rattle.guard.specs.Tables.{noSession, noRole, noEntity, entityAt, rightsOf, isChild}
 use Rattle.guard.specs.Chain.{parentOf}
-use Rattle.guard.specs.Sound.{entityInRange, isEmptyEntity, sound}
+use Rattle.guard.specs.Sound.{entityInRangeIn, isEmptyEntity, soundIn}
 use Rattle.guard.specs.Edits.{withEntities, atEntity, eachSession, eachRole, closeBoth, setRights, clearRights}
 use Rattle.guard.specs.Conditions.{hasChildren}
-use Rattle.guard.specs.Requests.{fieldInRange, delete}
+use Rattle.guard.specs.Requests.{fieldInRangeIn, delete}
 use Rattle.guard.specs.declared.Tables.{Tables}
 use Rattle.guard.specs.declared.Request.{Request}
+use Rattle.guard.proofs.Laws.Label.{none-in-range as label-in-range}
 use Rattle.guard.proofs.Laws.Refusals.{unmet}
 use Rattle.guard.proofs.Laws.Rights.{rights-cleared}
 use Rattle.guard.proofs.Laws.Sound.{Sound, sound-e}
@@ -32,15 +33,15 @@ use Rattle.guard.proofs.Kept.Sessions.{Keeps, closed-ok, each-session-k
 use Rattle.guard.proofs.Kept.Roles.{fewer-ok, each-role-kept}
 use Rattle.guard.proofs.Kept.Entities.{others-stay, root-parent, Unused, entity-kept}
 
-none-in-range : entityInRange noEntity ≡ true
-unfolding entityInRange labelInRange every
-none-in-range = refl
+none-in-range : (width : ℕ) → entityInRangeIn width noEntity ≡ true
+unfolding entityInRangeIn
+none-in-range width = every-i _ (refl, (refl, (refl, (label-in-range width, tt))))
 
 none-empty : isEmptyEntity noEntity ≡ true
 unfolding isEmptyEntity sameLabel every
 none-empty = refl
 
-barren : (t : Tables) (q : Request) → Sound t → isRoot (q .entity) ≡ false → hasChildren t q ≡ false
+barren : {width : ℕ} (t : Tables) (q : Request) → Sound width t → isRoot (q .entity) ≡ false → hasChildren t q ≡ false
     → (f : ℕ) → f < 64 → entityAt t f .live ≡ true → parentOf t f ≡ q .entity → ⊥
 unfolding hasChildren isChild
 barren t q ok other none f l live parent = go (decide (isRoot f))
@@ -51,22 +52,22 @@ barren t q ok other none f l live parent = go (decide (isRoot f))
         clash _ (every-i _ (live, (not-of-false _ inner, (eq-eqb _ _ parent, tt)))) (some-no-e 64 _ none f l)
 
 -- nobody has the entity open, nobody has rights on it, and it is no live entity's parent
-pub emptied-sound : (t : Tables) (e : ℕ) → sound t ≡ true → isRoot e ≡ false → Unused t e
+pub emptied-sound : (width : ℕ) (t : Tables) (e : ℕ) → soundIn width t ≡ true → isRoot e ≡ false → Unused t e
     → ((f : ℕ) → f < 64 → entityAt t f .live ≡ true → parentOf t f ≡ e → ⊥)
-    → sound (withEntities t (set (t .entities) e noEntity)) ≡ true
-emptied-sound t e h other unused none =
+    → soundIn width (withEntities t (set (t .entities) e noEntity)) ≡ true
+emptied-sound width t e h other unused none =
     entity-kept t e noEntity h (inr unused) (λ f l live s. others-stay t e noEntity _ (none f l live))
-    (record { notRoot = other; range = none-in-range; empty = λ dead. none-empty; placed = λ live. absurd (clash false live refl) })
+    (record { notRoot = other; range = none-in-range width; empty = λ dead. none-empty; placed = λ live. absurd (clash false live refl) })
 
 -- each session closes e, and each role has no rights on it
-module _ (t : Tables) (e : ℕ) (h : sound t ≡ true) (l : e < 64) where
+module _ (width : ℕ) (t : Tables) (e : ℕ) (h : soundIn width t ≡ true) (l : e < 64) where
   abbrev cleared : Tables
   cleared = eachRole (clearRights e) (eachSession (closeBoth e) t)
 
-  cleared-sound : sound cleared ≡ true
+  cleared-sound : soundIn width cleared ≡ true
   unfolding clearRights setRights
   cleared-sound =
-      each-role-kept (eachSession (closeBoth e) t) (clearRights e)
+      each-role-kept _ (eachSession (closeBoth e) t) (clearRights e)
       (each-session-kept t (closeBoth e) h (λ s r ok. closed-ok _ _ _ _ ok e))
       (λ p. refl) (λ r p ok. fewer-ok _ _ _ ok e 0 (contains-zero _))
 
@@ -79,14 +80,14 @@ module _ (t : Tables) (e : ℕ) (h : sound t ≡ true) (l : e < 64) where
         rights = map-each (λ r p. rightsOf p e ≡ 0) (clearRights e) 16 (t .roles) noRole (ok .manyRoles) (λ r k. rights-cleared e _);
       }
     where
-      ok : Sound t
+      ok : Sound width t
       ok = sound-e t h
 
 -- clearing first and emptying then is the same as the rule's order
-pub keeps-delete : Keeps delete
-unfolding delete atEntity eachRole eachSession fieldInRange
+pub keeps-delete : {width : ℕ} → Keeps width delete
+unfolding delete atEntity eachRole eachSession fieldInRangeIn
 keeps-delete t q d =
     let no = unmet _ refl (d .none) in
     let l = ltb-true _ _ (every-at _ (d .ranges) 1) in
-    emptied-sound (cleared t (q .entity) (d .isSound) l) (q .entity) (cleared-sound t (q .entity) (d .isSound) l) (no 6)
-    (cleared-unused t (q .entity) (d .isSound) l) (barren t q (sound-e t (d .isSound)) (no 6) (no 15))
+    emptied-sound _ (cleared _ t (q .entity) (d .isSound) l) (q .entity) (cleared-sound _ t (q .entity) (d .isSound) l) (no 6)
+    (cleared-unused _ t (q .entity) (d .isSound) l) (barren t q (sound-e t (d .isSound)) (no 6) (no 15))

@@ -21,7 +21,7 @@ use Rattle.bitset.specs.Sets.{has}
 use Rattle.guard.specs.Level.{entityLevel, isRoot}
 use Rattle.guard.specs.Tables.{noEntity, sessionAt, roleAt, entityAt, rightsOn}
 use Rattle.guard.specs.Chain.{parentOf}
-use Rattle.guard.specs.Sound.{entityInRange, isRootRecord, isEmptyEntity, sound}
+use Rattle.guard.specs.Sound.{entityInRangeIn, isRootRecord, isEmptyEntity, soundIn}
 use Rattle.guard.specs.Edits.{withEntities}
 use Rattle.guard.specs.declared.Entity.{Entity}
 use Rattle.guard.specs.declared.Tables.{Tables}
@@ -47,13 +47,13 @@ pub record Kin (t : Tables) (f a : ℕ) : Type 0 where
   pub live : entityAt t a .live ≡ true
   pub level : entityLevel a ≡ entityLevel f
 
-module _ (t : Tables) (ok : Sound t) where
+module _ {width : ℕ} (t : Tables) (ok : Sound width t) where
   pub root-parent : (f : ℕ) → f < 64 → isRoot f ≡ true → parentOf t f ≡ f
   unfolding isRootRecord
   root-parent f l root = eqb-true _ _ (every-at _ (ok .entity f l .root root) 4)
 
   pub parent-kin : (f : ℕ) → f < 64 → entityAt t f .live ≡ true → Kin t f (parentOf t f)
-  unfolding entityInRange
+  unfolding entityInRangeIn
   parent-kin f l live = go (decide (isRoot f))
     where
       small : parentOf t f < 64
@@ -77,14 +77,14 @@ module _ (t : Tables) (ok : Sound t) where
       (record { below = a .below; live = a .live; level = a .level ∙ up .level }, b)
 
 -- what is asked of n, to stand at e: all but its name's being free is asked in the new list
-pub record New (t : Tables) (e : ℕ) (n : Entity) : Type 0 where
+pub record New (width : ℕ) (t : Tables) (e : ℕ) (n : Entity) : Type 0 where
   pub notRoot : isRoot e ≡ false
-  pub range : entityInRange n ≡ true
+  pub range : entityInRangeIn width n ≡ true
   pub empty : n .live ≡ false → isEmptyEntity n ≡ true
   pub placed : n .live ≡ true → (leb 1 (n .name) ≡ true) × Inside (set (t .entities) e n) e n × OwnName (t .entities) e n
 
 -- ---- the entities, with n at e
-module _ (t : Tables) (ok : Sound t) (e : ℕ) (n : Entity)
+module _ {width : ℕ} (t : Tables) (ok : Sound width t) (e : ℕ) (n : Entity)
     (stay : (f : ℕ) → f < 64 → entityAt t f .live ≡ true → Stays t e n f → Stays t e n (parentOf t f)) where
   pub inside-kept : (f : ℕ) → f < 64 → entityAt t f .live ≡ true → Stays t e n f → Inside (t .entities) f (entityAt t f)
       → (n′ : Entity) → shape n′ ≡ shape (entityAt t f) → Inside (set (t .entities) e n) f n′
@@ -106,10 +106,10 @@ module _ (t : Tables) (ok : Sound t) (e : ℕ) (n : Entity)
       set-each (λ g b. (g ≡ f → ⊥) → childOf (m .parent) g b ≡ true → eqb (b .name) (m .name) ≡ false) 64 (t .entities) noEntity
       (ok .manyEntities) e n (λ g l ne. own g l) (λ l. here)
 
-  entities-kept : New t e n → (f : ℕ) → f < 64 → EntityOk (set (t .entities) e n) f (entityIn (set (t .entities) e n) f)
-  entities-kept new = set-each (EntityOk (set (t .entities) e n)) 64 (t .entities) noEntity (ok .manyEntities) e n other (λ l. itself)
+  entities-kept : New width t e n → (f : ℕ) → f < 64 → EntityOk width (set (t .entities) e n) f (entityIn (set (t .entities) e n) f)
+  entities-kept new = set-each (EntityOk width (set (t .entities) e n)) 64 (t .entities) noEntity (ok .manyEntities) e n other (λ l. itself)
     where
-      itself : EntityOk (set (t .entities) e n) e n
+      itself : EntityOk width (set (t .entities) e n) e n
       itself =
           record {
             range = new .range;
@@ -129,7 +129,7 @@ module _ (t : Tables) (ok : Sound t) (e : ℕ) (n : Entity)
           let taken = free f l ne (every-i _ (live, (not-of-false _ notRoot, (eq-eqb (parentOf t f) (n .parent) parent, tt)))) in
           ne-eqb (n .name) (entityAt t f .name) (λ same. eqb-false _ (n .name) taken (sym same))
 
-      other : (f : ℕ) → f < 64 → (f ≡ e → ⊥) → EntityOk (set (t .entities) e n) f (entityAt t f)
+      other : (f : ℕ) → f < 64 → (f ≡ e → ⊥) → EntityOk width (set (t .entities) e n) f (entityAt t f)
       other f l ne =
           let old = ok .entity f l in
           record {
@@ -152,7 +152,7 @@ pub record Unused (t : Tables) (e : ℕ) : Type 0 where
   pub writing : (s : ℕ) → s < 16 → has (sessionAt t s .writing) e ≡ false
   pub rights : (r : ℕ) → r < 16 → rightsOn t r e ≡ 0
 
-pub dead-unused : (t : Tables) → Sound t → (e : ℕ) → e < 64 → entityAt t e .live ≡ false → Unused t e
+pub dead-unused : {width : ℕ} (t : Tables) → Sound width t → (e : ℕ) → e < 64 → entityAt t e .live ≡ false → Unused t e
 dead-unused t ok e l dead =
     record {
       reading = λ s k. is-false _ (λ m. clash _ (every-at _ (ok .session s k .reading .members e l m) 0) dead);
@@ -164,11 +164,11 @@ dead-unused t ok e l dead =
           rights-none _ e (out _ (role .reads)) (out _ (role .writes)) (out _ (role .executes)) (out _ (role .owns));
     }
 
-pub entity-kept : (t : Tables) (e : ℕ) (n : Entity) → sound t ≡ true
+pub entity-kept : {width : ℕ} (t : Tables) (e : ℕ) (n : Entity) → soundIn width t ≡ true
     → (shape n ≡ shape (entityAt t e)) ⊎ Unused t e
-    → ((f : ℕ) → f < 64 → entityAt t f .live ≡ true → Stays t e n f → Stays t e n (parentOf t f)) → New t e n
-    → sound (withEntities t (set (t .entities) e n)) ≡ true
-entity-kept t e n h way stay new =
+    → ((f : ℕ) → f < 64 → entityAt t f .live ≡ true → Stays t e n f → Stays t e n (parentOf t f)) → New width t e n
+    → soundIn width (withEntities t (set (t .entities) e n)) ≡ true
+entity-kept {width} t e n h way stay new =
     sound-i _
     (record {
       users = ok .users;
@@ -180,7 +180,7 @@ entity-kept t e n h way stay new =
       entity = entities-kept t ok e n stay new;
     })
   where
-    ok : Sound t
+    ok : Sound width t
     ok = sound-e t h
 
     -- what was asked of the old record where it was used is so of the new one
@@ -189,7 +189,7 @@ entity-kept t e n h way stay new =
     kept P uses none (inl same) u p = ap P same ∙ p
     kept P uses none (inr unused) u p = absurd (clash uses u (none unused))
 
-    session : (s : ℕ) → s < 16 → SessionOk (t .roles) (set (t .entities) e n) s (sessionAt t s)
+    session : (s : ℕ) → s < 16 → SessionOk width (t .roles) (set (t .entities) e n) s (sessionAt t s)
     session s l =
         let old = ok .session s l in
         let label = sessionAt t s .label in

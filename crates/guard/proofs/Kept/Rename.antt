@@ -13,10 +13,10 @@ use Rattle.bitset.specs.Tests.Laws.{clash, is-false, of-not-false, every-i, eve
 use Rattle.guard.specs.Level.{isRoot}
 use Rattle.guard.specs.Tables.{noEntity, entityAt, isChild}
 use Rattle.guard.specs.Chain.{parentOf}
-use Rattle.guard.specs.Sound.{entityInRange, topName, sound}
+use Rattle.guard.specs.Sound.{entityInRangeIn, topName, soundIn}
 use Rattle.guard.specs.Edits.{atEntity, renameTo}
 use Rattle.guard.specs.Conditions.{nameTaken}
-use Rattle.guard.specs.Requests.{fieldInRange, rename}
+use Rattle.guard.specs.Requests.{fieldInRangeIn, rename}
 use Rattle.guard.specs.declared.Tables.{Tables}
 use Rattle.guard.specs.declared.Request.{Request}
 use Rattle.guard.proofs.Laws.Refusals.{unmet}
@@ -31,12 +31,12 @@ unfolding nameTaken isChild
 free-name t q parent h f l child =
     is-false _ (λ same. clash _ (every-i _ (child, (same, tt))) (some-no-e 64 _ h f l))
 
-pub renamed-sound : (t : Tables) (e name : ℕ) → sound t ≡ true → e < 64 → isRoot e ≡ false → entityAt t e .live ≡ true
+pub renamed-sound : (width : ℕ) (t : Tables) (e name : ℕ) → soundIn width t ≡ true → e < 64 → isRoot e ≡ false → entityAt t e .live ≡ true
     → leb 1 name ≡ true → leb name topName ≡ true
     → ((f : ℕ) → f < 64 → childOf (parentOf t e) f (entityAt t f) ≡ true → eqb (entityAt t f .name) name ≡ false)
-    → sound (atEntity e (renameTo name) t) ≡ true
-unfolding atEntity renameTo entityInRange
-renamed-sound t e name h l other live low high free =
+    → soundIn width (atEntity e (renameTo name) t) ≡ true
+unfolding atEntity renameTo entityInRangeIn
+renamed-sound width t e name h l other live low high free =
     let range = every-at _ (ok .entity e l .range) in
     let old = ok .entity e l .placed live other .inside in
     entity-kept t e _ h (inl refl) stay
@@ -47,7 +47,7 @@ renamed-sound t e name h l other live low high free =
       placed = λ _. (low, inside-kept t ok e _ stay e l live (stays e l) old _ refl, λ f k ne. free f k);
     })
   where
-    ok : Sound t
+    ok : Sound width t
     ok = sound-e t h
 
     stays : (f : ℕ) → f < 64 → Stays t e (renameTo name (entityAt t e)) f
@@ -58,10 +58,10 @@ renamed-sound t e name h l other live low high free =
         → Stays t e (renameTo name (entityAt t e)) (parentOf t f)
     stay f k alive s = stays (parentOf t f) (parent-kin t ok f k alive .below)
 
-pub keeps-rename : Keeps rename
-unfolding rename fieldInRange
+pub keeps-rename : {width : ℕ} → Keeps width rename
+unfolding rename fieldInRangeIn
 keeps-rename t q d =
     let no = unmet _ refl (d .none) in
     let name = every-at _ (d .ranges) 2 in
-    renamed-sound t (q .entity) (q .name) (d .isSound) (ltb-true _ _ (every-at _ (d .ranges) 1)) (no 6) (of-not-false _ (no 7))
+    renamed-sound _ t (q .entity) (q .name) (d .isSound) (ltb-true _ _ (every-at _ (d .ranges) 1)) (no 6) (of-not-false _ (no 7))
     (every-at _ name 0) (every-at _ name 1) (free-name t q _ (no 14))

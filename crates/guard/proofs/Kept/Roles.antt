@@ -16,10 +16,10 @@ use Rattle.bitset.specs.Sets.{has, minus, contains, with}
 use Rattle.bitset.specs.Sets.Laws.{has-minus, has-without-same, has-contains, contains-trans}
 use Rattle.guard.specs.Level.{roleLevel, entityLevel, isKeeper}
 use Rattle.guard.specs.Tables.{noSession, noRole, sessionAt, roleAt, entityAt, rightsOf}
-use Rattle.guard.specs.Sound.{sound}
+use Rattle.guard.specs.Sound.{soundIn}
 use Rattle.guard.specs.Edits.{withRoles, atRole, eachRole, eachSession, dropRole, listing, putIn, granting, setRights, addRights, removeRights, listUser, unlistUser}
 use Rattle.guard.specs.Conditions.{grantBelow}
-use Rattle.guard.specs.Requests.{fieldInRange, grant, revoke, list, unlist, make, unmake}
+use Rattle.guard.specs.Requests.{fieldInRangeIn, grant, revoke, list, unlist, make, unmake}
 use Rattle.guard.specs.declared.Role.{Role}
 use Rattle.guard.specs.declared.Entity.{Entity}
 use Rattle.guard.specs.declared.Tables.{Tables}
@@ -82,9 +82,9 @@ empty-ok es r live keeper =
     }
 
 -- ---- the roles replaced
-roles-kept : (t : Tables) (roles : List Role) → Sound t → length roles ≡ 16
+roles-kept : {width : ℕ} (t : Tables) (roles : List Role) → Sound width t → length roles ≡ 16
     → ((s : ℕ) → s < 16 → SetOk 16 (sessionAt t s .live) (λ p. roleIn roles p .live) (sessionAt t s .roles))
-    → ((r : ℕ) → r < 16 → RoleOk (t .entities) r (roleIn roles r)) → sound (withRoles t roles) ≡ true
+    → ((r : ℕ) → r < 16 → RoleOk (t .entities) r (roleIn roles r)) → soundIn width (withRoles t roles) ≡ true
 roles-kept t roles ok many held new =
     sound-i _
     (record {
@@ -100,23 +100,23 @@ roles-kept t roles ok many held new =
     })
 
 -- a role that somebody holds stays live
-pub role-kept : (t : Tables) (r : ℕ) (f : Role → Role) → sound t ≡ true
+pub role-kept : (width : ℕ) (t : Tables) (r : ℕ) (f : Role → Role) → soundIn width t ≡ true
     → ((s : ℕ) → s < 16 → has (sessionAt t s .roles) r ≡ true → roleAt t r .live ≡ true → f (roleAt t r) .live ≡ true)
     → (r < 16 → RoleOk (t .entities) r (roleAt t r) → RoleOk (t .entities) r (f (roleAt t r)))
-    → sound (atRole r f t) ≡ true
+    → soundIn width (atRole r f t) ≡ true
 unfolding atRole
-role-kept t r f h stays new =
+role-kept width t r f h stays new =
     let ok = sound-e t h in
     roles-kept t _ ok (length-set (t .roles) r _ ∙ ok .manyRoles)
     (λ s l. seen-ok 16 _ (λ j a. a .live) _ (t .roles) _ r _ (ok .manyRoles) (ok .session s l .held) (stays s l))
     (set-each (RoleOk (t .entities)) 16 (t .roles) _ (ok .manyRoles) r _ (λ j l ne. ok .role j l) (λ l. new l (ok .role r l)))
 
-pub each-role-kept : (t : Tables) (f : Role → Role) → sound t ≡ true
+pub each-role-kept : (width : ℕ) (t : Tables) (f : Role → Role) → soundIn width t ≡ true
     → ((p : Role) → f p .live ≡ p .live)
     → ((r : ℕ) (p : Role) → RoleOk (t .entities) r p → RoleOk (t .entities) r (f p))
-    → sound (eachRole f t) ≡ true
+    → soundIn width (eachRole f t) ≡ true
 unfolding eachRole
-each-role-kept t f h live new =
+each-role-kept width t f h live new =
     let ok = sound-e t h in
     roles-kept t _ ok (length-map (t .roles) f ∙ ok .manyRoles)
     (λ s l. as-ok 16 _ _ _ _ (ok .session s l .held)
@@ -125,46 +125,46 @@ each-role-kept t f h live new =
     (map-each (RoleOk (t .entities)) f 16 (t .roles) _ (ok .manyRoles) (λ r l. new r _ (ok .role r l)))
 
 -- ---- the rules
-pub keeps-grant : Keeps grant
-unfolding grant grantBelow addRights setRights fieldInRange
+pub keeps-grant : {width : ℕ} → Keeps width grant
+unfolding grant grantBelow addRights setRights fieldInRangeIn
 keeps-grant t q d =
     let no = unmet _ refl (d .none) in
     let level = not-below (roleLevel (q .role)) (entityLevel (q .entity)) (either-no-r _ _ (no 10)) in
     let can : grantable (q .role) (q .entity) (entityAt t (q .entity)) ≡ true =
     every-i _ (of-not-false _ (either-no-l _ _ (no 7)), (level, tt)) in
-    role-kept t (q .role) _ (d .isSound) (λ s l m live. live) (λ l old.
+    role-kept _ t (q .role) _ (d .isSound) (λ s l m live. live) (λ l old.
     granted-ok _ _ _ old (q .entity) _ (of-not-false _ (either-no-r _ _ (no 7))) (ltb-true _ _ (every-at _ (d .ranges) 2)) can)
 
-pub keeps-revoke : Keeps revoke
+pub keeps-revoke : {width : ℕ} → Keeps width revoke
 unfolding revoke removeRights setRights
 keeps-revoke t q d =
-    role-kept t (q .role) _ (d .isSound) (λ s l m live. live)
+    role-kept _ t (q .role) _ (d .isSound) (λ s l m live. live)
     (λ l old. fewer-ok _ _ _ old (q .entity) _ (contains-minus _ (q .rights)))
 
-pub keeps-list : Keeps list
-unfolding list listUser fieldInRange
+pub keeps-list : {width : ℕ} → Keeps width list
+unfolding list listUser fieldInRangeIn
 keeps-list t q d =
-    role-kept t (q .role) _ (d .isSound) (λ s l m live. live) (λ l old.
+    role-kept _ t (q .role) _ (d .isSound) (λ s l m live. live) (λ l old.
     listed-ok _ _ _ old _
     (with-ok _ _ _ _ (q .user) (old .users) (of-not-false _ (unmet _ refl (d .none) 7)) (ltb-true _ _ (every-at _ (d .ranges) 2)) refl))
 
-pub keeps-unlist : Keeps unlist
+pub keeps-unlist : {width : ℕ} → Keeps width unlist
 unfolding unlist unlistUser
 keeps-unlist t q d =
-    role-kept t (q .role) _ (d .isSound) (λ s l m live. live)
+    role-kept _ t (q .role) _ (d .isSound) (λ s l m live. live)
     (λ l old. listed-ok _ _ _ old _ (without-ok _ _ _ _ (q .user) (old .users)))
 
-pub keeps-make : Keeps make
+pub keeps-make : {width : ℕ} → Keeps width make
 unfolding make
 keeps-make t q d =
-    role-kept t (q .role) _ (d .isSound) (λ s l m live. refl) (λ l old. empty-ok _ _ true (λ k. refl))
+    role-kept _ t (q .role) _ (d .isSound) (λ s l m live. refl) (λ l old. empty-ok _ _ true (λ k. refl))
 
 -- every session drops the role, and it is emptied then
-pub keeps-unmake : Keeps unmake
+pub keeps-unmake : {width : ℕ} → Keeps width unmake
 unfolding unmake eachSession atRole dropRole
 keeps-unmake t q d =
     let dropped = each-session-kept t (dropRole (q .role)) (d .isSound) (λ s r ok. dropped-ok _ _ _ _ ok (q .role)) in
-    role-kept (eachSession (dropRole (q .role)) t) (q .role) (λ old. noRole) dropped
+    role-kept _ (eachSession (dropRole (q .role)) t) (q .role) (λ old. noRole) dropped
     (λ s l m live. absurd (clash _ m (none s l)))
     (λ l old. empty-ok _ _ false (λ k. absurd (clash _ k (unmet _ refl (d .none) 6))))
   where

@@ -11,8 +11,9 @@ use Rattle.bitset.specs.Tests.Laws.{Each, every-i}
 use Rattle.guard.proofs.Compute.{computing}
 use Rattle.guard.specs.Level.{userCount, sessionCount, roleCount, entityCount}
 use Rattle.guard.specs.Tables.{noUser, sessionAt, roleAt, entityAt}
-use Rattle.guard.specs.Sound.{sessionInRange, roleInRange, entityInRange, usersInRange, fieldsInRange, rootsAsSaid, keepersAsSaid, entitiesPlaced, deadAreEmpty, deadAreUnused, rightsWithin, readingWithin, writingWithin, sound}
+use Rattle.guard.specs.Sound.{roleInRange, usersInRange, fieldsInRangeIn, rootsAsSaid, keepersAsSaid, entitiesPlaced, deadAreEmpty, deadAreUnused, rightsWithin, readingWithin, writingWithin, sound, soundIn}
 use Rattle.guard.specs.Fresh.{fresh, build}
+use Rattle.guard.specs.Private.InForce.{sessionInRange, entityInRange, fieldsInRange}
 use Rattle.guard.specs.declared.User.{User}
 use Rattle.guard.specs.declared.Tables.{Tables}
 use Rattle.guard.specs.declared.Outcome.{Outcome}
@@ -47,7 +48,7 @@ module _ (us : List User) where
   entities-counted = refl
 
   fields : usersInRange us ≡ true → fieldsInRange (fresh us) ≡ true
-  unfolding fieldsInRange fresh
+  unfolding fieldsInRangeIn fresh
   fields h =
       every-i _
       (h, (sessions-counted, (sessions-in-range, (roles-counted, (roles-in-range, (entities-counted, (entities-in-range, tt)))))))
@@ -66,7 +67,7 @@ module _ (us : List User) where
   others = (refl, (refl, (refl, (refl, (refl, (refl, (refl, (refl, tt))))))))
 
 pub fresh-sound : (us : List User) → usersInRange us ≡ true → sound (fresh us) ≡ true
-unfolding sound
+unfolding soundIn
 fresh-sound us h = every-i _ (fields us h, others us)
 
 no-users : usersInRange (replicate userCount noUser) ≡ true

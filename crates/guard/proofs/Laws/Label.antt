@@ -3,19 +3,21 @@
 --     dominates-iff                  dominance, member by member: A's grade is at least B's, and each category of B is one of A
 --     dominates-refl, -trans, -antisym   dominance is an order
 --     same-label                     the test of equality is equality
+--     none-in-range                  label 0/0 is in range, in any width
 -- Assumes nothing.
 use Prim.Native.Nat.{ℕ, _≤_}
 use mathlib.Core.Path.{_≡_, refl, ap, ap₂}
 use mathlib.Core.Bool.{Bool, true, false}
 use mathlib.Core.List.{[], _∷_}
 use mathlib.Core.Logic.{_↔_}
+use native.Mathlib.Omega.{arith}
 use native.Mathlib.Nat.{le-refl, le-trans, le-antisymm}
 use borrow.Author.Tests.{leb-true, le-leb, eqb-true, eq-eqb}
 use Rattle.bitset.specs.Tests.{every}
 use Rattle.bitset.specs.Tests.Laws.{every-i, every-e}
 use Rattle.bitset.specs.Sets.{has, contains}
 use Rattle.bitset.specs.Sets.Laws.{contains-has, has-contains, contains-antisym}
-use Rattle.guard.specs.Label.{label, dominates, sameLabel}
+use Rattle.guard.specs.Label.{topGrade, labelInRangeIn, label, noLabel, dominates, sameLabel}
 use Rattle.guard.specs.declared.Label.{Label}
 
 -- ---- Comparing category sets as numbers: 4 is more than 3 but does not contain it.
@@ -67,3 +69,8 @@ same-label a b = (
   λ h. let (g, (c, _)) = every-e _ h in same-fields a b (eqb-true _ _ g) (eqb-true _ _ c),
   λ e. every-i _ (eq-eqb _ _ (ap (λ (l : Label). l .grade) e), (eq-eqb _ _ (ap (λ (l : Label). l .cats) e), tt)),
 )
+
+-- ---- label 0/0
+pub none-in-range : (width : ℕ) → labelInRangeIn width noLabel ≡ true
+unfolding labelInRangeIn
+none-in-range width = every-i _ (le-leb 0 topGrade (omega arith), (le-leb 0 width (omega arith), tt))

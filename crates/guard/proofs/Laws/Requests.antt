@@ -18,9 +18,10 @@ use borrow.Author.Tests.{le-ltb}
 use Rattle.bitset.specs.Tests.{every}
 use Rattle.guard.specs.Sound.{sound}
 use Rattle.guard.specs.Refusals.{Refusal, _when_, first}
-use Rattle.guard.specs.Requests.{Rule, fieldInRange, requestCount, login, logout, take, drop, openr, openw, close, create, delete, rename, grant, revoke, list, unlist, make, unmake, unknown, rules, ruleOf}
-use Rattle.guard.specs.Step.{inRanges, answer}
+use Rattle.guard.specs.Requests.{Rule, fieldInRangeIn, requestCount, login, logout, take, drop, openr, openw, close, create, delete, rename, grant, revoke, list, unlist, make, unmake, unknown, rules, ruleOf}
+use Rattle.guard.specs.Step.{inRangesIn, answer, answerIn}
 use Rattle.guard.specs.Kind as kind
+use Rattle.guard.specs.Private.InForce.{fieldInRange, inRanges}
 use Rattle.guard.specs.declared.Tables.{Tables}
 use Rattle.guard.specs.declared.Request.{Request}
 use Rattle.guard.proofs.Laws.Refusals.{conditionOf, distinct, first-none, Leads, first-leads, first-met, risingFrom, first-lowest}
@@ -77,21 +78,21 @@ rising t q =
 -- Otherwise the answer is the lowest number below that applies to the request and whose condition is met. No number is
 -- given otherwise.
 pub answer-met : (t : Tables) (q : Request) → (answer t q ≡ 0 → ⊥) → conditionOf (answer t q) (conditions (ruleOf q) t q) ≡ true
-unfolding answer
+unfolding answerIn
 answer-met t q h = first-met (conditions (ruleOf q) t q) (apart t q) h
 
 pub answer-lowest : (t : Tables) (q : Request) (n : ℕ) → conditionOf n (conditions (ruleOf q) t q) ≡ true → answer t q ≤ n
-unfolding answer
+unfolding answerIn
 answer-lowest t q n h = first-lowest (conditions (ruleOf q) t q) (rising t q) n h
 
 -- Answer 0 means done: exactly when no condition is met; and the answer is n exactly when n's condition is met and none before
 -- it in the list.
 pub answer-none : (t : Tables) (q : Request) → (answer t q ≡ 0 ↔ ((n : ℕ) → conditionOf n (conditions (ruleOf q) t q) ≡ false))
-unfolding answer
+unfolding answerIn
 answer-none t q = first-none (conditions (ruleOf q) t q) (apart t q)
 
 pub answer-leads : (t : Tables) (q : Request) (n : ℕ) → (n ≡ 0 → ⊥) → (answer t q ≡ n ↔ Leads n (conditions (ruleOf q) t q))
-unfolding answer
+unfolding answerIn
 answer-leads t q n h = first-leads (conditions (ruleOf q) t q) (apart t q) n h
 
 -- ---- the names of the numbers
@@ -121,14 +122,14 @@ unfolding ruleOf rules
 unknown-rule q h = List·getD-eq-default rules unknown h
 
 unknown-out : (q : Request) → requestCount ≤ q .call → every (map (fieldInRange q) (unknown .uses)) ≡ false
-unfolding every unknown fieldInRange
+unfolding every unknown fieldInRangeIn
 unknown-out q h = rw (le-ltb (q .call) requestCount h) (and-false (ltb (q .seat) 16))
 
 pub unknown-answer : (t : Tables) (q : Request) → requestCount ≤ q .call → sound t ≡ true → answer t q ≡ 2
-unfolding answer inRanges first
+unfolding answerIn inRangesIn first
 unknown-answer t q h s = rw (s, unknown-rule q h, unknown-out q h)
 
 -- 1 the tables are not sound: before all others
 pub unsound-answer : (t : Tables) (q : Request) → sound t ≡ false → answer t q ≡ 1
-unfolding answer first
+unfolding answerIn first
 unsound-answer t q s = rw s

@@ -15,9 +15,10 @@ use Rattle.bitset.specs.Tests.Laws as tests
 use Rattle.bitset.specs.Tests.Laws.{every-i, every-e, every-at}
 use Rattle.guard.specs.Label.{sameLabel}
 use Rattle.guard.specs.Conditions.{userTooLow, createOutOfLevel, grantBelow, cannotOpen, cannotChangeIn, notOpen, nameTaken, hasChildren}
-use Rattle.guard.specs.Requests.{Rule, Field, call, seat, user, role, entity, parent, kind, name, label, rights, fieldInRange, loggedIn, created, login, logout, take, drop, openr, openw, close, create, delete, rename, grant, revoke, list, unlist, make, unmake, unknown, rules, ruleOf}
-use Rattle.guard.specs.Step.{inRanges, answer, next, step}
+use Rattle.guard.specs.Requests.{Rule, Field, call, seat, user, role, entity, parent, kind, name, label, rights, fieldInRangeIn, loggedIn, created, login, logout, take, drop, openr, openw, close, create, delete, rename, grant, revoke, list, unlist, make, unmake, unknown, rules, ruleOf}
+use Rattle.guard.specs.Step.{inRangesIn, answer, answerIn, next, nextIn, step}
 use Rattle.guard.specs.SameRequest.{sameField, sameRequest, sameRequests}
+use Rattle.guard.specs.Private.InForce.{fieldInRange}
 use Rattle.guard.specs.declared.Tables.{Tables}
 use Rattle.guard.specs.declared.Request.{Request}
 use Rattle.guard.proofs.Laws.Step.{Each, each-rule}
@@ -58,7 +59,7 @@ module _ (p q : Request) where
   fields-e (f ∷ fs) h = (field-e f (h .0), fields-e fs (h .1))
 
   range-same : (f : Field) → SameField p q f → fieldInRange p f ≡ fieldInRange q f
-  unfolding fieldInRange
+  unfolding fieldInRangeIn
   range-same call e = rw e
   range-same seat e = rw e
   range-same user e = rw e
@@ -174,12 +175,12 @@ module _ (p q : Request) (same : sameRequest p q ≡ true) where
   same-seat = reads p p q same-fields .0
 
   pub same-answer : (t : Tables) → answer t p ≡ answer t q
-  unfolding answer inRanges
+  unfolding answerIn inRangesIn
   same-answer t =
       rw (same-rule, map-same p q (fieldInRange p) (fieldInRange q) (range-same p q) (ruleOf p .uses) same-fields, reads p p q same-fields .1 t)
 
   pub same-next : (t : Tables) → next t p ≡ next t q
-  unfolding next
+  unfolding nextIn
   same-next t = rw (same-rule, same-answer t, reads p p q same-fields .2 t)
 
 -- Fields that a request does not use are not looked at.

@@ -1,5 +1,5 @@
 -- Sound tables, read as facts (Facts), and with the paper's own chain of parents (Chains).
---     sound-e, sound-i                the test `sound` says this, and no more
+--     sound-e, sound-i                the test `soundIn` says this, and no more
 --     writing-level, parent-level     two of the facts, of the tables
 -- Assumes nothing.
 use Prim.Native.Nat.{ℕ, _^_, _≤_, _<_}
@@ -14,7 +14,7 @@ use Rattle.bitset.specs.Sets.{has}
 use Rattle.guard.specs.Level.{sessionLevel, entityLevel, isRoot}
 use Rattle.guard.specs.Tables.{sessionAt, roleAt, entityAt, isWriting, rightsOf, rightsOn, isChild}
 use Rattle.guard.specs.Chain.{endsAtRoot}
-use Rattle.guard.specs.Sound.{sessionInRange, roleInRange, fieldsInRange, rootsAsSaid, keepersAsSaid, hasOwnName, isPlaced, entitiesPlaced, isEmptySession, isEmptyRole, deadAreEmpty, deadAreUnused, rightsWithin, readingWithin, writingWithin, sound}
+use Rattle.guard.specs.Sound.{sessionInRangeIn, roleInRange, fieldsInRangeIn, rootsAsSaid, keepersAsSaid, hasOwnName, isPlaced, entitiesPlaced, isEmptySession, isEmptyRole, deadAreEmpty, deadAreUnused, rightsWithin, readingWithin, writingWithin, sound, soundIn}
 use Rattle.guard.specs.declared.Session.{Session}
 use Rattle.guard.specs.declared.Role.{Role}
 use Rattle.guard.specs.declared.Entity.{Entity}
@@ -49,8 +49,8 @@ opened live m a b h k e l o =
     let within = every-e _ (implies-e _ _ (all-e 64 _ k e l) o) in
     every-i _ (used (live e) (not (m e)) (all-e 64 _ h e l) (not-of-true _ o), within)
 
-session-e : (t : Tables) → sound t ≡ true → (s : ℕ) → s < 16 → SessionOk (t .roles) (t .entities) s (sessionAt t s)
-unfolding sound fieldsInRange sessionInRange isEmptySession deadAreEmpty deadAreUnused readingWithin writingWithin
+session-e : {width : ℕ} (t : Tables) → soundIn width t ≡ true → (s : ℕ) → s < 16 → SessionOk width (t .roles) (t .entities) s (sessionAt t s)
+unfolding soundIn fieldsInRangeIn sessionInRangeIn isEmptySession deadAreEmpty deadAreUnused readingWithin writingWithin
 session-e t h s l =
     let r = sessionAt t s in
     let range = all-e 16 _ (every-at _ (every-at _ h 0) 2) s l in
@@ -69,16 +69,16 @@ session-e t h s l =
     }
 
 -- a role has rights only on what it may have rights on
-rights-e : (t : Tables) → sound t ≡ true → (r e : ℕ) → r < 16 → e < 64 → (rightsOn t r e ≡ 0 → ⊥) → grantable r e (entityAt t e) ≡ true
-unfolding sound deadAreUnused rightsWithin
-rights-e t h r e l k ne =
+rights-e : (width : ℕ) (t : Tables) → soundIn width t ≡ true → (r e : ℕ) → r < 16 → e < 64 → (rightsOn t r e ≡ 0 → ⊥) → grantable r e (entityAt t e) ≡ true
+unfolding soundIn deadAreUnused rightsWithin
+rights-e width t h r e l k ne =
     let some = ne-eqb (rightsOn t r e) 0 ne in
     let live = used _ _ (all-e 64 _ (all-e 16 _ (every-at _ (every-at _ h 5) 0) r l) e k) some in
     every-i _ (live, (implies-e _ _ (all-e 64 _ (all-e 16 _ (every-at _ h 6) r l) e k) (not-of-false _ some), tt))
 
-role-e : (t : Tables) → sound t ≡ true → (r : ℕ) → r < 16 → RoleOk (t .entities) r (roleAt t r)
-unfolding sound fieldsInRange roleInRange keepersAsSaid isEmptyRole deadAreEmpty
-role-e t h r l =
+role-e : (width : ℕ) (t : Tables) → soundIn width t ≡ true → (r : ℕ) → r < 16 → RoleOk (t .entities) r (roleAt t r)
+unfolding soundIn fieldsInRangeIn roleInRange keepersAsSaid isEmptyRole deadAreEmpty
+role-e width t h r l =
     let p = roleAt t r in
     let range = all-e 16 _ (every-at _ (every-at _ h 0) 4) r l in
     let empty : p .live ≡ false → isEmptyRole p ≡ true = λ d. dead _ _ (all-e 16 _ (every-at _ (every-at _ h 4) 1) r l) d in
@@ -86,17 +86,17 @@ role-e t h r l =
       keeper = λ k. implies-e _ _ (all-e 16 _ (every-at _ h 2) r l) k;
       users = set-e 16 _ _ _ (ltb-true _ _ (every-at _ range 0)) (λ d. every-at _ (empty d) 0) (λ u k m. refl);
       reads = set-e 64 _ _ _ (ltb-true _ _ (every-at _ range 1)) (λ d. every-at _ (empty d) 1)
-          (λ e k m. rights-e t h r e l k (λ z. clash _ m (rights-zero p e z .0)));
+          (λ e k m. rights-e width t h r e l k (λ z. clash _ m (rights-zero p e z .0)));
       writes = set-e 64 _ _ _ (ltb-true _ _ (every-at _ range 2)) (λ d. every-at _ (empty d) 2)
-          (λ e k m. rights-e t h r e l k (λ z. clash _ m (rights-zero p e z .1)));
+          (λ e k m. rights-e width t h r e l k (λ z. clash _ m (rights-zero p e z .1)));
       executes = set-e 64 _ _ _ (ltb-true _ _ (every-at _ range 3)) (λ d. every-at _ (empty d) 3)
-          (λ e k m. rights-e t h r e l k (λ z. clash _ m (rights-zero p e z .2)));
+          (λ e k m. rights-e width t h r e l k (λ z. clash _ m (rights-zero p e z .2)));
       owns = set-e 64 _ _ _ (ltb-true _ _ (every-at _ range 4)) (λ d. every-at _ (empty d) 4)
-          (λ e k m. rights-e t h r e l k (λ z. clash _ m (rights-zero p e z .3)));
+          (λ e k m. rights-e width t h r e l k (λ z. clash _ m (rights-zero p e z .3)));
     }
 
-entity-e : (t : Tables) → sound t ≡ true → (e : ℕ) → e < 64 → EntityOk (t .entities) e (entityAt t e)
-unfolding sound fieldsInRange rootsAsSaid entitiesPlaced isPlaced hasOwnName isChild endsAtRoot deadAreEmpty
+entity-e : {width : ℕ} (t : Tables) → soundIn width t ≡ true → (e : ℕ) → e < 64 → EntityOk width (t .entities) e (entityAt t e)
+unfolding soundIn fieldsInRangeIn rootsAsSaid entitiesPlaced isPlaced hasOwnName isChild endsAtRoot deadAreEmpty
 entity-e t h e l =
     let n = entityAt t e in
     record {
@@ -116,8 +116,8 @@ entity-e t h e l =
       empty = λ d. dead _ _ (all-e 64 _ (every-at _ (every-at _ h 4) 2) e l) d;
     }
 
-pub sound-e : (t : Tables) → sound t ≡ true → Sound t
-unfolding sound fieldsInRange
+pub sound-e : {width : ℕ} (t : Tables) → soundIn width t ≡ true → Sound width t
+unfolding soundIn fieldsInRangeIn
 sound-e t h =
     let fields = every-at _ h 0 in
     record {
@@ -126,7 +126,7 @@ sound-e t h =
       manyRoles = eqb-true _ _ (every-at _ fields 3);
       manyEntities = eqb-true _ _ (every-at _ fields 5);
       session = session-e t h;
-      role = role-e t h;
+      role = role-e _ t h;
       entity = entity-e t h;
     }
 
@@ -150,9 +150,9 @@ open-i live m a b f = (
   all-i 64 _ (λ e l. implies-i _ _ (λ o. every-i _ (every-e _ (f e l o) .1))),
 )
 
-module _ (roles : List Role) (es : List Entity) (s : ℕ) (r : Session) (ok : SessionOk roles es s r) where
-  session-range : sessionInRange r ≡ true
-  unfolding sessionInRange
+module _ {width : ℕ} (roles : List Role) (es : List Entity) (s : ℕ) (r : Session) (ok : SessionOk width roles es s r) where
+  session-range : sessionInRangeIn width r ≡ true
+  unfolding sessionInRangeIn
   session-range =
       every-of _
       (lt-ltb _ _ (ok .user)
@@ -213,9 +213,9 @@ placed-i t e ok =
     own : hasOwnName t e ≡ true
     own = all-i 64 _ (λ f l. implies-i _ _ (λ h. not-of-false _ (ok .ownName f l (eqb-false f e (of-not-true _ (every-at _ h 1))) (every-at _ h 0))))
 
-pub sound-i : (t : Tables) → Sound t → sound t ≡ true
-unfolding sound fieldsInRange rootsAsSaid keepersAsSaid entitiesPlaced deadAreEmpty deadAreUnused rightsWithin readingWithin writingWithin
-sound-i t ok =
+pub sound-i : {width : ℕ} (t : Tables) → Sound width t → soundIn width t ≡ true
+unfolding soundIn fieldsInRangeIn rootsAsSaid keepersAsSaid entitiesPlaced deadAreEmpty deadAreUnused rightsWithin readingWithin writingWithin
+sound-i {width} t ok =
     every-of _
     (fields
     also all-i 64 _ (λ e l. implies-i _ _ (ok .entity e l .root))
@@ -228,7 +228,7 @@ sound-i t ok =
     also all-i 16 _ (λ s l. open-i _ _ _ _ (ok .session s l .writing .members) .1)
     also no-more)
   where
-    fields : fieldsInRange t ≡ true
+    fields : fieldsInRangeIn width t ≡ true
     fields =
         every-of _
         (ok .users

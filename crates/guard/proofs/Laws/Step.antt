@@ -1,6 +1,6 @@
 -- One request: when it is done, and what holds after it.
---     Done            what answer 0 tells of the tables and the request
---     done            answer 0, as Done
+--     DoneIn, Done    what answer 0 tells of the tables and the request, in any width and in force
+--     done            answer 0, as DoneIn
 --     next-by         a property of the tables that holds now, and after the effect where the request is done, holds next
 --     each-rule       what holds of each of the sixteen rules and of the unknown one holds of every request's rule
 -- Assumes nothing.
@@ -12,33 +12,37 @@ use lib.Dec.{eqb}
 use lib.ListN.{getD}
 use borrow.Author.Tests.{eqb-true, eqb-false}
 use Rattle.bitset.specs.Tests.{every}
-use Rattle.guard.specs.Sound.{sound}
+use Rattle.guard.specs.Label.{allCategories}
+use Rattle.guard.specs.Sound.{soundIn}
 use Rattle.guard.specs.Refusals.{_when_, first}
-use Rattle.guard.specs.Requests.{Rule, fieldInRange, unknown, rules, ruleOf}
-use Rattle.guard.specs.Step.{inRanges, answer, next}
+use Rattle.guard.specs.Requests.{Rule, fieldInRangeIn, unknown, rules, ruleOf}
+use Rattle.guard.specs.Step.{inRangesIn, answerIn, nextIn}
 use Rattle.guard.specs.declared.Tables.{Tables}
 use Rattle.guard.specs.declared.Request.{Request}
 
-pub record Done (rule : Rule) (t : Tables) (q : Request) : Type 0 where
-  pub isSound : sound t ≡ true
-  pub ranges : every (map (fieldInRange q) (rule .uses)) ≡ true
+pub record DoneIn (width : ℕ) (rule : Rule) (t : Tables) (q : Request) : Type 0 where
+  pub isSound : soundIn width t ≡ true
+  pub ranges : every (map (fieldInRangeIn width q) (rule .uses)) ≡ true
   pub none : first (rule .refusals t q) ≡ 0
 
-pub done : (t : Tables) (q : Request) → answer t q ≡ 0 → Done (ruleOf q) t q
-unfolding answer first inRanges
-done t q d = go (sound t) refl (inRanges q) refl d
+abbrev pub Done : Rule → Tables → Request → Type 0
+Done = DoneIn allCategories
+
+pub done : {width : ℕ} (t : Tables) (q : Request) → answerIn width t q ≡ 0 → DoneIn width (ruleOf q) t q
+unfolding answerIn first inRangesIn
+done {width} t q d = go (soundIn width t) refl (inRangesIn width q) refl d
   where
-    go : (s : Bool) → sound t ≡ s → (r : Bool) → inRanges q ≡ r
-        → cond (not s) 1 (cond (not r) 2 (first (ruleOf q .refusals t q))) ≡ 0 → Done (ruleOf q) t q
+    go : (s : Bool) → soundIn width t ≡ s → (r : Bool) → inRangesIn width q ≡ r
+        → cond (not s) 1 (cond (not r) 2 (first (ruleOf q .refusals t q))) ≡ 0 → DoneIn width (ruleOf q) t q
     go true s true r d = record { isSound = s; ranges = r; none = d }
     go true s false r d = absurd (eqb-false 2 0 refl d)
     go false s r e d = absurd (eqb-false 1 0 refl d)
 
-pub next-by : (P : Tables → Type 0) (t : Tables) (q : Request) → P t → (Done (ruleOf q) t q → P (ruleOf q .effect q t)) → P (next t q)
-unfolding next
-next-by P t q now after = go (eqb (answer t q) 0) refl
+pub next-by : {width : ℕ} (P : Tables → Type 0) (t : Tables) (q : Request) → P t → (DoneIn width (ruleOf q) t q → P (ruleOf q .effect q t)) → P (nextIn width t q)
+unfolding nextIn
+next-by {width} P t q now after = go (eqb (answerIn width t q) 0) refl
   where
-    go : (b : Bool) → eqb (answer t q) 0 ≡ b → P (cond b (ruleOf q .effect q t) t)
+    go : (b : Bool) → eqb (answerIn width t q) 0 ≡ b → P (cond b (ruleOf q .effect q t) t)
     go true e = after (done t q (eqb-true _ _ e))
     go false e = now
 

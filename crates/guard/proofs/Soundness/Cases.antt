@@ -14,8 +14,9 @@ use Rattle.bitset.specs.Tests.Laws.{both, clash, is-false, not-of-true, not-of-
 use Rattle.bitset.specs.Sets.{has, contains}
 use Rattle.bitset.specs.Sets.Laws.{has-none, join-lt}
 use Rattle.guard.specs.Level.{isRoot, isKeeper}
-use Rattle.guard.specs.Sound.{entityInRange, isRootRecord, isEmptyEntity, sessionInRange, isEmptySession}
+use Rattle.guard.specs.Sound.{isRootRecord, isEmptyEntity, isEmptySession}
 use Rattle.guard.specs.Private.Tested.{entityTest, rightsSet, roleTest, openLevels, openLabels, sessionTest}
+use Rattle.guard.specs.Private.InForce.{entityInRange, sessionInRange}
 use Rattle.guard.specs.declared.Entity.{Entity}
 use Rattle.guard.specs.declared.Role.{Role}
 use Rattle.guard.specs.declared.Session.{Session}

@@ -12,10 +12,11 @@ use lib.Dec.{leb}
 use borrow.Author.Tests.{eqb-true, leb-true, ltb-true, le-leb, lt-ltb}
 use Rattle.bitset.specs.Tests.Laws.{clash, is-false, not-of-false, of-not-true, every-i, every-at}
 use Rattle.guard.specs.Level.{isRoot}
-use Rattle.guard.specs.Label.{labelInRange, sameLabel, noLabel}
+use Rattle.guard.specs.Label.{allCategories, labelInRange, labelInRangeIn, sameLabel, noLabel}
 use Rattle.guard.specs.Tables.{entityAt}
-use Rattle.guard.specs.Sound.{entityInRange, isRootRecord, isEmptyEntity}
+use Rattle.guard.specs.Sound.{entityInRangeIn, isRootRecord, isEmptyEntity}
 use Rattle.guard.specs.Private.Tested.{entityTest}
+use Rattle.guard.specs.Private.InForce.{entityInRange}
 use Rattle.guard.specs.declared.Label.{Label}
 use Rattle.guard.specs.declared.Entity.{Entity}
 use Rattle.guard.specs.declared.Tables.{Tables}
@@ -33,25 +34,25 @@ pub record Settled (t : Tables) (e : ℕ) (n : Entity) : Type 0 where
 pub record Known (e : ℕ) (n : Entity) : Type 0 where
   pub parent : n .parent < 64
   pub name : n .name < 65536
-  pub cats : n .label .cats < 256
+  pub cats : n .label .cats < 65536
   pub level : n .live ≡ true → n .parent / 16 ≡ e / 16
   pub named : n .live ≡ true → isRoot e ≡ false → 1 ≤ n .name
   pub root : isRoot e ≡ true → (n .live ≡ true) × (n .parent ≡ e) × (n .name ≡ 0)
   pub dead : n .live ≡ false → (n .parent ≡ 0) × (n .name ≡ 0)
 
 parent-small : (n : Entity) → entityInRange n ≡ true → n .parent < 64
-unfolding entityInRange
+unfolding entityInRangeIn
 parent-small n h = ltb-true _ _ (every-at _ h 1)
 
 pub known : (t : Tables) (e : ℕ) (n : Entity) → Settled t e n → Known e n
-unfolding entityInRange labelInRange isRootRecord isEmptyEntity
+unfolding entityInRangeIn labelInRangeIn isRootRecord isEmptyEntity
 known t e n s =
     let root : isRoot e ≡ true → (n .live ≡ true) × (n .parent ≡ e) × (n .name ≡ 0) =
     λ r. let h = every-at _ (s .root r) in (h 0, eqb-true _ _ (h 4), eqb-true _ _ (h 3)) in
     record {
       parent = parent-small n (s .range);
       name = let h = leb-true (n .name) 65535 (every-at _ (s .range) 2) in omega arith;
-      cats = let h = leb-true (n .label .cats) 255 (every-at _ (every-at _ (s .range) 3) 1) in omega arith;
+      cats = let h = leb-true (n .label .cats) allCategories (every-at _ (every-at _ (s .range) 3) 1) in omega arith;
       level = λ live. go (isRoot e) refl live root;
       named = λ live other. leb-true 1 (n .name) (s .named live other);
       root = root;
@@ -64,14 +65,14 @@ known t e n s =
 
 -- ---- the ranges of a root and of an empty record
 pub zero-label : (a : Label) → sameLabel a noLabel ≡ true → labelInRange a ≡ true
-unfolding sameLabel labelInRange
+unfolding sameLabel labelInRangeIn
 zero-label a h =
     let g = eqb-true (a .grade) 0 (every-at _ h 0) in
     let c = eqb-true (a .cats) 0 (every-at _ h 1) in
-    every-i _ (le-leb (a .grade) 3 (omega arith), (le-leb (a .cats) 255 (omega arith), tt))
+    every-i _ (le-leb (a .grade) 3 (omega arith), (le-leb (a .cats) allCategories (omega arith), tt))
 
 in-range : (n : Entity) → n .kind ≤ 1 → n .parent < 64 → n .name ≡ 0 → sameLabel (n .label) noLabel ≡ true → entityInRange n ≡ true
-unfolding entityInRange
+unfolding entityInRangeIn
 in-range n k p m l = every-i _ (le-leb (n .kind) 1 k, (lt-ltb (n .parent) 64 p, (le-leb (n .name) 65535 (omega arith), (zero-label (n .label) l, tt))))
 
 root-in-range : (e : ℕ) (n : Entity) → e < 64 → isRootRecord e n ≡ true → entityInRange n ≡ true

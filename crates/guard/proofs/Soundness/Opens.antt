@@ -15,10 +15,11 @@ use Rattle.bitset.specs.Tests.Laws.{both, clash, every-i, every-at, implies-i, 
 use Rattle.bitset.specs.Sets.{has, contains}
 use Rattle.bitset.specs.Sets.Laws.{has-none, has-below, contains-has, has-contains}
 use Rattle.guard.specs.Level.{sessionLevel}
-use Rattle.guard.specs.Label.{labelInRange, dominates, sameLabel}
+use Rattle.guard.specs.Label.{allCategories, labelInRange, labelInRangeIn, dominates, sameLabel}
 use Rattle.guard.specs.Tables.{roleAt, entityAt}
-use Rattle.guard.specs.Sound.{sessionInRange, isEmptySession}
+use Rattle.guard.specs.Sound.{sessionInRangeIn, isEmptySession}
 use Rattle.guard.specs.Private.Tested.{sessionTest, labelNumber}
+use Rattle.guard.specs.Private.InForce.{sessionInRange}
 use Rattle.guard.specs.declared.Label.{Label}
 use Rattle.guard.specs.declared.Session.{Session}
 use Rattle.guard.specs.declared.Entity.{Entity}
@@ -31,54 +32,54 @@ abbrev pub Labels : Tables → List ℕ → Type 0
 Labels t labels = (e : ℕ) → e < 64 → getD labels e 0 ≡ labelNumber (entityAt t e)
 
 -- ---- a label against the number of an entity's
-module _ (l : Label) (g : ℕ) (c : ℕ) (l-small : l .grade ≤ 3) (c-small : c < 256) where
-  below-as : (live : Bool) → every (leb (cond live (g * 256 + c) 65535) (l .grade * 256 + 255) ∷ contains (l .cats) (cond live (g * 256 + c) 65535 % 256) ∷ [])
+module _ (l : Label) (g : ℕ) (c : ℕ) (l-small : l .grade ≤ 3) (c-small : c < 65536) where
+  below-as : (live : Bool) → every (leb (cond live (g * 65536 + c) 16777216) (l .grade * 65536 + 65535) ∷ contains (l .cats) (cond live (g * 65536 + c) 16777216 % 65536) ∷ [])
       ≡ every (live ∷ every (leb g (l .grade) ∷ contains (l .cats) c ∷ []) ∷ [])
   below-as true =
-      let low : (g * 256 + c) % 256 ≡ c = omega arith in
-      both _ _ (λ h. every-i _ (refl, (every-i _ (le-leb g (l .grade) (omega (arith, leb-true (g * 256 + c) (l .grade * 256 + 255) (every-at _ h 0))), (rw low at (every-at _ h 1), tt)), tt)))
-      (λ h. let d = every-at _ (every-at _ h 1) in every-i _ (le-leb (g * 256 + c) (l .grade * 256 + 255) (omega (arith, leb-true g (l .grade) (d 0))), (rw low (d 1), tt)))
+      let low : (g * 65536 + c) % 65536 ≡ c = omega arith in
+      both _ _ (λ h. every-i _ (refl, (every-i _ (le-leb g (l .grade) (omega (arith, leb-true (g * 65536 + c) (l .grade * 65536 + 65535) (every-at _ h 0))), (rw low at (every-at _ h 1), tt)), tt)))
+      (λ h. let d = every-at _ (every-at _ h 1) in every-i _ (le-leb (g * 65536 + c) (l .grade * 65536 + 65535) (omega (arith, leb-true g (l .grade) (d 0))), (rw low (d 1), tt)))
   below-as false =
-      both _ _ (λ h. absurd (clash _ (every-at _ h 0) (lt-leb 65535 (l .grade * 256 + 255) (omega arith)))) (λ h. absurd (clash false (every-at _ h 0) refl))
+      both _ _ (λ h. absurd (clash _ (every-at _ h 0) (lt-leb 16777216 (l .grade * 65536 + 65535) (omega arith)))) (λ h. absurd (clash false (every-at _ h 0) refl))
 
-  same-as : (live : Bool) → l .cats < 256 → eqb (cond live (g * 256 + c) 65535) (l .grade * 256 + l .cats)
+  same-as : (live : Bool) → l .cats < 65536 → eqb (cond live (g * 65536 + c) 16777216) (l .grade * 65536 + l .cats)
       ≡ every (live ∷ every (eqb (l .grade) g ∷ eqb (l .cats) c ∷ []) ∷ [])
   same-as true b =
-      both _ _ (λ h. let q = eqb-true (g * 256 + c) (l .grade * 256 + l .cats) h in
+      both _ _ (λ h. let q = eqb-true (g * 65536 + c) (l .grade * 65536 + l .cats) h in
       every-i _ (refl, (every-i _ (eq-eqb (l .grade) g (omega arith), (eq-eqb (l .cats) c (omega arith), tt)), tt)))
-      (λ h. let d = every-at _ (every-at _ h 1) in eq-eqb (g * 256 + c) (l .grade * 256 + l .cats) (omega (arith, eqb-true (l .grade) g (d 0), eqb-true (l .cats) c (d 1))))
+      (λ h. let d = every-at _ (every-at _ h 1) in eq-eqb (g * 65536 + c) (l .grade * 65536 + l .cats) (omega (arith, eqb-true (l .grade) g (d 0), eqb-true (l .cats) c (d 1))))
   same-as false b =
-      both _ _ (λ h. absurd (omega (arith, eqb-true 65535 (l .grade * 256 + l .cats) h))) (λ h. absurd (clash false (every-at _ h 0) refl))
+      both _ _ (λ h. absurd (omega (arith, eqb-true 16777216 (l .grade * 65536 + l .cats) h))) (λ h. absurd (clash false (every-at _ h 0) refl))
 
-below-is : (l : Label) (n : Entity) (v : ℕ) → v ≡ labelNumber n → l .grade ≤ 3 → n .label .cats < 256
-    → every (leb v (l .grade * 256 + 255) ∷ contains (l .cats) (v % 256) ∷ []) ≡ every (n .live ∷ dominates l (n .label) ∷ [])
+below-is : (l : Label) (n : Entity) (v : ℕ) → v ≡ labelNumber n → l .grade ≤ 3 → n .label .cats < 65536
+    → every (leb v (l .grade * 65536 + 65535) ∷ contains (l .cats) (v % 65536) ∷ []) ≡ every (n .live ∷ dominates l (n .label) ∷ [])
 unfolding dominates
 below-is l n v e p q = rw e (below-as l _ _ p q (n .live))
 
-same-is : (l : Label) (n : Entity) (v : ℕ) → v ≡ labelNumber n → l .grade ≤ 3 → n .label .cats < 256 → l .cats < 256
-    → eqb v (l .grade * 256 + l .cats) ≡ every (n .live ∷ sameLabel l (n .label) ∷ [])
+same-is : (l : Label) (n : Entity) (v : ℕ) → v ≡ labelNumber n → l .grade ≤ 3 → n .label .cats < 65536 → l .cats < 65536
+    → eqb v (l .grade * 65536 + l .cats) ≡ every (n .live ∷ sameLabel l (n .label) ∷ [])
 unfolding sameLabel
 same-is l n v e p q b = rw e (same-as l _ _ p q (n .live) b)
 
 -- ---- the label of a session
 grade-small : (l : Label) → labelInRange l ≡ true → l .grade ≤ 3
-unfolding labelInRange
+unfolding labelInRangeIn
 grade-small l h = leb-true _ _ (every-at _ h 0)
 
-cats-small : (l : Label) → labelInRange l ≡ true → l .cats < 256
-unfolding labelInRange
-cats-small l h = let b = leb-true (l .cats) 255 (every-at _ h 1) in omega arith
+cats-small : (l : Label) → labelInRange l ≡ true → l .cats < 65536
+unfolding labelInRangeIn
+cats-small l h = let b = leb-true (l .cats) allCategories (every-at _ h 1) in omega arith
 
 no-members : (w : ℕ) (live : Bool) (Q : ℕ → Bool) (s : ℕ) → 0 < 2 ^ w → s ≡ 0 → SetOk w live Q s
 no-members w live Q s p z = record { small = rw z p; none = λ d. z; members = λ i l m. absurd (clash (has 0 i) (rw z at m) (has-none i)) }
 
 module _ (t : Tables) (labels : List ℕ) (L : Labels t labels) (N : (e : ℕ) → e < 64 → Known e (entityAt t e))
     (roles : ℕ) (R : (k : ℕ) → k < 16 → has roles k ≡ roleAt t k .live) (s : ℕ) (x : Session) where
-  pub session-e : sessionTest labels roles (sessionLevel s) x ≡ true → SessionOk (t .roles) (t .entities) s x
-  unfolding sessionInRange isEmptySession
+  pub session-e : sessionTest labels roles (sessionLevel s) x ≡ true → SessionOk allCategories (t .roles) (t .entities) s x
+  unfolding sessionInRangeIn isEmptySession
   session-e h = go (x .live) refl
     where
-      go : (b : Bool) → x .live ≡ b → SessionOk (t .roles) (t .entities) s x
+      go : (b : Bool) → x .live ≡ b → SessionOk allCategories (t .roles) (t .entities) s x
       go true live =
           let test = every-at _ (yes-e (x .live) _ _ live h) in
           let range = every-at _ (test 0) in
@@ -122,8 +123,8 @@ module _ (t : Tables) (labels : List ℕ) (L : Labels t labels) (N : (e : ℕ) �
             writing = no-members 64 _ _ _ (omega arith) (eqb-true _ _ (none 4));
           }
 
-  pub session-i : SessionOk (t .roles) (t .entities) s x → sessionTest labels roles (sessionLevel s) x ≡ true
-  unfolding sessionInRange isEmptySession
+  pub session-i : SessionOk allCategories (t .roles) (t .entities) s x → sessionTest labels roles (sessionLevel s) x ≡ true
+  unfolding sessionInRangeIn isEmptySession
   session-i ok = go (x .live) refl
     where
       g : x .label .grade ≤ 3

@@ -16,9 +16,11 @@ use Rattle.bitset.specs.Tests.Laws.{both, clash, is-false, of-not-true, of-not-
 use Rattle.bitset.specs.Sets.{has}
 use Rattle.guard.specs.Level.{sessionLevel, isRoot}
 use Rattle.guard.specs.Tables.{noUser, sessionAt, roleAt, entityAt}
-use Rattle.guard.specs.Sound.{userInRange, usersInRange, sound}
+use Rattle.guard.specs.Label.{allCategories}
+use Rattle.guard.specs.Sound.{usersInRangeIn, sound}
 use Rattle.guard.specs.Private.Tested.{parentByKey, liveByKey, grantableIn, ends, entityTest, ownKey, roleTest, sessionTest}
 use Rattle.guard.specs.Private.Scan.{Keys}
+use Rattle.guard.specs.Private.InForce.{userInRange}
 use Rattle.guard.specs.declared.Tables.{Tables}
 use Rattle.guard.proofs.Laws.Sound.{sound-e, sound-i}
 use Rattle.guard.proofs.Laws.Sound.Facts.{Sound, EntityOk, parentIn}
@@ -62,7 +64,7 @@ pub keys-small : (t : Tables) (keys : List ℕ) → Keys (t .entities) keys → 
 keys-small t keys K h = key-small t keys K (λ k l. known t k _ (settled-by t h k l))
 
 -- ---- what sound tables pass
-settled-of : (t : Tables) (e : ℕ) → EntityOk (t .entities) e (entityAt t e) → Settled t e (entityAt t e)
+settled-of : (t : Tables) (e : ℕ) → EntityOk allCategories (t .entities) e (entityAt t e) → Settled t e (entityAt t e)
 settled-of t e ok = record {
   range = ok .range;
   root = ok .root;
@@ -72,14 +74,14 @@ settled-of t e ok = record {
 }
 
 module _ (t : Tables) (h : sound t ≡ true) where
-  ok : Sound t
+  ok : Sound allCategories t
   ok = sound-e t h
 
   pub numbers : (e : ℕ) → e < 64 → Known e (entityAt t e)
   numbers e l = known t e _ (settled-of t e (ok .entity e l))
 
   pub users-pass : usersTest t ≡ true
-  unfolding usersInRange
+  unfolding usersInRangeIn
   users-pass = every-at _ (ok .users) 1
 
   pub entities-pass : entitiesTest t ≡ true
@@ -119,7 +121,7 @@ pub record Sized (t : Tables) : Type 0 where
 passed : (t : Tables) (keys labels : List ℕ) (live roles : ℕ) → Sized t → Keys (t .entities) keys → Taken keys live → Labels t labels → LiveRoles t roles
     → usersTest t ≡ true → entitiesTest t ≡ true → chainsTest keys ≡ true → namesTest keys ≡ true → rolesTest t live ≡ true → sessionsTest t labels roles ≡ true
     → sound t ≡ true
-unfolding usersInRange
+unfolding usersInRangeIn
 passed t keys labels live roles size K L B R u e c n r s =
     sound-i t (record {
       users = every-i _ (eq-eqb _ _ (size .users), (u, tt));

@@ -15,9 +15,9 @@ use Rattle.guard.specs.Sound.{topName}
 use Rattle.guard.specs.Edits.{takeRole, dropRole, openReading, openWriting, closeBoth, putIn, renameTo}
 use Rattle.guard.specs.Refusals.{_when_, first}
 use Rattle.guard.specs.Conditions.{nameTaken, hasChildren, recordedParent}
-use Rattle.guard.specs.Requests.{Rule, fieldInRange, loggedIn, created}
-use Rattle.guard.specs.Step.{inRanges}
+use Rattle.guard.specs.Requests.{Rule, loggedIn, created}
 use Rattle.guard.specs.Kind as kind
+use Rattle.guard.specs.Private.InForce.{fieldInRange, inRanges}
 use Rattle.guard.specs.declared.User.{User}
 use Rattle.guard.specs.declared.Session.{Session}
 use Rattle.guard.specs.declared.Role.{Role}

@@ -11,7 +11,8 @@ use Rattle.guard.specs.Level.{roleLevel, entityLevel, isRoot, isKeeper}
 use Rattle.guard.specs.Label.{dominates}
 use Rattle.guard.specs.Tables.{container}
 use Rattle.guard.specs.Chain.{climbs}
-use Rattle.guard.specs.Sound.{sessionInRange, entityInRange, isRootRecord, isEmptyEntity, isEmptySession}
+use Rattle.guard.specs.Sound.{isRootRecord, isEmptyEntity, isEmptySession}
+use Rattle.guard.specs.Private.InForce.{sessionInRange, entityInRange}
 use Rattle.guard.specs.declared.Label.{Label}
 use Rattle.guard.specs.declared.Session.{Session}
 use Rattle.guard.specs.declared.Role.{Role}
@@ -81,13 +82,13 @@ roleTest grantable r p =
 -- ---- a session s at a level, by the label of each entity as one number, above all for what is not live
 
 abbrev pub packedLabel : Label → ℕ
-packedLabel a = a .grade * 256 + a .cats
+packedLabel a = a .grade * 65536 + a .cats
 
 abbrev pub labelNumber : Entity → ℕ
-labelNumber n = cond (n .live) (packedLabel (n .label)) 65535
+labelNumber n = cond (n .live) (packedLabel (n .label)) 16777216
 
 abbrev pub dominated : List ℕ → Label → ℕ → Bool
-dominated labels a e = every (leb (getD labels e 0) (a .grade * 256 + 255) ∷ contains (a .cats) (getD labels e 0 % 256) ∷ [])
+dominated labels a e = every (leb (getD labels e 0) (a .grade * 65536 + 65535) ∷ contains (a .cats) (getD labels e 0 % 65536) ∷ [])
 
 abbrev pub openLevels : ℕ → Session → Bool
 openLevels level s =

@@ -20,19 +20,19 @@ use crate::sizes::SESSIONS;
 
 // How many sets of categories there are, and the last of them; and what stands for the label of what is not live, above all
 // labels.
-const SETS: u16 = 256;
+const SETS: u32 = 65536;
 
-const LAST_SET: u16 = SETS - 1;
+const LAST_SET: u32 = SETS - 1;
 
-const DEAD: u16 = 65535;
+const DEAD: u32 = 16777216;
 
-fn packed(a: Label) -> u16
+fn packed(a: Label) -> u32
     ensures { λ r. ⌜ r ≡ packedLabel a ⌝ }
 {
-    (a.grade as u16) * SETS + (a.cats as u16)
+    (a.grade as u32) * SETS + (a.cats as u32)
 }
 
-fn label_of(n: Entity) -> u16
+fn label_of(n: Entity) -> u32
     ensures { λ r. ⌜ r ≡ labelNumber n ⌝ }
 {
     if !n.live {
@@ -41,10 +41,10 @@ fn label_of(n: Entity) -> u16
     packed(n.label)
 }
 
-pub fn labels(entities: [Entity; ENTITIES]) -> [u16; ENTITIES]
+pub fn labels(entities: [Entity; ENTITIES]) -> [u32; ENTITIES]
     ensures { λ r. ⌜ ((e : ℕ) → e < entityCount → getD r e 0 ≡ labelNumber (getD entities e noEntity)) ⌝ }
 {
-    let mut a = [0u16; ENTITIES];
+    let mut a = [0u32; ENTITIES];
     let mut e: usize = 0;
     while e < ENTITIES {
         let n = entities[e];
@@ -55,10 +55,10 @@ pub fn labels(entities: [Entity; ENTITIES]) -> [u16; ENTITIES]
 }
 
 // Whether `label` dominates the label of each member of `set`.
-fn dominates_each(labels: &[u16; ENTITIES], label: Label, set: u64) -> bool
+fn dominates_each(labels: &[u32; ENTITIES], label: Label, set: u64) -> bool
     ensures { λ r. ⌜ r ≡ members (dominated (now (labels .entry)) label) set ⌝ }
 {
-    let top = (label.grade as u16) * SETS + LAST_SET;
+    let top = (label.grade as u32) * SETS + LAST_SET;
     let mut m = set;
     while m != 0 {
         let e = u64::trailing_zeros(m);
@@ -66,7 +66,7 @@ fn dominates_each(labels: &[u16; ENTITIES], label: Label, set: u64) -> bool
         if top < l {
             return false;
         }
-        if bitset::minus8((l % SETS) as u8, label.cats) != 0 {
+        if bitset::minus16((l % SETS) as u16, label.cats) != 0 {
             return false;
         }
         m = bitset::without64(m, e);
@@ -75,7 +75,7 @@ fn dominates_each(labels: &[u16; ENTITIES], label: Label, set: u64) -> bool
 }
 
 // Whether `label` is the label of each member of `set`.
-fn equals_each(labels: &[u16; ENTITIES], label: u16, set: u64) -> bool
+fn equals_each(labels: &[u32; ENTITIES], label: u32, set: u64) -> bool
     ensures { λ r. ⌜ r ≡ members (λ e. eqb (getD (now (labels .entry)) e 0) label) set ⌝ }
 {
     let mut m = set;
@@ -133,7 +133,7 @@ fn levels_allowed(level: u32, s: Session) -> bool
 }
 
 // Whether it has the labels that `s` may have open.
-fn labels_allowed(labels: &[u16; ENTITIES], s: Session) -> bool
+fn labels_allowed(labels: &[u32; ENTITIES], s: Session) -> bool
     ensures { λ r. ⌜ r ≡ openLabels (now (labels .entry)) s ⌝ }
 {
     if !dominates_each(labels, s.label, s.reading) {
@@ -143,7 +143,7 @@ fn labels_allowed(labels: &[u16; ENTITIES], s: Session) -> bool
 }
 
 // Whether `s`, at a level, is as soundness asks; `roles` are the live ones.
-fn session_ok(labels: &[u16; ENTITIES], roles: u16, level: u32, s: Session) -> bool
+fn session_ok(labels: &[u32; ENTITIES], roles: u16, level: u32, s: Session) -> bool
     requires { ⌜ level < 4 ⌝ }
     ensures { λ r. ⌜ r ≡ sessionTest (now (labels .entry)) roles level s ⌝ }
 {
@@ -159,7 +159,7 @@ fn session_ok(labels: &[u16; ENTITIES], roles: u16, level: u32, s: Session) -> b
     labels_allowed(labels, s)
 }
 
-pub fn sessions_ok(sessions: [Session; SESSIONS], labels: &[u16; ENTITIES], roles: u16) -> bool
+pub fn sessions_ok(sessions: [Session; SESSIONS], labels: &[u32; ENTITIES], roles: u16) -> bool
     ensures { λ r. ⌜ r ≡ all sessionCount (λ s. sessionTest (now (labels .entry)) roles (sessionLevel s) (getD sessions s noSession)) ⌝ }
 {
     let mut s: u32 = 0;

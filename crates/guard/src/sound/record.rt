@@ -1,5 +1,5 @@
 // Tests of one record that soundness asks, and of each user and entity in turn. Each is the definition of specs/Sound or specs/Label that its contract cites;
-// what holds of every value of a field's type, as that a `u8` is at most 255, is not tested.
+// what holds of every value of a field's type, as that a `u16` is at most 65,535, is not tested.
 ghost use Prim.Native.Nat.{_%_};
 ghost use mathlib.Core.Path.{_≡_};
 ghost use lib.ListN.{getD};
@@ -7,8 +7,9 @@ ghost use Rattle.bitset.specs.Tests.{all};
 ghost use Rattle.guard.specs.Level.{userCount, entityCount};
 ghost use Rattle.guard.specs.Tables.{noUser, noEntity};
 ghost use Rattle.guard.specs.Label.{sameLabel, noLabel};
-ghost use Rattle.guard.specs.Sound.{userInRange, sessionInRange, entityInRange, isRootRecord, isEmptyEntity, isEmptySession};
+ghost use Rattle.guard.specs.Sound.{isRootRecord, isEmptyEntity, isEmptySession};
 ghost use Rattle.guard.specs.Private.Tested.{fits, entityTest};
+ghost use Rattle.guard.specs.Private.InForce.{userInRange, sessionInRange, entityInRange};
 use crate::Entity;
 use crate::Label;
 use crate::Session;

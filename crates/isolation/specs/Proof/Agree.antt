@@ -18,7 +18,8 @@ use Rattle.guard.specs.Tables.{sessionAt, entityAt, hasRight, execute, read, wr
 use Rattle.guard.specs.Sound.{sound}
 use Rattle.guard.specs.Refusals.{_when_}
 use Rattle.guard.specs.Conditions.{labelAsked, seatLive, userTooLow, seatDead, createOutOfLevel, grantBelow, userUnlisted, keeperNotHeld, cannotOpen, cannotChangeIn, roleHeld, openForReading, openForWriting, notOpen, entityDead, roleDead, roleLive, nameTaken, hasChildren, recordedParent}
-use Rattle.guard.specs.Requests.{Rule, fieldInRange, login, logout, take, drop, openr, openw, close, create, delete, rename, grant, revoke, list, unlist, make, unmake, unknown, rules, ruleOf}
+use Rattle.guard.specs.Requests.{Rule, fieldInRangeIn, login, logout, take, drop, openr, openw, close, create, delete, rename, grant, revoke, list, unlist, make, unmake, unknown, rules, ruleOf}
+use Rattle.guard.specs.Private.InForce.{fieldInRange}
 use Rattle.isolation.specs.Upper.{firstEntity, fieldUpper}
 use Rattle.guard.specs.declared.Label.{Label}
 use Rattle.guard.specs.declared.Entity.{Entity}
@@ -192,7 +193,7 @@ module _ (L : ℕ) (q : Request) (t u : Tables) (same : Same L t u) (st : sound 
 
   -- the rules, in their order
   pub agrees : Agrees (ruleOf q)
-  unfolding rules login logout take drop openr openw close delete rename revoke list unlist make unmake unknown fieldInRange fieldUpper
+  unfolding rules login logout take drop openr openw close delete rename revoke list unlist make unmake unknown fieldInRangeIn fieldUpper
   agrees =
       each-rule Agrees
       ((λ r n. seatLive-same (every-at _ n 0) also userTooLow-same also tt)  -- login

@@ -15,7 +15,7 @@ use Rattle.guard.specs.Level.{sessionCount, entityCount, sessionLevel, roleLeve
 use Rattle.guard.specs.Sound.{sound}
 use Rattle.guard.specs.Edits.{atSession, atRole, atEntity, eachSession, eachRole, dropRole, closeBoth, addRights, removeRights, clearRights, setRights}
 use Rattle.guard.specs.Conditions.{entityDead, createOutOfLevel, grantBelow, cannotChangeIn, seatBelowRole, recordedParent}
-use Rattle.guard.specs.Requests.{Rule, fieldInRange, login, logout, take, drop, openr, openw, close, create, delete, rename, grant, revoke, list, unlist, make, unmake, unknown, rules, ruleOf}
+use Rattle.guard.specs.Requests.{Rule, fieldInRangeIn, login, logout, take, drop, openr, openw, close, create, delete, rename, grant, revoke, list, unlist, make, unmake, unknown, rules, ruleOf}
 use Rattle.isolation.specs.Upper.{firstRole, firstEntity, upperSession, fieldUpper}
 use Rattle.guard.specs.declared.Session.{Session}
 use Rattle.guard.specs.declared.Role.{Role}
@@ -85,7 +85,7 @@ module _ (L : ℕ) (t : Tables) (q : Request) where
 
   -- create: the entity is of the parent's level, and not above the role
   create-lower : Done create t q → every (map (fieldUpper L q) (create .uses)) ≡ false → q .entity < firstEntity L
-  unfolding create fieldInRange fieldUpper createOutOfLevel
+  unfolding create fieldInRangeIn fieldUpper createOutOfLevel
   create-lower d low =
       let met = unmet (create .refusals t q) refl (d .none) in
       let parent-in = ltb-true (q .parent) entityCount (every-at _ (d .ranges) 3) in
@@ -106,13 +106,13 @@ module _ (L : ℕ) (t : Tables) (q : Request) where
       lower-if (q .entity) (firstEntity L) _ low (λ up. seat-up (omega arith) and entity-up (q .entity) (omega arith) and others)
 
   delete-lower : Done delete t q → every (map (fieldUpper L q) (delete .uses)) ≡ false → q .entity < firstEntity L
-  unfolding delete fieldInRange fieldUpper
+  unfolding delete fieldInRangeIn fieldUpper
   delete-lower d low =
       let met = unmet (delete .refusals t q) refl (d .none) in
       change-lower [] tt low (d .isSound) (every-at _ (d .ranges) 0) (every-at _ (d .ranges) 1) (met 6) (met 7) (met 13)
 
   rename-lower : Done rename t q → every (map (fieldUpper L q) (rename .uses)) ≡ false → q .entity < firstEntity L
-  unfolding rename fieldInRange fieldUpper
+  unfolding rename fieldInRangeIn fieldUpper
   rename-lower d low =
       let met = unmet (rename .refusals t q) refl (d .none) in
       change-lower (true ∷ []) (refl, tt) low (d .isSound) (every-at _ (d .ranges) 0) (every-at _ (d .ranges) 1) (met 6) (met 7) (met 13)

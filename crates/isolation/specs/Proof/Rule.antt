@@ -11,8 +11,9 @@ use lib.Dec.{eqb}
 use Rattle.bitset.specs.Tests.{every}
 use Rattle.bitset.specs.Tests.Laws.{every-i, every-e, every-at, is-false, clash, of-not-false}
 use Rattle.guard.specs.Sound.{sound}
-use Rattle.guard.specs.Requests.{Rule, Field, seat, fieldInRange, login, logout, take, drop, openr, openw, close, create, delete, rename, grant, revoke, list, unlist, make, unmake, unknown, rules, ruleOf}
-use Rattle.guard.specs.Step.{inRanges, answer, next, run}
+use Rattle.guard.specs.Requests.{Rule, Field, seat, fieldInRangeIn, login, logout, take, drop, openr, openw, close, create, delete, rename, grant, revoke, list, unlist, make, unmake, unknown, rules, ruleOf}
+use Rattle.guard.specs.Step.{inRangesIn, answer, answerIn, next, nextIn, run, runIn}
+use Rattle.guard.specs.Private.InForce.{fieldInRange, inRanges}
 use Rattle.isolation.specs.Upper.{upper, isUpper, fieldUpper, namesUpper, upperRequests, upperAnswers}
 use Rattle.guard.specs.declared.Tables.{Tables}
 use Rattle.guard.specs.declared.Request.{Request}
@@ -40,7 +41,7 @@ seat-first =
 module _ (L : ℕ) where
   -- a request in range that names only upper things is upper
   names-upper : (q : Request) → inRanges q ≡ true → namesUpper L q ≡ true → isUpper L q ≡ true
-  unfolding inRanges namesUpper isUpper fieldInRange fieldUpper
+  unfolding inRangesIn namesUpper isUpper fieldInRangeIn fieldUpper
   names-upper q = go (ruleOf q .uses) (seat-first q)
     where
       go : (fs : List Field) → SeatFirst fs → every (map (fieldInRange q) fs) ≡ true → every (map (fieldUpper L q) fs) ≡ true → isUpper L q ≡ true
@@ -52,20 +53,20 @@ module _ (L : ℕ) where
   low-names t q low = next-by (λ (v : Tables). upper L v ≡ upper L t) t q refl (λ d. of-same L _ t (keeps L t q d low))
 
   lower-keeps : (t : Tables) (q : Request) → sound t ≡ true → isUpper L q ≡ false → upper L (next t q) ≡ upper L t
-  unfolding namesUpper inRanges
+  unfolding namesUpper inRangesIn
   lower-keeps t q st low = next-by (λ (v : Tables). upper L v ≡ upper L t) t q refl (λ d. of-same L _ t (keeps L t q d (names-low d)))
     where
       names-low : Done (ruleOf q) t q → namesUpper L q ≡ false
       names-low d = is-false _ (λ n. clash (isUpper L q) (names-upper q (d .ranges) n) low)
 
   upper-tells : (t u : Tables) (q : Request) → sound t ≡ true → sound u ≡ true → upper L t ≡ upper L u → namesUpper L q ≡ true → answer t q ≡ answer u q
-  unfolding answer inRanges namesUpper
+  unfolding answerIn inRangesIn namesUpper
   upper-tells t u q st su e n =
       alike-first _ _
       (refl, ap not (st ∙ sym su), λ a b. (refl, refl, λ r b. agrees L q t u (same-of L t u e) st su (of-not-false _ r) n))
 
   upper-agrees : (t u : Tables) (q : Request) → sound t ≡ true → sound u ≡ true → upper L t ≡ upper L u → upper L (next t q) ≡ upper L (next u q)
-  unfolding next namesUpper
+  unfolding nextIn namesUpper
   upper-agrees t u q st su e = go (namesUpper L q) refl
     where
       both : namesUpper L q ≡ true → (b : Bool) → upper L (cond b (ruleOf q .effect q t) t) ≡ upper L (cond b (ruleOf q .effect q u) u)
@@ -107,7 +108,7 @@ module _ (L : ℕ) where
 
   -- ---- the same over guard's run and upperAnswers
   run-is : (a : List Request) (t : Tables) → run t a ≡ runLog next t a
-  unfolding run runLog
+  unfolding runIn runLog
   run-is [] t = refl
   run-is (q ∷ a) t = run-is a (next t q)
 

@@ -9,7 +9,7 @@ use mathlib.Core.Bool.{Bool, true, false, cond, true≢false}
 use mathlib.Core.List.{List, [], _∷_}
 use Rattle.bitset.specs.Tests.Laws.{every-at}
 use Rattle.guard.specs.Sound.{sound}
-use Rattle.guard.specs.Step.{next, run}
+use Rattle.guard.specs.Step.{next, run, runIn}
 use Rattle.guard.specs.SameRequest.{sameRequest, sameRequests}
 use Rattle.isolation.specs.Upper.{upper, isUpper, fieldUpper, namesUpper, upperRequests, upperAnswers}
 use Rattle.guard.specs.declared.Tables.{Tables}
@@ -49,7 +49,7 @@ module _ (L : ℕ) where
 
   -- one request more: p in the place of q
   alike-more : (p q : Request) → sameRequest p q ≡ true → (c b : List Request) → Alike c b → Alike (p ∷ c) (q ∷ b)
-  unfolding run upperAnswers
+  unfolding runIn upperAnswers
   alike-more p q same c b alike u =
       let (ran, told) = alike (next u q) in
       (rw (same-next p q same u) ran, rw (same-upper p q same L, same-names p q same L, same-answer p q same u, same-next p q same u, told))

@@ -16,7 +16,8 @@ use Rattle.guard.specs.Level.{entityCount, entityLevel, isRoot}
 use Rattle.guard.specs.Label.{dominates}
 use Rattle.guard.specs.Tables.{noEntity, entityAt, container, execute, hasRight}
 use Rattle.guard.specs.Chain.{parentOf, endsAtRoot, reaches}
-use Rattle.guard.specs.Sound.{fieldsInRange, isRootRecord, rootsAsSaid, keepersAsSaid, hasOwnName, isPlaced, entitiesPlaced, deadAreEmpty, deadAreUnused, rightsWithin, readingWithin, writingWithin, sound}
+use Rattle.guard.specs.Sound.{fieldsInRangeIn, isRootRecord, rootsAsSaid, keepersAsSaid, hasOwnName, isPlaced, entitiesPlaced, deadAreEmpty, deadAreUnused, rightsWithin, readingWithin, writingWithin, sound, soundIn}
+use Rattle.guard.specs.Private.InForce.{fieldsInRange}
 use Rattle.guard.specs.declared.Entity.{Entity}
 use Rattle.guard.specs.declared.Tables.{Tables}
 use Rattle.guard.proofs.Laws.Chain.{ancestor, climbs-root, ends-somewhere, ends-iff, Above, reaches-iff}
@@ -51,7 +52,7 @@ pub record SoundInWords (t : Tables) : Type 0 where
 
 -- a live entity that is no root is placed
 placed-of : (t : Tables) → sound t ≡ true → (e : ℕ) → e < 64 → entityAt t e .live ≡ true → isRoot e ≡ false → isPlaced t e ≡ true
-unfolding sound entitiesPlaced
+unfolding soundIn entitiesPlaced
 placed-of t h e l live other = implies-e _ _ (all-e 64 _ (every-at _ h 3) e l) (every-i _ (live, (not-of-false _ other, tt)))
 
 in-words : (t : Tables) (e : ℕ) → isPlaced t e ≡ true → PlacedInWords t e
@@ -99,7 +100,7 @@ module _ (t : Tables) (words : SoundInWords t) where
       also no-more)
 
   sound-of : sound t ≡ true
-  unfolding sound entitiesPlaced
+  unfolding soundIn entitiesPlaced
   sound-of =
       every-of _
       (words .fields
@@ -114,7 +115,7 @@ module _ (t : Tables) (words : SoundInWords t) where
       also no-more)
 
 pub sound-iff : (t : Tables) → (sound t ≡ true ↔ SoundInWords t)
-unfolding sound
+unfolding soundIn
 sound-iff t = (forth, sound-of t)
   where
     forth : sound t ≡ true → SoundInWords t
@@ -135,7 +136,7 @@ sound-iff t = (forth, sound-of t)
 -- above.
 -- past the last entity none is live
 live-below : (t : Tables) → sound t ≡ true → (e : ℕ) → entityAt t e .live ≡ true → e < 64
-unfolding sound fieldsInRange
+unfolding soundIn fieldsInRangeIn
 live-below t h e live = go (decLt e 64)
   where
     long : length (t .entities) ≡ 64

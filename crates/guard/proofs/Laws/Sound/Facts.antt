@@ -1,5 +1,5 @@
 -- Sound tables, as facts: what each session, role and entity has to be, over the lists that it speaks of, so that an edit
--- of one list leaves what is said over the others as it stands.
+-- of one list leaves what is said over the others as it stands. The width is that of the labels.
 --     SetOk                                             a set that a session or a role has
 --     SessionOk, RoleOk, Inside, Placed, EntityOk       one record of each list
 --     Sound                                             the tables
@@ -13,10 +13,10 @@ use lib.ListN.{length, getD}
 use Rattle.bitset.specs.Tests.{every}
 use Rattle.bitset.specs.Sets.{has}
 use Rattle.guard.specs.Level.{sessionLevel, roleLevel, entityLevel, isRoot, isKeeper}
-use Rattle.guard.specs.Label.{labelInRange, dominates, sameLabel, noLabel}
+use Rattle.guard.specs.Label.{labelInRangeIn, dominates, sameLabel, noLabel}
 use Rattle.guard.specs.Tables.{noRole, noEntity, sessionAt, roleAt, entityAt, container}
 use Rattle.guard.specs.Chain.{climbs}
-use Rattle.guard.specs.Sound.{entityInRange, usersInRange, isRootRecord, isEmptyEntity}
+use Rattle.guard.specs.Sound.{entityInRangeIn, usersInRangeIn, isRootRecord, isEmptyEntity}
 use Rattle.guard.specs.declared.Label.{Label}
 use Rattle.guard.specs.declared.Session.{Session}
 use Rattle.guard.specs.declared.Role.{Role}
@@ -63,9 +63,9 @@ pub record SetOk (w : ℕ) (live : Bool) (Q : ℕ → Bool) (set : ℕ) : Type 0
   pub members : (i : ℕ) → i < w → has set i ≡ true → Q i ≡ true
 
 -- ---- one record
-pub record SessionOk (roles : List Role) (entities : List Entity) (s : ℕ) (r : Session) : Type 0 where
+pub record SessionOk (width : ℕ) (roles : List Role) (entities : List Entity) (s : ℕ) (r : Session) : Type 0 where
   pub user : r .user < 16
-  pub label : labelInRange (r .label) ≡ true
+  pub label : labelInRangeIn width (r .label) ≡ true
   pub empty : r .live ≡ false → (r .user ≡ 0) × (sameLabel (r .label) noLabel ≡ true)
   pub held : SetOk 16 (r .live) (λ p. roleIn roles p .live) (r .roles)
   pub reading : SetOk 64 (r .live) (λ e. readable s (r .label) e (entityIn entities e)) (r .reading)
@@ -92,17 +92,17 @@ pub record Placed (entities : List Entity) (e : ℕ) (n : Entity) : Type 0 where
   pub inside : Inside entities e n
   pub ownName : OwnName entities e n
 
-pub record EntityOk (entities : List Entity) (e : ℕ) (n : Entity) : Type 0 where
-  pub range : entityInRange n ≡ true
+pub record EntityOk (width : ℕ) (entities : List Entity) (e : ℕ) (n : Entity) : Type 0 where
+  pub range : entityInRangeIn width n ≡ true
   pub root : isRoot e ≡ true → isRootRecord e n ≡ true
   pub placed : n .live ≡ true → isRoot e ≡ false → Placed entities e n
   pub empty : n .live ≡ false → isEmptyEntity n ≡ true
 
-pub record Sound (t : Tables) : Type 0 where
-  pub users : usersInRange (t .users) ≡ true
+pub record Sound (width : ℕ) (t : Tables) : Type 0 where
+  pub users : usersInRangeIn width (t .users) ≡ true
   pub manySessions : length (t .sessions) ≡ 16
   pub manyRoles : length (t .roles) ≡ 16
   pub manyEntities : length (t .entities) ≡ 64
-  pub session : (s : ℕ) → s < 16 → SessionOk (t .roles) (t .entities) s (sessionAt t s)
+  pub session : (s : ℕ) → s < 16 → SessionOk width (t .roles) (t .entities) s (sessionAt t s)
   pub role : (r : ℕ) → r < 16 → RoleOk (t .entities) r (roleAt t r)
-  pub entity : (e : ℕ) → e < 64 → EntityOk (t .entities) e (entityAt t e)
+  pub entity : (e : ℕ) → e < 64 → EntityOk width (t .entities) e (entityAt t e)

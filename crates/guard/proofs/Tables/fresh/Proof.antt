@@ -2,7 +2,7 @@
 use mathlib.Core.Path.{_≡_, sym, _∙_}
 use lib.ListN.{length}
 use borrow.Author.Tests.{eq-eqb}
-use Rattle.guard.specs.Sound.{usersInRange}
+use Rattle.guard.specs.Sound.{usersInRange, usersInRangeIn}
 use Rattle.guard.specs.Fresh.{fresh, build}
 use Rattle.guard.proofs.Soundness.Loops.{long}
 use Rattle.guard.proofs.Filling.{every-two}
@@ -14,7 +14,7 @@ many : (c : tie.Start) → length (c .args .users) ≡ 16
 many c = search (long, c .good .0)
 
 tested : (c : tie.After-users-in-range) → c .users-in-range .result ≡ usersInRange (c .before .before .args .users)
-unfolding usersInRange
+unfolding usersInRangeIn
 tested c = c .users-in-range .ensures ∙ sym (every-two _ _ (eq-eqb _ _ (many (c .before .before))))
 
 fresh-over-requires : tie.Need-fresh-over-requires

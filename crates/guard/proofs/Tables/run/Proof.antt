@@ -7,12 +7,13 @@ use mathlib.Core.List.{List}
 use native.Mathlib.Omega.{arith}
 use lib.ListN.{length, set, length-append, length-replicate, length-drop}
 use borrow.Author.Tests.{not-true, not-false}
+use Rattle.guard.specs.Label.{allCategories}
 use Rattle.guard.specs.Sound.{sound}
 use Rattle.guard.specs.Requests.{ruleOf}
-use Rattle.guard.specs.Step.{inRanges}
 use Rattle.guard.specs.Batch.{batchLength}
 use Rattle.guard.specs.Private.Inside.{number, Placed}
 use Rattle.guard.specs.Private.Scan.{Keys, Grants}
+use Rattle.guard.specs.Private.InForce.{inRanges}
 use Rattle.guard.specs.declared.Tables.{Tables}
 use Rattle.guard.specs.declared.Request.{Request}
 use Rattle.guard.specs.declared.change.Change.the-variants.{Session as OfSession, Entity as OfEntity, Role as OfRole}
@@ -117,7 +118,7 @@ turned c u step k g K G =
 abbrev near : (c : At tie.Then3) → Placed (asked (c .before .before)) (place (c .before .before) .look-up .result)
 near c = place (c .before .before) .look-up .ensures
 
-many : (c : At tie.Then3) → Sound (tables (c .before .before))
+many : (c : At tie.Then3) → Sound allCategories (tables (c .before .before))
 many c = sound-e _ (sure (c .before .before))
 
 zero : (c : At tie.Then3) → 0 ≡ number (ruleOf (asked (c .before .before))) (tables (c .before .before)) (asked (c .before .before))

@@ -7,8 +7,8 @@ use borrow.Author.Tests.{not-true, not-false}
 use Rattle.bitset.specs.Tests.{either}
 use Rattle.guard.specs.Conditions.{userTooLow, createOutOfLevel, grantBelow, cannotOpen, cannotChangeIn, notOpen}
 use Rattle.guard.specs.Requests.{rules, login, logout, take, drop, openr, openw, close, create, delete, rename, grant, revoke, list, unlist, make, unmake}
-use Rattle.guard.specs.Step.{inRanges}
 use Rattle.guard.specs.Private.Inside.{asksWay, asksName, asksRights}
+use Rattle.guard.specs.Private.InForce.{inRanges}
 use Rattle.guard.proofs.Laws.Refusals.{alike-first}
 use Rattle.guard.proofs.Ranges.{in-login, in-logout, in-take, in-drop, in-openr, in-openw, in-close, in-create, in-delete, in-rename, in-grant, in-revoke, in-list, in-unlist, in-make, in-unmake}
 use Rattle.guard.proofs.Answers.{out-of-range, by-rule, none-of-sixteen}

@@ -6,12 +6,12 @@ use Rattle.guard.specs.Label.{dominates}
 use Rattle.guard.proofs.labels.dominates.Statement.{statement}
 use Rattle.guard.proofs.labels.dominates.Tie as tie
 
-contains8-requires : tie.Need-contains8-requires
-contains8-requires c κs = search needs
+contains16-requires : tie.Need-contains16-requires
+contains16-requires c κs = search needs
 
 returns : tie.Need-returns
 unfolding dominates every
-returns c = rw (c .contains8 .ensures, and-true)
+returns c = rw (c .contains16 .ensures, and-true)
 
 pub dominates-spec : {M : Type 1} → statement M
-dominates-spec = tie.close (tie.spec contains8-requires returns)
+dominates-spec = tie.close (tie.spec contains16-requires returns)

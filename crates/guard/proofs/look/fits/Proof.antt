@@ -3,30 +3,30 @@ use mathlib.Core.Path.{sym, _∙_}
 use mathlib.Core.Bool.{and-true}
 use native.Mathlib.Omega.{arith}
 use Rattle.bitset.specs.Tests.{every}
-use Rattle.guard.specs.Label.{labelInRange}
-use Rattle.guard.specs.Requests.{fieldInRange, rules, login, logout, create, delete, rename}
+use Rattle.guard.specs.Label.{labelInRangeIn}
+use Rattle.guard.specs.Requests.{fieldInRangeIn, rules, login, logout, create, delete, rename}
 use Rattle.guard.proofs.Ranges.{past-nine, ranges-at, fits-take, fits-open, fits-grant, fits-list, fits-make, fits-none}
 use Rattle.guard.proofs.look.fits.Statement.{statement}
 use Rattle.guard.proofs.look.fits.Tie as tie
 
 returns : tie.Need-returns
-unfolding rules login fieldInRange labelInRange every
+unfolding rules login fieldInRangeIn labelInRangeIn every
 returns c = sym (ranges-at _ 0 (c .match .keys1) ∙ simp and-true)
 
 returns-2 : tie.Need-returns-2
-unfolding rules logout fieldInRange labelInRange every
+unfolding rules logout fieldInRangeIn labelInRangeIn every
 returns-2 c = sym (ranges-at _ 1 (c .match .keys2) ∙ simp and-true)
 
 returns-3 : tie.Need-returns-3
-unfolding rules create fieldInRange labelInRange every
+unfolding rules create fieldInRangeIn labelInRangeIn every
 returns-3 c = sym (ranges-at _ 7 (c .before .before .match .keys3) ∙ simp and-true)
 
 returns-4 : tie.Need-returns-4
-unfolding rules delete fieldInRange labelInRange every
+unfolding rules delete fieldInRangeIn labelInRangeIn every
 returns-4 c = sym (ranges-at _ 8 (c .match .keys4) ∙ simp and-true)
 
 returns-5 : tie.Need-returns-5
-unfolding rules rename fieldInRange labelInRange every
+unfolding rules rename fieldInRangeIn labelInRangeIn every
 returns-5 c = sym (ranges-at _ 9 (c .match .keys5) ∙ simp and-true)
 
 returns-6 : tie.Need-returns-6

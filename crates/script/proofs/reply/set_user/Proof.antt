@@ -22,8 +22,8 @@ cast-t20 c = let i = ins c in omega arith
 cast-t21 : tie.Need-cast-t21
 cast-t21 c = let i = ins c in omega arith
 
-cast-t20-2 : tie.Need-cast-t20-2
-cast-t20-2 c = let i = ins c in omega arith
+cast-t21-2 : tie.Need-cast-t21-2
+cast-t21-2 c = let i = ins c in omega arith
 
 mul-set : tie.Need-mul-set
 mul-set c = search needs
@@ -43,7 +43,7 @@ set-user-spec =
     returns-2
     cast-t20
     cast-t21
-    cast-t20-2
+    cast-t21-2
     mul-set
     element-set-from-set
     returns-3)

@@ -49,16 +49,16 @@ returns c =
     let d = c .before .before in
     sym (d .before .loop .inv .1 ∙ members-miss _ _ _ (low d .0) (low d .1) (is-false _ (λ h. clash _ (every-at _ h 0) (lt-leb _ _ (c .if1 .taken)))))
 
-cast-minus8 : tie.Need-cast-minus8 Inv-loop μ-loop
-cast-minus8 c = omega arith
+cast-minus16 : tie.Need-cast-minus16 Inv-loop μ-loop
+cast-minus16 c = omega arith
 
-minus8-requires : tie.Need-minus8-requires Inv-loop μ-loop
-minus8-requires c κs = tt
+minus16-requires : tie.Need-minus16-requires Inv-loop μ-loop
+minus16-requires c κs = tt
 
 returns-2 : tie.Need-returns-2 Inv-loop μ-loop
 returns-2 c =
     let d = c .before .before .before .before in
-    sym (d .before .loop .inv .1 ∙ members-miss _ _ _ (low d .0) (low d .1) (is-false _ (λ h. clash _ (every-at _ h 1) (left-some _ _ _ (c .before .minus8 .ensures) (c .if2 .taken)))))
+    sym (d .before .loop .inv .1 ∙ members-miss _ _ _ (low d .0) (low d .1) (is-false _ (λ h. clash _ (every-at _ h 1) (left-some _ _ _ (c .before .minus16 .ensures) (c .if2 .taken)))))
 
 without64-requires : tie.Need-without64-requires Inv-loop μ-loop
 without64-requires c κs = tt
@@ -72,7 +72,7 @@ loop-again c =
     let b = l .inv in
     rw (c .without64 .ensures) (
       omega (arith, without-le (l .m) (trailingZeros 64 (l .m)), b .0),
-      b .1 ∙ members-next _ _ _ (every-i _ (le-leb _ _ (c .before .before .before .if1 .left), (left-none _ _ _ (c .before .before .minus8 .ensures) (c .before .if2 .left), tt))),
+      b .1 ∙ members-next _ _ _ (every-i _ (le-leb _ _ (c .before .before .before .if1 .left), (left-none _ _ _ (c .before .before .minus16 .ensures) (c .before .if2 .left), tt))),
     )
 
 returns-3 : tie.Need-returns-3 Inv-loop μ-loop
@@ -92,8 +92,8 @@ dominates-each-spec =
     mul-l
     element-copy-out-l
     returns
-    cast-minus8
-    minus8-requires
+    cast-minus16
+    minus16-requires
     returns-2
     without64-requires
     loop-less

@@ -4,7 +4,7 @@ use native.Mathlib.Omega.{arith}
 use mathlib.Core.Bool.{and-true}
 use borrow.Author.Tests.{le-leb}
 use Rattle.bitset.specs.Tests.{every}
-use Rattle.guard.specs.Sound.{entityInRange}
+use Rattle.guard.specs.Sound.{entityInRangeIn}
 use Rattle.guard.proofs.sound.record.entity_in_range.Statement.{statement}
 use Rattle.guard.proofs.sound.record.entity_in_range.Tie as tie
 
@@ -12,7 +12,7 @@ in-range-requires : tie.Need-in-range-requires
 in-range-requires c κs = search needs
 
 returns : tie.Need-returns
-unfolding entityInRange every
+unfolding entityInRangeIn every
 returns c = simp (c .in-range .ensures, le-leb (c .before .before .before .args .n .name) 65535 (omega arith), and-true)
 
 pub entity-in-range-spec : {M : Type 1} → statement M

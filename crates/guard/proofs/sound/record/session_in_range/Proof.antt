@@ -4,7 +4,7 @@ use native.Mathlib.Omega.{arith}
 use mathlib.Core.Bool.{and-true}
 use borrow.Author.Tests.{lt-ltb}
 use Rattle.bitset.specs.Tests.{every}
-use Rattle.guard.specs.Sound.{sessionInRange}
+use Rattle.guard.specs.Sound.{sessionInRangeIn}
 use Rattle.guard.proofs.sound.record.session_in_range.Statement.{statement}
 use Rattle.guard.proofs.sound.record.session_in_range.Tie as tie
 
@@ -12,7 +12,7 @@ in-range-requires : tie.Need-in-range-requires
 in-range-requires c κs = search needs
 
 returns : tie.Need-returns
-unfolding sessionInRange every
+unfolding sessionInRangeIn every
 returns c =
     let s = c .before .before .args .s in
     simp (c .in-range .ensures, lt-ltb (s .roles) 65536 (omega arith), lt-ltb (s .reading) 18446744073709551616 (omega arith), lt-ltb (s .writing) 18446744073709551616 (omega arith), and-true)

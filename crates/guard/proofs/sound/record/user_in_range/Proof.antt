@@ -2,7 +2,7 @@
 use borrow.Author.Needs.{needs}
 use mathlib.Core.Bool.{and-true}
 use Rattle.bitset.specs.Tests.{every}
-use Rattle.guard.specs.Sound.{userInRange}
+use Rattle.guard.specs.Sound.{userInRangeIn}
 use Rattle.guard.proofs.sound.record.user_in_range.Statement.{statement}
 use Rattle.guard.proofs.sound.record.user_in_range.Tie as tie
 
@@ -10,7 +10,7 @@ in-range-requires : tie.Need-in-range-requires
 in-range-requires c κs = search needs
 
 returns : tie.Need-returns
-unfolding userInRange every
+unfolding userInRangeIn every
 returns c = simp (c .in-range .ensures, and-true)
 
 pub user-in-range-spec : {M : Type 1} → statement M

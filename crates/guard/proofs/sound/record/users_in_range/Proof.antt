@@ -8,7 +8,7 @@ use lib.ListN.{getD}
 use Rattle.bitset.specs.Tests.{all}
 use Rattle.bitset.specs.Tests.Laws.{all-none}
 use Rattle.guard.specs.Tables.{noUser}
-use Rattle.guard.specs.Sound.{userInRange}
+use Rattle.guard.specs.Private.InForce.{userInRange}
 use Rattle.guard.proofs.Soundness.Loops.{all-miss, all-next, all-done}
 use Rattle.guard.proofs.sound.record.users_in_range.Statement.{statement}
 use Rattle.guard.proofs.sound.record.users_in_range.Tie as tie

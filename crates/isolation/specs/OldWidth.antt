@@ -1,0 +1,35 @@
+-- Taking over tables of the old width: change A.1's promise, as one statement on all logs.
+-- "The same rules" are the rules in force, in the old width: soundIn, answersIn, runIn (guard/specs: Sound, Step) at oldWidth. They
+-- speak of numbers, and the numbers of old tables o are those of takenOver o (guard/specs/Old). PastOldWidth shows that the premise
+-- on the log matters. Assumes nothing.
+use mathlib.Core.Path.{_≡_}
+use mathlib.Core.Bool.{true}
+use mathlib.Core.List.{List, map}
+use Rattle.bitset.specs.Tests.{every}
+use Rattle.guard.specs.Label.{oldWidth}
+use Rattle.guard.specs.Sound.{soundIn, sound}
+use Rattle.guard.specs.Step.{answersIn, runIn, answers, run}
+use Rattle.guard.specs.Old.{takenOver}
+use Rattle.guard.specs.declared.Request.{Request}
+use Rattle.guard.specs.declared.old.OldTables.{OldTables}
+use Rattle.isolation.specs.Within.{categoriesWithin, Fits}
+use Rattle.isolation.specs.Proof.OldWidth.{same-log, same-sound}
+
+pub old-width :
+    -- From sound old tables taken over (sound in the old width),
+    (o : OldTables) → soundIn oldWidth (takenOver o) ≡ true
+    -- every log, of any length, refused requests included, whose category numbers stay within 255
+    → (log : List Request) → every (map (categoriesWithin oldWidth) log) ≡ true
+    -- gets, request by request, the answers that the same rules give in the old width,
+    → (answers (takenOver o) log ≡ answersIn oldWidth (takenOver o) log)
+    -- and the tables after it are the old ones' taken over: of tables that the same rules leave in the old width, sound there too.
+    × ((after : OldTables)
+    × (takenOver after ≡ runIn oldWidth (takenOver o) log)
+    × (soundIn oldWidth (takenOver after) ≡ true)
+    × (run (takenOver o) log ≡ takenOver after))
+old-width o = same-log (takenOver o)
+
+-- Old tables, whose sets of categories have eight bits and so are within 255, are sound in the old width exactly if they are sound
+-- taken over.
+pub sound-both : (o : OldTables) → Fits oldWidth (takenOver o) → soundIn oldWidth (takenOver o) ≡ sound (takenOver o)
+sound-both o = same-sound (takenOver o)

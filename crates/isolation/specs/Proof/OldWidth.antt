@@ -1,0 +1,221 @@
+-- Tables whose sets of categories are within two widths are sound in both or in neither, and a log whose category numbers are
+-- within the old width makes the same of them in it and in force.
+--     fits-sound, sound-fits        sound tables, and the sets of categories in them
+--     same-sound                    sound in the old width or in force
+--     same-ranges, same-answer, same-next      one request
+--     givenBack, taken-given        tables as old ones, every number the same
+--     same-log                      a log
+-- Assumes nothing.
+use Prim.Native.Nat.{ℕ, _≤_, _<_}
+use mathlib.Core.Path.{_≡_, refl, sym, ap, ap₂, _∙_}
+use mathlib.Core.Bool.{true, _&&_}
+use mathlib.Core.List.{List, [], _∷_, map}
+use native.Mathlib.Omega.{arith}
+use borrow.Author.Tests.{leb-true, le-leb}
+use Rattle.bitset.specs.Tests.{every}
+use Rattle.bitset.specs.Tests.Laws.{both, every-i, every-e, every-at, all-i, all-e}
+use Rattle.guard.specs.Label.{allCategories, oldWidth, labelInRangeIn}
+use Rattle.guard.specs.Tables.{sessionAt, entityAt}
+use Rattle.guard.specs.Sound.{userInRangeIn, entityInRangeIn, usersInRangeIn, soundIn, sound}
+use Rattle.guard.specs.Requests.{Field, call, seat, user, role, entity, parent, kind, name, label, rights, fieldInRangeIn, ruleOf}
+use Rattle.guard.specs.Step.{inRangesIn, answerIn, nextIn, answersIn, runIn, answer, next, answers, run}
+use Rattle.guard.specs.Old.{userTaken, sessionTaken, entityTaken, takenOver}
+use Rattle.guard.specs.Private.InForce.{fieldInRange, inRanges}
+use Rattle.guard.specs.declared.Label.{Label}
+use Rattle.guard.specs.declared.User.{User}
+use Rattle.guard.specs.declared.Session.{Session}
+use Rattle.guard.specs.declared.Entity.{Entity}
+use Rattle.guard.specs.declared.Tables.{Tables}
+use Rattle.guard.specs.declared.Request.{Request}
+use Rattle.guard.specs.declared.old.OldLabel.{OldLabel}
+use Rattle.guard.specs.declared.old.OldUser.{OldUser}
+use Rattle.guard.specs.declared.old.OldSession.{OldSession}
+use Rattle.guard.specs.declared.old.OldEntity.{OldEntity}
+use Rattle.guard.specs.declared.old.OldTables.{OldTables}
+use Rattle.guard.proofs.Laws.Sound.Facts.{Sound, SessionOk, EntityOk}
+use Rattle.guard.proofs.Laws.Sound.{sound-e, sound-i}
+use Rattle.guard.proofs.Kept.{sound-nextIn}
+use Rattle.isolation.specs.Within.{fieldWithin, categoriesWithin, Fits}
+
+-- ---- a label
+cats-within : (width : ℕ) (a : Label) → labelInRangeIn width a ≡ true → a .cats ≤ width
+unfolding labelInRangeIn
+cats-within width a h = leb-true _ _ (every-at _ h 1)
+
+label-within : (v w : ℕ) (a : Label) → labelInRangeIn v a ≡ true → a .cats ≤ w → labelInRangeIn w a ≡ true
+unfolding labelInRangeIn
+label-within v w a h l = every-i _ (every-at _ h 0, (le-leb _ _ l, tt))
+
+-- ---- the tables
+sound-fits : (width : ℕ) (t : Tables) → soundIn width t ≡ true → Fits width t
+unfolding usersInRangeIn userInRangeIn entityInRangeIn
+sound-fits width t h =
+    let ok = sound-e t h in
+    record {
+      users = λ u l. cats-within width _ (every-at _ (all-e 16 _ (every-at _ (ok .users) 1) u l) 1);
+      sessions = λ s l. cats-within width _ (ok .session s l .label);
+      entities = λ e l. cats-within width _ (every-at _ (ok .entity e l .range) 3);
+    }
+
+fits-sound : (v w : ℕ) (t : Tables) → soundIn v t ≡ true → Fits w t → soundIn w t ≡ true
+unfolding usersInRangeIn userInRangeIn entityInRangeIn
+fits-sound v w t h fits =
+    sound-i t
+    (record {
+      users = users;
+      manySessions = ok .manySessions;
+      manyRoles = ok .manyRoles;
+      manyEntities = ok .manyEntities;
+      session = session;
+      role = ok .role;
+      entity = entity;
+    })
+  where
+    ok : Sound v t
+    ok = sound-e t h
+
+    users : usersInRangeIn w (t .users) ≡ true
+    users =
+        let old = ok .users in
+        every-i _ (
+          every-at _ old 0,
+          (
+            all-i 16 _ (λ u l.
+                let one = all-e 16 _ (every-at _ old 1) u l in
+                every-i _ (every-at _ one 0, (label-within v w _ (every-at _ one 1) (fits .users u l), tt))),
+            tt,
+          ),
+        )
+
+    session : (s : ℕ) → s < 16 → SessionOk w (t .roles) (t .entities) s (sessionAt t s)
+    session s l =
+        let old = ok .session s l in
+        record {
+          user = old .user;
+          label = label-within v w _ (old .label) (fits .sessions s l);
+          empty = old .empty;
+          held = old .held;
+          reading = old .reading;
+          writing = old .writing;
+        }
+
+    range : (e : ℕ) → e < 64 → entityInRangeIn w (entityAt t e) ≡ true
+    range e l =
+        let old = every-at _ (ok .entity e l .range) in
+        every-i _ (old 0, (old 1, (old 2, (label-within v w _ (old 3) (fits .entities e l), tt))))
+
+    entity : (e : ℕ) → e < 64 → EntityOk w (t .entities) e (entityAt t e)
+    entity e l =
+        let old = ok .entity e l in
+        record { range = range e l; root = old .root; placed = old .placed; empty = old .empty }
+
+more-fits : (v w : ℕ) (t : Tables) → v ≤ w → Fits v t → Fits w t
+more-fits v w t h fits =
+    record {
+      users = λ u l. omega (arith, fits .users u l);
+      sessions = λ s l. omega (arith, fits .sessions s l);
+      entities = λ e l. omega (arith, fits .entities e l);
+    }
+
+sound-in-force : (t : Tables) → soundIn oldWidth t ≡ true → sound t ≡ true
+sound-in-force t h = fits-sound oldWidth allCategories t h (more-fits oldWidth allCategories t (omega arith) (sound-fits oldWidth t h))
+
+pub same-sound : (t : Tables) → Fits oldWidth t → soundIn oldWidth t ≡ sound t
+same-sound t fits = both _ _ (sound-in-force t) (λ h. fits-sound allCategories oldWidth t h fits)
+
+-- ---- one request
+same-field : (q : Request) (f : Field) → fieldWithin oldWidth q f ≡ true → fieldInRangeIn oldWidth q f ≡ fieldInRange q f
+unfolding fieldWithin fieldInRangeIn labelInRangeIn
+same-field q call h = refl
+same-field q seat h = refl
+same-field q user h = refl
+same-field q role h = refl
+same-field q entity h = refl
+same-field q parent h = refl
+same-field q kind h = refl
+same-field q name h = refl
+same-field q label h =
+    let l = leb-true (q .cats) oldWidth h in
+    let now = le-leb (q .cats) allCategories (omega arith) in
+    rw (h, now)
+same-field q rights h = refl
+
+same-fields : (q : Request) (fs : List Field) → every (map (fieldWithin oldWidth q) fs) ≡ true
+    → every (map (fieldInRangeIn oldWidth q) fs) ≡ every (map (fieldInRange q) fs)
+unfolding every
+same-fields q [] h = refl
+same-fields q (f ∷ fs) h =
+    let (here, more) = every-e (fieldWithin oldWidth q f ∷ map (fieldWithin oldWidth q) fs) h in
+    ap₂ _&&_ (same-field q f here) (same-fields q fs (every-i (map (fieldWithin oldWidth q) fs) more))
+
+module _ (t : Tables) (ok : soundIn oldWidth t ≡ true) (q : Request) (within : categoriesWithin oldWidth q ≡ true) where
+  same-ranges : inRangesIn oldWidth q ≡ inRanges q
+  unfolding inRangesIn categoriesWithin
+  same-ranges = same-fields q (ruleOf q .uses) within
+
+  same-answer : answerIn oldWidth t q ≡ answer t q
+  unfolding answerIn
+  same-answer = rw (ok, sound-in-force t ok, same-ranges)
+
+  same-next : nextIn oldWidth t q ≡ next t q
+  unfolding nextIn
+  same-next = rw same-answer
+
+-- ---- tables as old ones, every number the same
+abbrev labelGiven : Label → OldLabel
+labelGiven a = record { cats = a .cats; grade = a .grade }
+
+abbrev userGiven : User → OldUser
+userGiven u = record { ceiling = u .ceiling; clearance = labelGiven (u .clearance) }
+
+abbrev sessionGiven : Session → OldSession
+sessionGiven s =
+    record { live = s .live; user = s .user; label = labelGiven (s .label); roles = s .roles; reading = s .reading; writing = s .writing }
+
+abbrev entityGiven : Entity → OldEntity
+entityGiven e = record { live = e .live; kind = e .kind; parent = e .parent; name = e .name; label = labelGiven (e .label) }
+
+unfoldable pub givenBack : Tables → OldTables
+givenBack t =
+    record {
+      users = map userGiven (t .users);
+      sessions = map sessionGiven (t .sessions);
+      roles = t .roles;
+      entities = map entityGiven (t .entities);
+    }
+
+there-and-back : {A B : Type 0} (f : B → A) (g : A → B) → ((a : A) → f (g a) ≡ a) → (l : List A) → map f (map g l) ≡ l
+there-and-back f g same [] = refl
+there-and-back f g same (a ∷ l) = ap₂ _∷_ (same a) (there-and-back f g same l)
+
+pub taken-given : (t : Tables) → takenOver (givenBack t) ≡ t
+unfolding takenOver givenBack
+taken-given t =
+    rw (
+      there-and-back userTaken userGiven (λ u. refl) (t .users),
+      there-and-back sessionTaken sessionGiven (λ x. refl) (t .sessions),
+      there-and-back entityTaken entityGiven (λ n. refl) (t .entities),
+    )
+
+-- ---- a log
+same-run : (t : Tables) → soundIn oldWidth t ≡ true → (log : List Request) → every (map (categoriesWithin oldWidth) log) ≡ true
+    → (answers t log ≡ answersIn oldWidth t log) × (run t log ≡ runIn oldWidth t log) × (soundIn oldWidth (runIn oldWidth t log) ≡ true)
+unfolding answersIn runIn
+same-run t ok [] within = (refl, refl, ok)
+same-run t ok (q ∷ log) within =
+    let (here, more) = every-e (categoriesWithin oldWidth q ∷ map (categoriesWithin oldWidth) log) within in
+    let (told, left, sound) = same-run (nextIn oldWidth t q) (sound-nextIn oldWidth t q ok) log (every-i _ more) in
+    let next-is = same-next t ok q here in
+    let answer-is = same-answer t ok q here in
+    (rw (sym answer-is, sym next-is) (ap (λ (l : List ℕ). answerIn oldWidth t q ∷ l) told), rw (sym next-is) left, sound)
+
+pub same-log : (t : Tables) → soundIn oldWidth t ≡ true → (log : List Request) → every (map (categoriesWithin oldWidth) log) ≡ true
+    → (answers t log ≡ answersIn oldWidth t log)
+    × ((after : OldTables)
+    × (takenOver after ≡ runIn oldWidth t log)
+    × (soundIn oldWidth (takenOver after) ≡ true)
+    × (run t log ≡ takenOver after))
+same-log t ok log within =
+    let (told, left, sound) = same-run t ok log within in
+    let back = taken-given (runIn oldWidth t log) in
+    (told, (givenBack (runIn oldWidth t log), back, rw back sound, left ∙ sym back))
