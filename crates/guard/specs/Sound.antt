@@ -174,7 +174,7 @@ soundIn width t =
     ∷ writingWithin t
     ∷ [])
 
--- ---- in force
+-- ---- the rules in force: the width is `allCategories`
 abbrev pub usersInRange : List User → Bool
 usersInRange = usersInRangeIn allCategories
 

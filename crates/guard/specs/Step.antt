@@ -34,7 +34,7 @@ unfoldable pub answersIn : ℕ → Tables → List Request → List ℕ
 answersIn width t [] = []
 answersIn width t (q ∷ log) = answerIn width t q ∷ answersIn width (nextIn width t q) log
 
--- ---- in force
+-- ---- the rules in force: the width is `allCategories`
 abbrev pub answer : Tables → Request → ℕ
 answer = answerIn allCategories
 
