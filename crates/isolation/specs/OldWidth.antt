@@ -10,10 +10,11 @@ use Rattle.guard.specs.Label.{oldWidth}
 use Rattle.guard.specs.Sound.{soundIn, sound}
 use Rattle.guard.specs.Step.{answersIn, runIn, answers, run}
 use Rattle.guard.specs.Old.{takenOver}
+use Rattle.guard.specs.declared.Tables.{Tables}
 use Rattle.guard.specs.declared.Request.{Request}
 use Rattle.guard.specs.declared.old.OldTables.{OldTables}
 use Rattle.isolation.specs.Within.{categoriesWithin, Fits}
-use Rattle.isolation.specs.Proof.OldWidth.{same-log, same-sound}
+use Rattle.isolation.specs.Proof.OldWidth.{same-log, same-sound, old-ones}
 
 pub old-width :
     -- From sound old tables taken over (sound in the old width),
@@ -22,12 +23,16 @@ pub old-width :
     → (log : List Request) → every (map (categoriesWithin oldWidth) log) ≡ true
     -- gets, request by request, the answers that the same rules give in the old width,
     → (answers (takenOver o) log ≡ answersIn oldWidth (takenOver o) log)
-    -- and the tables after it are the old ones' taken over: of tables that the same rules leave in the old width, sound there too.
-    × ((after : OldTables)
-    × (takenOver after ≡ runIn oldWidth (takenOver o) log)
-    × (soundIn oldWidth (takenOver after) ≡ true)
-    × (run (takenOver o) log ≡ takenOver after))
+    -- and the tables after it are those that the same rules leave in the old width, every number the same,
+    × (run (takenOver o) log ≡ runIn oldWidth (takenOver o) log)
+    -- and sound there.
+    × (soundIn oldWidth (run (takenOver o) log) ≡ true)
 old-width o = same-log (takenOver o)
+
+-- So they are old ones taken over: tables that are sound in the old width are those of old tables with sets within 255, which eight
+-- bits hold.
+pub old-again : (t : Tables) → soundIn oldWidth t ≡ true → (old : OldTables) × (takenOver old ≡ t) × Fits oldWidth (takenOver old)
+old-again = old-ones
 
 -- Old tables, whose sets of categories have eight bits and so are within 255, are sound in the old width exactly if they are sound
 -- taken over.

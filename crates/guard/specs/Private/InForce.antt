@@ -1,4 +1,4 @@
--- The ranges in force: those of the widest labels.
+-- The ranges in force: the width is `allCategories`.
 use mathlib.Core.Bool.{Bool}
 use Rattle.guard.specs.Label.{allCategories}
 use Rattle.guard.specs.Sound.{userInRangeIn, sessionInRangeIn, entityInRangeIn, fieldsInRangeIn}

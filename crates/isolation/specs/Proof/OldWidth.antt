@@ -3,11 +3,11 @@
 --     fits-sound, sound-fits        sound tables, and the sets of categories in them
 --     same-sound                    sound in the old width or in force
 --     same-ranges, same-answer, same-next      one request
---     givenBack, taken-given        tables as old ones, every number the same
 --     same-log                      a log
+--     givenBack, old-ones           tables as old ones, every number the same
 -- Assumes nothing.
 use Prim.Native.Nat.{ℕ, _≤_, _<_}
-use mathlib.Core.Path.{_≡_, refl, sym, ap, ap₂, _∙_}
+use mathlib.Core.Path.{_≡_, refl, sym, ap, ap₂}
 use mathlib.Core.Bool.{true, _&&_}
 use mathlib.Core.List.{List, [], _∷_, map}
 use native.Mathlib.Omega.{arith}
@@ -161,6 +161,18 @@ module _ (t : Tables) (ok : soundIn oldWidth t ≡ true) (q : Request) (within :
   unfolding nextIn
   same-next = rw same-answer
 
+-- ---- a log
+pub same-log : (t : Tables) → soundIn oldWidth t ≡ true → (log : List Request) → every (map (categoriesWithin oldWidth) log) ≡ true
+    → (answers t log ≡ answersIn oldWidth t log) × (run t log ≡ runIn oldWidth t log) × (soundIn oldWidth (run t log) ≡ true)
+unfolding answersIn runIn
+same-log t ok [] within = (refl, refl, ok)
+same-log t ok (q ∷ log) within =
+    let (here, more) = every-e (categoriesWithin oldWidth q ∷ map (categoriesWithin oldWidth) log) within in
+    let (told, left, sound) = same-log (nextIn oldWidth t q) (sound-nextIn oldWidth t q ok) log (every-i _ more) in
+    let next-is = same-next t ok q here in
+    let answer-is = same-answer t ok q here in
+    (rw (sym answer-is, sym next-is) (ap (λ (l : List ℕ). answerIn oldWidth t q ∷ l) told), rw (sym next-is) left, rw (sym next-is) sound)
+
 -- ---- tables as old ones, every number the same
 abbrev labelGiven : Label → OldLabel
 labelGiven a = record { cats = a .cats; grade = a .grade }
@@ -188,7 +200,7 @@ there-and-back : {A B : Type 0} (f : B → A) (g : A → B) → ((a : A) → f (
 there-and-back f g same [] = refl
 there-and-back f g same (a ∷ l) = ap₂ _∷_ (same a) (there-and-back f g same l)
 
-pub taken-given : (t : Tables) → takenOver (givenBack t) ≡ t
+taken-given : (t : Tables) → takenOver (givenBack t) ≡ t
 unfolding takenOver givenBack
 taken-given t =
     rw (
@@ -197,25 +209,5 @@ taken-given t =
       there-and-back entityTaken entityGiven (λ n. refl) (t .entities),
     )
 
--- ---- a log
-same-run : (t : Tables) → soundIn oldWidth t ≡ true → (log : List Request) → every (map (categoriesWithin oldWidth) log) ≡ true
-    → (answers t log ≡ answersIn oldWidth t log) × (run t log ≡ runIn oldWidth t log) × (soundIn oldWidth (runIn oldWidth t log) ≡ true)
-unfolding answersIn runIn
-same-run t ok [] within = (refl, refl, ok)
-same-run t ok (q ∷ log) within =
-    let (here, more) = every-e (categoriesWithin oldWidth q ∷ map (categoriesWithin oldWidth) log) within in
-    let (told, left, sound) = same-run (nextIn oldWidth t q) (sound-nextIn oldWidth t q ok) log (every-i _ more) in
-    let next-is = same-next t ok q here in
-    let answer-is = same-answer t ok q here in
-    (rw (sym answer-is, sym next-is) (ap (λ (l : List ℕ). answerIn oldWidth t q ∷ l) told), rw (sym next-is) left, sound)
-
-pub same-log : (t : Tables) → soundIn oldWidth t ≡ true → (log : List Request) → every (map (categoriesWithin oldWidth) log) ≡ true
-    → (answers t log ≡ answersIn oldWidth t log)
-    × ((after : OldTables)
-    × (takenOver after ≡ runIn oldWidth t log)
-    × (soundIn oldWidth (takenOver after) ≡ true)
-    × (run t log ≡ takenOver after))
-same-log t ok log within =
-    let (told, left, sound) = same-run t ok log within in
-    let back = taken-given (runIn oldWidth t log) in
-    (told, (givenBack (runIn oldWidth t log), back, rw back sound, left ∙ sym back))
+pub old-ones : (t : Tables) → soundIn oldWidth t ≡ true → (old : OldTables) × (takenOver old ≡ t) × Fits oldWidth (takenOver old)
+old-ones t ok = let same = taken-given t in (givenBack t, same, rw same (sound-fits oldWidth t ok))
