@@ -11,7 +11,7 @@ use Rattle.guard.specs.declared.Label.{Label}
 abbrev pub topGrade : ℕ
 topGrade = 3
 
--- Categories are a set of sixteen, 0 to 65,535, in users, seats and entities: the largest set.
+-- Categories are a set of sixteen, 0 to 65,535, in users, seats and entities. This is the largest set.
 abbrev pub allCategories : ℕ
 allCategories = 65535
 

@@ -1,5 +1,6 @@
--- Document 01 as definitions, in the paper's order, with the changes of document 02 made in it. Each definition's comment is the
--- paper's sentence. Laws stand in proofs/Laws; Private holds words of private functions' contracts, which a buyer need not read.
+-- Document 01 as definitions, in the paper's order, with the changes of document 02 that have landed made in it. Each definition's
+-- comment is the paper's sentence. Laws stand in proofs/Laws; Private holds words of private functions' contracts, which a buyer
+-- need not read.
 pub mod Level
 pub mod Label
 pub mod Tables

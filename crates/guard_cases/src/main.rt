@@ -1,6 +1,6 @@
-// The cases of document 01, run on the compiled guard. The files of data/ that the file `list` names hold them, one statement
+// The cases of the papers, run on the compiled guard. The files of data/ that the file `list` names hold them, one statement
 // to a line: words and numbers, one space apart, and behind `| ` the name that is printed before what the statement tells.
-// The file stdout holds what document 01 says of each, and a check compares the two.
+// The file stdout holds what the papers say of each, and a check compares the two.
 //
 //   # ..                        a comment
 //   clear                       fresh tables over sixteen users of 0; no request is gathered

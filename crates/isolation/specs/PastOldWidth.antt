@@ -1,4 +1,5 @@
--- Where category numbers go past 255 the two widths answer differently, so that the premise of OldWidth matters; by computing.
+-- Where a category number goes past 255 the two widths can answer differently, so that the premise of OldWidth matters; by
+-- computing.
 --     old-tables-sound      old tables that are sound: fresh ones, over the users of one morning
 --     unused-past           a number past 255 in a field that a request does not use leaves a log within 255
 --     past-differs          a login under category 8 alone: out of range in the old width, in force not dominated by the clearance

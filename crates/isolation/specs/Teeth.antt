@@ -13,7 +13,7 @@ use lib.Dec.{eqb, lit≤}
 use lib.ListN.{getD}
 use Rattle.bitset.specs.Tests.{every}
 use Rattle.bitset.specs.Sets.{has, from}
-use Rattle.guard.specs.Label.{noLabel}
+use Rattle.guard.specs.Label.{allCategories, noLabel}
 use Rattle.guard.specs.Tables.{noSession, noRole, noEntity, execute, hasRight}
 use Rattle.guard.specs.Sound.{sound}
 use Rattle.guard.specs.Fresh.{fresh}
@@ -21,10 +21,9 @@ use Rattle.guard.proofs.Laws.Morning.{morningUsers}
 use Rattle.guard.specs.Edits.{atSession, atEntity}
 use Rattle.guard.specs.Refusals.{Refusal, _when_, first}
 use Rattle.guard.specs.Conditions.{recordedParent}
-use Rattle.guard.specs.Requests.{Rule, ruleOf}
+use Rattle.guard.specs.Requests.{Rule, fieldInRangeIn, ruleOf}
 use Rattle.guard.specs.Step.{inRangesIn, answerIn, nextIn, answers, run, runIn}
 use Rattle.guard.specs.SameRequest.{sameField, sameRequest}
-use Rattle.guard.specs.Private.InForce.{fieldInRange}
 use Rattle.isolation.specs.Upper.{upperSession, upperRole, upper, isUpper, fieldUpper, namesUpper, upperRequests}
 use Rattle.guard.specs.declared.Tables.{Tables}
 use Rattle.guard.specs.declared.Request.{Request}
@@ -109,7 +108,7 @@ named-lower = (refl, refl, refl, refl)
 -- ---- the step by other rules, and the isolation rule for it
 module _ (rule : Request → Rule) where
   unfoldable pub answerBy : Tables → Request → ℕ
-  answerBy t q = first (1 when not (sound t) ∷ 2 when not (every (map (fieldInRange q) (rule q .uses))) ∷ rule q .refusals t q)
+  answerBy t q = first (1 when not (sound t) ∷ 2 when not (every (map (fieldInRangeIn allCategories q) (rule q .uses))) ∷ rule q .refusals t q)
 
   unfoldable pub nextBy : Tables → Request → Tables
   nextBy t q = cond (eqb (answerBy t q) 0) (rule q .effect q t) t

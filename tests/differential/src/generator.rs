@@ -496,8 +496,8 @@ impl Writer {
     }
 }
 
-/// The labels of a file. Their sets lie in the lower half of the categories, in the upper half or in both; every other
-/// label is as one before it but for the upper half, so that often this half alone decides.
+/// The labels of a file. Their sets lie in the lower half of the categories, in the upper half or in both; about
+/// half of the labels are as one before them but for the upper half, so that often this half alone decides.
 fn some_labels(random: &mut Random) -> Vec<Label> {
     let halves = [0, 1, 2, 3, 4, 5, 6, 7, 8, 128, 129, 254, 255];
     let mut labels = vec![Label::default()];

@@ -1,5 +1,5 @@
--- Tables whose sets of categories are within two widths are sound in both or in neither, and a log whose category numbers are
--- within the old width makes the same of them in it and in force.
+-- Tables whose sets of categories are within two widths are sound in both or in neither; and on tables that are sound in the old
+-- width, a log whose category numbers are within it gets the same answers and leaves the same tables there and in force.
 --     fits-sound, sound-fits        sound tables, and the sets of categories in them
 --     same-sound                    sound in the old width or in force
 --     same-ranges, same-answer, same-next      one request
