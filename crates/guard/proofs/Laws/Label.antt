@@ -3,7 +3,8 @@
 --     dominates-iff                  dominance, member by member: A's grade is at least B's, and each category of B is one of A
 --     dominates-refl, -trans, -antisym   dominance is an order
 --     same-label                     the test of equality is equality
---     none-in-range                  label 0/0 is in range, in any width
+--     grade-in, cats-in, in-range    a label in range, in any width
+--     none-in-range                  label 0/0 is
 -- Assumes nothing.
 use Prim.Native.Nat.{ℕ, _≤_}
 use mathlib.Core.Path.{_≡_, refl, ap, ap₂}
@@ -70,7 +71,19 @@ same-label a b = (
   λ e. every-i _ (eq-eqb _ _ (ap (λ (l : Label). l .grade) e), (eq-eqb _ _ (ap (λ (l : Label). l .cats) e), tt)),
 )
 
--- ---- label 0/0
-pub none-in-range : (width : ℕ) → labelInRangeIn width noLabel ≡ true
-unfolding labelInRangeIn
-none-in-range width = every-i _ (le-leb 0 topGrade (omega arith), (le-leb 0 width (omega arith), tt))
+-- ---- the range
+module _ (width : ℕ) where
+  pub grade-in : (a : Label) → labelInRangeIn width a ≡ true → a .grade ≤ topGrade
+  unfolding labelInRangeIn
+  grade-in a h = leb-true _ _ (every-e _ h .0)
+
+  pub cats-in : (a : Label) → labelInRangeIn width a ≡ true → a .cats ≤ width
+  unfolding labelInRangeIn
+  cats-in a h = leb-true _ _ (every-e _ h .1 .0)
+
+  pub in-range : (a : Label) → a .grade ≤ topGrade → a .cats ≤ width → labelInRangeIn width a ≡ true
+  unfolding labelInRangeIn
+  in-range a g c = every-i _ (le-leb _ _ g, (le-leb _ _ c, tt))
+
+  pub none-in-range : labelInRangeIn width noLabel ≡ true
+  none-in-range = in-range noLabel (omega arith) (omega arith)

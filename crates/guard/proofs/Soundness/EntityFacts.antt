@@ -12,7 +12,7 @@ use lib.Dec.{leb}
 use borrow.Author.Tests.{eqb-true, leb-true, ltb-true, le-leb, lt-ltb}
 use Rattle.bitset.specs.Tests.Laws.{clash, is-false, not-of-false, of-not-true, every-i, every-at}
 use Rattle.guard.specs.Level.{isRoot}
-use Rattle.guard.specs.Label.{allCategories, labelInRange, labelInRangeIn, sameLabel, noLabel}
+use Rattle.guard.specs.Label.{allCategories, labelInRange, sameLabel, noLabel}
 use Rattle.guard.specs.Tables.{entityAt}
 use Rattle.guard.specs.Sound.{entityInRangeIn, isRootRecord, isEmptyEntity}
 use Rattle.guard.specs.Private.Tested.{entityTest}
@@ -20,6 +20,7 @@ use Rattle.guard.specs.Private.InForce.{entityInRange}
 use Rattle.guard.specs.declared.Label.{Label}
 use Rattle.guard.specs.declared.Entity.{Entity}
 use Rattle.guard.specs.declared.Tables.{Tables}
+use Rattle.guard.proofs.Laws.Label.{same-label, cats-in, none-in-range}
 use Rattle.guard.proofs.Laws.Sound.Facts.{fitsIn}
 use Rattle.guard.proofs.Soundness.Tests.{cond-yes, cond-no, yes-e, no-e}
 
@@ -45,14 +46,14 @@ unfolding entityInRangeIn
 parent-small n h = ltb-true _ _ (every-at _ h 1)
 
 pub known : (t : Tables) (e : ℕ) (n : Entity) → Settled t e n → Known e n
-unfolding entityInRangeIn labelInRangeIn isRootRecord isEmptyEntity
+unfolding entityInRangeIn isRootRecord isEmptyEntity
 known t e n s =
     let root : isRoot e ≡ true → (n .live ≡ true) × (n .parent ≡ e) × (n .name ≡ 0) =
     λ r. let h = every-at _ (s .root r) in (h 0, eqb-true _ _ (h 4), eqb-true _ _ (h 3)) in
     record {
       parent = parent-small n (s .range);
       name = let h = leb-true (n .name) 65535 (every-at _ (s .range) 2) in omega arith;
-      cats = let h = leb-true (n .label .cats) allCategories (every-at _ (every-at _ (s .range) 3) 1) in omega arith;
+      cats = let h = cats-in allCategories (n .label) (every-at _ (s .range) 3) in omega arith;
       level = λ live. go (isRoot e) refl live root;
       named = λ live other. leb-true 1 (n .name) (s .named live other);
       root = root;
@@ -65,11 +66,7 @@ known t e n s =
 
 -- ---- the ranges of a root and of an empty record
 pub zero-label : (a : Label) → sameLabel a noLabel ≡ true → labelInRange a ≡ true
-unfolding sameLabel labelInRangeIn
-zero-label a h =
-    let g = eqb-true (a .grade) 0 (every-at _ h 0) in
-    let c = eqb-true (a .cats) 0 (every-at _ h 1) in
-    every-i _ (le-leb (a .grade) 3 (omega arith), (le-leb (a .cats) allCategories (omega arith), tt))
+zero-label a h = rw (same-label a noLabel .0 h) (none-in-range allCategories)
 
 in-range : (n : Entity) → n .kind ≤ 1 → n .parent < 64 → n .name ≡ 0 → sameLabel (n .label) noLabel ≡ true → entityInRange n ≡ true
 unfolding entityInRangeIn

@@ -15,7 +15,7 @@ use Rattle.bitset.specs.Tests.Laws.{both, clash, every-i, every-at, implies-i, 
 use Rattle.bitset.specs.Sets.{has, contains}
 use Rattle.bitset.specs.Sets.Laws.{has-none, has-below, contains-has, has-contains}
 use Rattle.guard.specs.Level.{sessionLevel}
-use Rattle.guard.specs.Label.{allCategories, labelInRange, labelInRangeIn, dominates, sameLabel}
+use Rattle.guard.specs.Label.{allCategories, labelInRange, dominates, sameLabel}
 use Rattle.guard.specs.Tables.{roleAt, entityAt}
 use Rattle.guard.specs.Sound.{sessionInRangeIn, isEmptySession}
 use Rattle.guard.specs.Private.Tested.{sessionTest, labelNumber}
@@ -24,6 +24,7 @@ use Rattle.guard.specs.declared.Label.{Label}
 use Rattle.guard.specs.declared.Session.{Session}
 use Rattle.guard.specs.declared.Entity.{Entity}
 use Rattle.guard.specs.declared.Tables.{Tables}
+use Rattle.guard.proofs.Laws.Label.{grade-in, cats-in}
 use Rattle.guard.proofs.Laws.Sound.Facts.{SessionOk, SetOk}
 use Rattle.guard.proofs.Soundness.Tests.{cond-yes, cond-no, yes-e, no-e}
 use Rattle.guard.proofs.Soundness.EntityFacts.{Known, zero-label}
@@ -62,13 +63,8 @@ unfolding sameLabel
 same-is l n v e p q b = rw e (same-as l _ _ p q (n .live) b)
 
 -- ---- the label of a session
-grade-small : (l : Label) → labelInRange l ≡ true → l .grade ≤ 3
-unfolding labelInRangeIn
-grade-small l h = leb-true _ _ (every-at _ h 0)
-
 cats-small : (l : Label) → labelInRange l ≡ true → l .cats < 65536
-unfolding labelInRangeIn
-cats-small l h = let b = leb-true (l .cats) allCategories (every-at _ h 1) in omega arith
+cats-small l h = let b = cats-in allCategories l h in omega arith
 
 no-members : (w : ℕ) (live : Bool) (Q : ℕ → Bool) (s : ℕ) → 0 < 2 ^ w → s ≡ 0 → SetOk w live Q s
 no-members w live Q s p z = record { small = rw z p; none = λ d. z; members = λ i l m. absurd (clash (has 0 i) (rw z at m) (has-none i)) }
@@ -85,7 +81,7 @@ module _ (t : Tables) (labels : List ℕ) (L : Labels t labels) (N : (e : ℕ) �
           let range = every-at _ (test 0) in
           let levels = every-at _ (test 2) in
           let opened = every-at _ (test 3) in
-          let g = grade-small (x .label) (range 1) in
+          let g = grade-in allCategories (x .label) (range 1) in
           let c = cats-small (x .label) (range 1) in
           record {
             user = ltb-true _ _ (range 0);
@@ -128,7 +124,7 @@ module _ (t : Tables) (labels : List ℕ) (L : Labels t labels) (N : (e : ℕ) �
   session-i ok = go (x .live) refl
     where
       g : x .label .grade ≤ 3
-      g = grade-small (x .label) (ok .label)
+      g = grade-in allCategories (x .label) (ok .label)
 
       range : sessionInRange x ≡ true
       range =

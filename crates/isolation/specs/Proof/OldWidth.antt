@@ -32,19 +32,15 @@ use Rattle.guard.specs.declared.old.OldUser.{OldUser}
 use Rattle.guard.specs.declared.old.OldSession.{OldSession}
 use Rattle.guard.specs.declared.old.OldEntity.{OldEntity}
 use Rattle.guard.specs.declared.old.OldTables.{OldTables}
+use Rattle.guard.proofs.Laws.Label.{grade-in, cats-in, in-range}
 use Rattle.guard.proofs.Laws.Sound.Facts.{Sound, SessionOk, EntityOk}
 use Rattle.guard.proofs.Laws.Sound.{sound-e, sound-i}
 use Rattle.guard.proofs.Kept.{sound-nextIn}
 use Rattle.isolation.specs.Within.{fieldWithin, categoriesWithin, Fits}
 
 -- ---- a label
-cats-within : (width : ℕ) (a : Label) → labelInRangeIn width a ≡ true → a .cats ≤ width
-unfolding labelInRangeIn
-cats-within width a h = leb-true _ _ (every-at _ h 1)
-
 label-within : (v w : ℕ) (a : Label) → labelInRangeIn v a ≡ true → a .cats ≤ w → labelInRangeIn w a ≡ true
-unfolding labelInRangeIn
-label-within v w a h l = every-i _ (every-at _ h 0, (le-leb _ _ l, tt))
+label-within v w a h l = in-range w a (grade-in v a h) l
 
 -- ---- the tables
 sound-fits : (width : ℕ) (t : Tables) → soundIn width t ≡ true → Fits width t
@@ -52,9 +48,9 @@ unfolding usersInRangeIn userInRangeIn entityInRangeIn
 sound-fits width t h =
     let ok = sound-e t h in
     record {
-      users = λ u l. cats-within width _ (every-at _ (all-e 16 _ (every-at _ (ok .users) 1) u l) 1);
-      sessions = λ s l. cats-within width _ (ok .session s l .label);
-      entities = λ e l. cats-within width _ (every-at _ (ok .entity e l .range) 3);
+      users = λ u l. cats-in width _ (every-at _ (all-e 16 _ (every-at _ (ok .users) 1) u l) 1);
+      sessions = λ s l. cats-in width _ (ok .session s l .label);
+      entities = λ e l. cats-in width _ (every-at _ (ok .entity e l .range) 3);
     }
 
 fits-sound : (v w : ℕ) (t : Tables) → soundIn v t ≡ true → Fits w t → soundIn w t ≡ true
