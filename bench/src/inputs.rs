@@ -265,6 +265,7 @@ impl Day {
             } else {
                 1 + random.below(15)
             },
+            shared: 0,
         }
     }
 

@@ -21,10 +21,11 @@ pub const UNUSED: Request = Request {
     grade: MOST,
     cats: MOST,
     rights: MOST,
+    shared: MOST,
 };
 
 // Fields by number, in the order of the record: call 0, seat 1, user 2, role 3, entity 4, parent 5, kind 6, name 7, grade
-// 8, cats 9, rights 10.
+// 8, cats 9, rights 10, shared 11.
 pub fn with(mut q: Request, field: u64, n: u32) -> Request {
     match field {
         0 => q.call = n,
@@ -37,7 +38,8 @@ pub fn with(mut q: Request, field: u64, n: u32) -> Request {
         7 => q.name = n,
         8 => q.grade = n,
         9 => q.cats = n,
-        _ => q.rights = n,
+        10 => q.rights = n,
+        _ => q.shared = n,
     }
     q
 }
@@ -54,7 +56,8 @@ pub fn field(q: Request, n: usize) -> u32 {
         7 => q.name,
         8 => q.grade,
         9 => q.cats,
-        _ => q.rights,
+        10 => q.rights,
+        _ => q.shared,
     }
 }
 
@@ -68,7 +71,8 @@ fn fields(call: u32) -> u64 {
         9 => 0x741, // rename: seat, entity, name
         10 | 11 => 0xa431, // grant, revoke: seat, role, entity, rights
         12 | 13 => 0x231, // list, unlist: seat, role, user
-        _ => 0x1, // logout, and a number of none of the sixteen: seat
+        16 => 0xb41, // share: seat, entity, shared
+        _ => 0x1, // logout, and a number of none of the seventeen: seat
     }
 }
 
@@ -88,7 +92,7 @@ fn call(w: text::Word) -> u64 {
         return w.number;
     }
     let n = text::place(0, w.key);
-    if n < 16 { n as u64 } else { 4294967296 }
+    if n < 17 { n as u64 } else { 4294967296 }
 }
 
 // The request whose word begins at `from`: it ends the statement.
@@ -141,7 +145,8 @@ fn by_method(t: Tables, q: Request) -> Outcome {
         13 => t.unlist(q.seat, q.role, q.user),
         14 => t.make(q.seat, q.role),
         15 => t.unmake(q.seat, q.role),
-        16..=4294967295 => t.step(q),
+        16 => t.share(q.seat, q.entity, q.shared),
+        17..=4294967295 => t.step(q),
     }
 }
 

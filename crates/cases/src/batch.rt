@@ -1,4 +1,4 @@
-// A batch: requests gathered as rows of eleven numbers, in the order of a request's fields, and run.
+// A batch: requests gathered as rows of twelve numbers, in the order of a request's fields, and run.
 use crate::ask;
 use crate::show;
 use guard::Request;
@@ -7,7 +7,7 @@ ghost use Prim.Native.Nat.{_≤_};
 
 // Rows, and how many numbers they have. There is room for 256 rows.
 pub struct Batch {
-    pub rows: [u32; 2816],
+    pub rows: [u32; 3072],
     pub count: usize,
 }
 
@@ -20,12 +20,12 @@ pub struct Done {
 // So many rows more, as long as there is room.
 pub fn with(mut b: Batch, q: Request, times: u64) -> Batch {
     let mut at = b.count;
-    let mut left = times % 257 * 11;
+    let mut left = times % 257 * 12;
     while left > 0 {
-        if 2816 <= at {
+        if 3072 <= at {
             return b;
         }
-        b.rows[at] = ask::field(q, at % 11);
+        b.rows[at] = ask::field(q, at % 12);
         at += 1;
         b.count = at;
         left -= 1;
@@ -34,8 +34,8 @@ pub fn with(mut b: Batch, q: Request, times: u64) -> Batch {
 }
 
 // The first `n` numbers of the rows, with so much room for answers.
-fn ran(t: Tables, rows: [u32; 2816], n: usize, room: usize) -> Done
-    requires { ⌜ n ≤ 2816 ⌝ }
+fn ran(t: Tables, rows: [u32; 3072], n: usize, room: usize) -> Done
+    requires { ⌜ n ≤ 3072 ⌝ }
     requires { ⌜ room ≤ 256 ⌝ }
 {
     let mut answers = [255u8; 256];
@@ -59,7 +59,7 @@ fn answers(list: [u8; 256], room: usize)
 pub fn told(name: &[u8], t: Tables, b: Batch, n: u64, room: u64) -> Tables {
     let rows = b.rows;
     let room = (room % 257) as usize;
-    let r = ran(t, rows, (n % 2817) as usize, room);
+    let r = ran(t, rows, (n % 3073) as usize, room);
     show::word(name);
     show::say(show::COLON);
     show::changes(t, r.tables);

@@ -9,7 +9,7 @@ use guard::Tables;
 fn past(field: u64) -> u32 {
     match field {
         4 | 5 => 64,
-        6 => 2,
+        6 | 11 => 2,
         7 | 9 => 65536,
         8 => 4,
         _ => 16,
@@ -17,10 +17,10 @@ fn past(field: u64) -> u32 {
 }
 
 // The answers with one field past its range, or at the last number: seat, user, role, entity, parent, kind, name, grade,
-// cats, rights.
+// cats, rights, shared.
 fn each(t: Tables, q: Request, most: bool) {
     let mut field = 1u64;
-    while field <= 10 {
+    while field <= 11 {
         let n = if most { 4294967295 } else { past(field) };
         show::form(show::ONE, show::one(ask::answer(t, q, field, n)));
         field += 1;

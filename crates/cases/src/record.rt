@@ -59,7 +59,7 @@ fn entity_row(x: Entity) -> [u64; 8] {
         x.name as u64,
         a.grade as u64,
         a.cats as u64,
-        0,
+        x.shared as u64,
         0,
     ]
 }
@@ -115,6 +115,7 @@ fn with_entity(mut x: Entity, field: usize, n: u64) -> Entity {
         3 => x.name = bytes,
         4 => x.label.grade = byte,
         5 => x.label.cats = bytes,
+        6 => x.shared = byte,
         _ => {}
     }
     x

@@ -110,7 +110,7 @@ impl State {
     pub fn run(self, s: &[u8], from: usize, name: &[u8]) -> State {
         let n = text::next(s, from);
         let room = text::next(s, n.end);
-        if !((n.decimal & (n.number <= 2816)) & (room.decimal & (room.number <= 256))) {
+        if !((n.decimal & (n.number <= 3072)) & (room.decimal & (room.number <= 256))) {
             return self.unread();
         }
         let t = batch::told(name, self.now, self.batch, n.number, room.number);

@@ -113,7 +113,7 @@ pub fn form(k: usize, row: [u64; 8]) {
         *, user @, label @/@, roles #, reading #, writing #\n|\
         , ceiling @, clearance @/@\n|\
         *, users #, reads #, writes #, executes #, owns #\n|\
-        *, kind @, parent @, name @, label @/@\n|\
+        *, kind @, parent @, name @, label @/@, shared @\n|\
         \n|; broken|; past|; most|; unsound @\n| @|:|; answers| line @: not read, or not done\n|by the method @, by step @;|";
     let mut p = Place { left: k, at: 0 };
     let mut i = 0usize;

@@ -64,7 +64,7 @@ impl State {
     pub fn new() -> State {
         let t = nobody();
         let batch = Batch {
-            rows: [0; 2816],
+            rows: [0; 3072],
             count: 0,
         };
         State {

@@ -10,13 +10,13 @@ pub struct Word {
     pub end: usize,
 }
 
-// Where groups of words begin in the list of `place`, which begins with the sixteen requests: the verbs; the kinds of
+// Where groups of words begin in the list of `place`, which begins with the seventeen requests: the verbs; the kinds of
 // records, seat, user, role and entity; and the fields of each kind's records, eight places for each.
-pub const VERBS: usize = 16;
+pub const VERBS: usize = 17;
 
-pub const KINDS: usize = 32;
+pub const KINDS: usize = 33;
 
-pub const RECORDS: usize = 36;
+pub const RECORDS: usize = 37;
 
 fn wide(b: u8) -> u64 {
     b as u64
@@ -45,13 +45,13 @@ fn seen(s: Spot, b: u8) -> Spot {
 // literal for all: a check takes longer over literals than over anything else here.)
 pub fn place(from: usize, key: u64) -> usize {
     let list: &[u8] =
-        b"login logout take drop openr openw close create delete rename grant revoke list unlist make unmake \
+        b"login logout take drop openr openw close create delete rename grant revoke list unlist make unmake share \
         clear keep back fresh old set with show say compare gather run do ask broken edge \
         seat user role entity \
         live user grade cats roles reading writing - \
         ceiling grade cats - - - - - \
         live users reads writes executes owns - - \
-        live kind parent name grade cats - - ";
+        live kind parent name grade cats shared - ";
     let mut s = Spot { word: 0, before: 0 };
     let mut i = 0usize;
     while i < list.len() {

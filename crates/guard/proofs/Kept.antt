@@ -9,7 +9,7 @@ use mathlib.Core.Bool.{true}
 use mathlib.Core.List.{List, [], _∷_}
 use Rattle.guard.specs.Label.{allCategories}
 use Rattle.guard.specs.Sound.{soundIn, sound}
-use Rattle.guard.specs.Requests.{grant, revoke, list, unlist, make, unmake, unknown, rules}
+use Rattle.guard.specs.Requests.{grant, revoke, list, unlist, make, unmake, share, unknown, rules}
 use Rattle.guard.specs.Step.{nextIn, next, runIn, run}
 use Rattle.guard.specs.declared.Tables.{Tables}
 use Rattle.guard.specs.declared.Request.{Request}
@@ -19,6 +19,7 @@ use Roles.{keeps-grant, keeps-revoke, keeps-list, keeps-unlist, keeps-make, keep
 use Rename.{keeps-rename}
 use Delete.{keeps-delete}
 use Create.{keeps-create}
+use Share.{keeps-share}
 pub mod EachStays
 pub mod Sessions
 pub mod Roles
@@ -26,13 +27,14 @@ pub mod Entities
 pub mod Rename
 pub mod Delete
 pub mod Create
+pub mod Share
 
 each-keeps : (width : ℕ) → Each (Keeps width) rules
 unfolding rules
-each-keeps width = (keeps-login, (keeps-logout, (keeps-take, (keeps-drop, (keeps-openr, (keeps-openw, (keeps-close, (keeps-create, (keeps-delete, (keeps-rename, roles))))))))))
+each-keeps width = (keeps-login, (keeps-logout, (keeps-take, (keeps-drop, (keeps-openr, (keeps-openw, (keeps-close, (keeps-create, (keeps-delete, (keeps-rename, more))))))))))
   where
-    roles : Each (Keeps width) (grant ∷ revoke ∷ list ∷ unlist ∷ make ∷ unmake ∷ [])
-    roles = (keeps-grant, (keeps-revoke, (keeps-list, (keeps-unlist, (keeps-make, (keeps-unmake, tt))))))
+    more : Each (Keeps width) (grant ∷ revoke ∷ list ∷ unlist ∷ make ∷ unmake ∷ share ∷ [])
+    more = (keeps-grant, (keeps-revoke, (keeps-list, (keeps-unlist, (keeps-make, (keeps-unmake, (keeps-share, tt)))))))
 
 keeps-unknown : (width : ℕ) → Keeps width unknown
 unfolding unknown

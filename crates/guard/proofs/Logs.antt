@@ -61,19 +61,19 @@ ones-store old new i h low = rw h (ones-more old i low)
 -- ---- how many requests a batch has
 pub batch-room : (numbers room : ℕ) → batchLength numbers room ≤ room
 unfolding batchLength
-batch-room numbers room = go (leb (numbers / 11) room) refl
+batch-room numbers room = go (leb (numbers / 12) room) refl
   where
-    go : (b : Bool) → leb (numbers / 11) room ≡ b → cond (leb (numbers / 11) room) (numbers / 11) room ≤ room
+    go : (b : Bool) → leb (numbers / 12) room ≡ b → cond (leb (numbers / 12) room) (numbers / 12) room ≤ room
     go true h = rw h (leb-true _ _ h)
     go false h = rw h (omega arith)
 
-pub batch-rows : (numbers room i : ℕ) → i < batchLength numbers room → 11 * i + 11 ≤ numbers
+pub batch-rows : (numbers room i : ℕ) → i < batchLength numbers room → 12 * i + 12 ≤ numbers
 unfolding batchLength
-batch-rows numbers room i = go (leb (numbers / 11) room) refl
+batch-rows numbers room i = go (leb (numbers / 12) room) refl
   where
-    go : (b : Bool) → leb (numbers / 11) room ≡ b → i < cond (leb (numbers / 11) room) (numbers / 11) room → 11 * i + 11 ≤ numbers
-    go true h l = let k : i < numbers / 11 = rw h at l in omega arith
-    go false h l = let k : i < room = rw h at l in let m = leb-false (numbers / 11) room h in omega arith
+    go : (b : Bool) → leb (numbers / 12) room ≡ b → i < cond (leb (numbers / 12) room) (numbers / 12) room → 12 * i + 12 ≤ numbers
+    go true h l = let k : i < numbers / 12 = rw h at l in omega arith
+    go false h l = let k : i < room = rw h at l in let m = leb-false (numbers / 12) room h in omega arith
 
 -- ---- on unsound tables
 pub all-refused : (t : Tables) (log : List Request) → sound t ≡ false → (run t log ≡ t) × (answers t log ≡ replicate (length log) 1)

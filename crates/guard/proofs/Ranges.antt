@@ -1,17 +1,18 @@
 -- The numbers that a request's kind uses, where all of them are in range.
 --     span                    a property of each number from one on, so many of them
 --     past-nine, past-five    none of some numbers
---     is-nine                 of 7, 8 and 9 neither of the first two
---     asks-past               no kind past revoke asks for rights
+--     is-nine                 of the kinds that change an entity none but rename
+--     asks-past               of the kinds past revoke share alone asks for rights
 --     ranges-at, of-ranges    the ranges of the rule at the request's number
---     fits-take, fits-open, fits-grant, fits-list, fits-make, fits-none      the ranges as the code tests them, where several kinds are alike
---     in-login .. in-unmake   .. each, by the kind
+--     fits-take, fits-open, fits-grant, fits-list, fits-make, fits-share, fits-none      the ranges as the code tests them, where several kinds are alike
+--     in-login .. in-share    .. each, by the kind
 --     InCreate, in-create     those of create
 -- Assumes nothing.
 use Prim.Native.Nat.{ℕ, zero, suc, _+_, _≤_, _<_}
 use mathlib.Core.Path.{_≡_, refl, sym, ap, _∙_}
 use mathlib.Core.Bool.{Bool, true, false, _&&_, and-true, and-false}
 use mathlib.Core.List.{List, map}
+use mathlib.Core.Logic.{_⊎_, inl, inr}
 use native.Mathlib.Decide.{ℕ-discrete}
 use native.Mathlib.Omega.{arith}
 use lib.Dec.{leb, ltb, eqb}
@@ -21,12 +22,12 @@ use Rattle.bitset.specs.Tests.{every, either}
 use Rattle.bitset.specs.Tests.Laws.{every-at}
 use Rattle.guard.specs.Level.{userCount, sessionCount, roleCount, entityCount}
 use Rattle.guard.specs.Label.{topGrade, allCategories, labelInRangeIn}
-use Rattle.guard.specs.Tables.{container, allRights}
+use Rattle.guard.specs.Tables.{container, sharedMark, allRights}
 use Rattle.guard.specs.Sound.{topName}
-use Rattle.guard.specs.Requests.{Rule, fieldInRangeIn, rules, unknown, ruleOf, login, logout, take, drop, openr, openw, close, create, delete, rename, grant, revoke, list, unlist, make, unmake}
+use Rattle.guard.specs.Requests.{Rule, requestCount, fieldInRangeIn, rules, unknown, ruleOf, login, logout, take, drop, openr, openw, close, create, delete, rename, grant, revoke, list, unlist, make, unmake, share}
 use Rattle.guard.specs.Step.{inRangesIn}
 use Rattle.guard.specs.Kind as kind
-use Rattle.guard.specs.Private.Inside.{asksWay, asksName, asksRights}
+use Rattle.guard.specs.Private.Inside.{asksWay, asksName, asksRights, OfEntity}
 use Rattle.guard.specs.Private.InForce.{fieldInRange, inRanges}
 use Rattle.guard.specs.declared.Request.{Request}
 use Rattle.guard.proofs.Laws.Requests.{unknown-rule}
@@ -56,13 +57,14 @@ past-nine n h a b c = past 9 n (past 8 n (past 7 n h a) b) c
 pub past-five : (n : ℕ) → (n ≡ 0 → ⊥) → (n ≡ 1 → ⊥) → (n ≡ 2 → ⊥) → (n ≡ 3 → ⊥) → (n ≡ 4 → ⊥) → (n ≡ 5 → ⊥) → 6 ≤ n
 past-five n a b c d e f = past 5 n (past 4 n (past 3 n (past 2 n (past 1 n (past 0 n (omega arith) a) b) c) d) e) f
 
-pub is-nine : (n : ℕ) → 7 ≤ n → n ≤ 9 → (n ≡ 7 → ⊥) → (n ≡ 8 → ⊥) → n ≡ 9
-is-nine n h m a b = omega (arith, past 8 n (past 7 n h a) b)
+pub is-nine : (n : ℕ) → OfEntity n → (n ≡ 7 → ⊥) → (n ≡ 8 → ⊥) → (n ≡ 16 → ⊥) → n ≡ 9
+is-nine n (inl (h, m)) a b c = omega (arith, past 8 n (past 7 n h a) b)
+is-nine n (inr e) a b c = absurd (c e)
 
--- no kind past revoke asks for rights
-pub asks-past : (call : ℕ) → 12 ≤ call → asksRights call ≡ false
+-- of the kinds past revoke share alone asks for rights
+pub asks-past : (call : ℕ) → 12 ≤ call → (call ≡ 16 → ⊥) → asksRights call ≡ false
 unfolding asksRights asksWay asksName either
-asks-past call h =
+asks-past call h not =
     let other : (k : ℕ) → k < 12 → eqb call k ≡ false = λ k l. ne-eqb call k (λ e. omega arith) in
     rw (
       other 4 (omega arith),
@@ -72,6 +74,7 @@ asks-past call h =
       other 8 (omega arith),
       other 10 (omega arith),
       other 11 (omega arith),
+      ne-eqb call 16 not,
     )
 
 -- ---- the ranges of a rule
@@ -116,9 +119,13 @@ module _ (q : Request) where
   unfolding rules make unmake fieldInRangeIn every
   fits-make l h = by-span _ 14 2 (simp and-true, (simp and-true, tt)) l h
 
-  pub fits-none : 16 ≤ q .call → false ≡ inRanges q
+  pub fits-share : q .call ≡ kind.share → (ltb (q .seat) sessionCount && (ltb (q .entity) entityCount && leb (q .shared) sharedMark)) ≡ inRanges q
+  unfolding rules share fieldInRangeIn every
+  fits-share c = sym (ranges-at 16 c ∙ simp and-true)
+
+  pub fits-none : requestCount ≤ q .call → false ≡ inRanges q
   unfolding inRangesIn unknown fieldInRangeIn every
-  fits-none h = rw (unknown-rule q h, le-ltb (q .call) 16 h, and-false (ltb (q .seat) sessionCount))
+  fits-none h = rw (unknown-rule q h, le-ltb (q .call) requestCount h, and-false (ltb (q .seat) sessionCount))
 
   module _ (ok : inRanges q ≡ true) where
     pub of-ranges : (k : ℕ) → q .call ≡ k → every (tests (getD rules k unknown) q) ≡ true
@@ -191,6 +198,10 @@ module _ (q : Request) where
     pub in-unmake : q .call ≡ kind.unmake → (q .seat < sessionCount) × (q .role < roleCount)
     unfolding rules unmake fieldInRangeIn
     in-unmake c = let met = every-at _ (of-ranges 15 c) in (ltb-true _ _ (met 0), ltb-true _ _ (met 1))
+
+    pub in-share : q .call ≡ kind.share → (q .seat < sessionCount) × (q .entity < entityCount) × (q .shared ≤ sharedMark)
+    unfolding rules share fieldInRangeIn
+    in-share c = let met = every-at _ (of-ranges 16 c) in (ltb-true _ _ (met 0), ltb-true _ _ (met 1), leb-true _ _ (met 2))
 
     pub record InCreate : Type 0 where
       pub seat : q .seat < sessionCount

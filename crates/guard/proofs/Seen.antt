@@ -105,6 +105,7 @@ module _ (t : Tables) (ok : sound t ≡ true) (q : Request) (p : Places) (P : Pl
               entity = λ h. ap (entityAt t) (P .entity .same h);
               inside = λ h. numbers t ok (q .entity) h .parent;
               parent = λ c h. ap (entityAt t) (named c ∙ P .parent .same h);
+              outer = λ c h. ap (entityAt t) (recorded c ∙ ap (λ (n : ℕ). entityAt t n .parent) (P .entity .same h));
               rights = rights;
               reached = reached-so;
               created = create-name;

@@ -1,23 +1,25 @@
 -- What a run stores where the answer is 0 is what the rule does.
 --     Told, told              which kinds a change stands for
---     session-stored, create-stored, delete-stored, rename-stored, role-stored, unmake-stored
+--     session-stored, create-stored, delete-stored, kept-stored, role-stored, unmake-stored
 -- Assumes nothing.
 use Prim.Native.Nat.{ℕ, _≤_, _<_}
 use mathlib.Core.Path.{_≡_, refl, sym, subst, _∙_}
-use mathlib.Core.Bool.{Bool, true, false, cond}
+use mathlib.Core.Bool.{Bool, true, false, cond, _||_}
 use mathlib.Core.List.{map}
-use native.Mathlib.Decide.{decLt}
+use mathlib.Core.Logic.{inl, inr}
+use native.Mathlib.Decide.{decLt, ℕ-discrete}
 use native.Mathlib.Omega.{arith}
-use lib.Dec.{leb}
+use lib.Dec.{leb, eqb}
 use lib.ListN.{set}
-use borrow.Author.Tests.{leb-true, leb-false}
+use borrow.Author.Tests.{leb-true, leb-false, eqb-true, eqb-false}
+use Rattle.bitset.specs.Tests.{either}
 use Rattle.bitset.specs.Tests.Laws.{clash, of-not-false}
 use Rattle.guard.specs.Tables.{sessionAt, roleAt, entityAt}
 use Rattle.guard.specs.Sound.{sound}
 use Rattle.guard.specs.Edits.{withSessions, withRoles, withEntities, atSession, atRole, atEntity, eachSession, eachRole, dropRole, closeBoth, clearRights, listUser, unlistUser}
-use Rattle.guard.specs.Requests.{rules, ruleOf, login, logout, take, drop, openr, openw, close, create, delete, rename, grant, revoke, list, unlist, make, unmake}
+use Rattle.guard.specs.Requests.{rules, ruleOf, login, logout, take, drop, openr, openw, close, create, delete, rename, grant, revoke, list, unlist, make, unmake, share}
 use Rattle.guard.specs.Kind as kind
-use Rattle.guard.specs.Private.Inside.{number, Placed, changeOf, sessionAfter, entityAfter, usersAfter, roleAfter, owning}
+use Rattle.guard.specs.Private.Inside.{number, Placed, changeOf, OfEntity, sessionAfter, entityAfter, usersAfter, roleAfter, owning}
 use Rattle.guard.specs.Private.InForce.{inRanges}
 use Rattle.guard.specs.declared.Session.{Session}
 use Rattle.guard.specs.declared.Role.{Role}
@@ -25,28 +27,30 @@ use Rattle.guard.specs.declared.Entity.{Entity}
 use Rattle.guard.specs.declared.Tables.{Tables}
 use Rattle.guard.specs.declared.Request.{Request}
 use Rattle.guard.specs.declared.change.Change.{Change}
-use Rattle.guard.specs.declared.change.Change.the-variants.{Session as OfSession, Entity as OfEntity, Role as OfRole}
+use Rattle.guard.specs.declared.change.Change.the-variants.{Session as ASession, Entity as AnEntity, Role as ARole}
 use Rattle.guard.specs.declared.look.Places.{Places}
 use Rattle.guard.proofs.Laws.Refusals.{unmet}
 use Rattle.guard.proofs.Laws.Sound.{sound-e}
 use Rattle.guard.proofs.Granting.{granted, revoked, owned}
-use Rattle.guard.proofs.Ranges.{span, rule-at, fits-none, in-login, in-logout, in-take, in-drop, in-openr, in-openw, in-close, in-create, in-delete, in-rename, in-grant, in-revoke, in-list, in-unlist, in-make, in-unmake}
+use Rattle.guard.proofs.Ranges.{span, is-nine, rule-at, fits-none, in-login, in-logout, in-take, in-drop, in-openr, in-openw, in-close, in-create, in-delete, in-rename, in-grant, in-revoke, in-list, in-unlist, in-make, in-unmake, in-share}
 use Rattle.guard.proofs.Answers.{done-in-range, done-allowed}
 
 -- ---- which kinds a change stands for
 abbrev pub Told : Change → ℕ → Type 0
-Told OfSession n = n ≤ 6
-Told OfEntity n = (7 ≤ n) × (n ≤ 9)
-Told OfRole n = 10 ≤ n
+Told ASession n = n ≤ 6
+Told AnEntity n = OfEntity n
+Told ARole n = (10 ≤ n) × (n ≡ 16 → ⊥)
 
 told-of : (n : ℕ) → Told (changeOf n) n
-unfolding changeOf
-told-of n = go (leb n 6) refl (leb n 9) refl
+unfolding changeOf either
+told-of n = go (leb n 6) refl (leb n 9) refl (eqb n 16) refl
   where
-    go : (a : Bool) → leb n 6 ≡ a → (b : Bool) → leb n 9 ≡ b → Told (cond (leb n 6) OfSession (cond (leb n 9) OfEntity OfRole)) n
-    go true ha b hb = rw ha (leb-true n 6 ha)
-    go false ha true hb = rw (ha, hb) (leb-false n 6 ha, leb-true n 9 hb)
-    go false ha false hb = rw (ha, hb) (leb-false n 9 hb)
+    go : (a : Bool) → leb n 6 ≡ a → (b : Bool) → leb n 9 ≡ b → (s : Bool) → eqb n 16 ≡ s
+        → Told (cond (leb n 6) ASession (cond (leb n 9 || eqb n 16) AnEntity ARole)) n
+    go true ha b hb s hs = rw ha (leb-true n 6 ha)
+    go false ha true hb s hs = rw (ha, hb) (inl (leb-false n 6 ha, leb-true n 9 hb))
+    go false ha false hb true hs = rw (ha, hb, hs) (inr (eqb-true n 16 hs))
+    go false ha false hb false hs = rw (ha, hb, hs) (leb-false n 9 hb, eqb-false n 16 hs)
 
 pub told : (c d : Change) (n : ℕ) → d ≡ changeOf n → d ≡ c → Told c n
 told c d n h k = subst (λ (x : Change). Told x n) (sym h ∙ k) (told-of n)
@@ -55,11 +59,11 @@ module _ (t : Tables) (q : Request) (z : 0 ≡ number (ruleOf q) t q) where
   ok : inRanges q ≡ true
   ok = done-in-range t q z
 
-  -- a number that is none of the sixteen is answered 2
-  known : q .call < 16
-  known = go (decLt (q .call) 16)
+  -- a number that is none of the seventeen is answered 2
+  known : q .call < 17
+  known = go (decLt (q .call) 17)
     where
-      go : Dec (q .call < 16) → q .call < 16
+      go : Dec (q .call < 17) → q .call < 17
       go (yes l) = l
       go (no l) = absurd (clash (inRanges q) ok (sym (fits-none q (omega arith))))
 
@@ -119,10 +123,25 @@ module _ (t : Tables) (q : Request) (z : 0 ≡ number (ruleOf q) t q) where
     unfolding entityAfter rules delete eachSession eachRole atEntity
     delete-stored c f hf = rw (rule-at q 8 c, hf, c, P .entity .same (in-delete q ok c .1))
 
-    pub rename-stored : q .call ≡ kind.rename → (f : Entity) → f ≡ entityAfter q (entityAt t (p .entity))
-        → Done (withEntities t (set (t .entities) (p .entity) f))
+    abbrev EntityDone : ℕ → Type 0
+    EntityDone k = q .call ≡ k → Done (withEntities t (set (t .entities) (p .entity) (entityAfter q (entityAt t (p .entity)))))
+
+    rename-done : EntityDone 9
     unfolding entityAfter rules rename atEntity
-    rename-stored c f hf = rw (rule-at q 9 c, hf, c, P .entity .same (in-rename q ok c .1))
+    rename-done c = rw (rule-at q 9 c, c, P .entity .same (in-rename q ok c .1))
+
+    share-done : EntityDone 16
+    unfolding entityAfter rules share atEntity
+    share-done c = rw (rule-at q 16 c, c, P .entity .same (in-share q ok c .1))
+
+    -- rename and share change no other record
+    pub kept-stored : OfEntity (q .call) → (q .call ≡ kind.create → ⊥) → (q .call ≡ kind.delete → ⊥) → (f : Entity)
+        → f ≡ entityAfter q (entityAt t (p .entity)) → Done (withEntities t (set (t .entities) (p .entity) f))
+    kept-stored of a b f hf = rw hf (go (ℕ-discrete (q .call) 16))
+      where
+        go : Dec (q .call ≡ 16) → Done (withEntities t (set (t .entities) (p .entity) (entityAfter q (entityAt t (p .entity)))))
+        go (yes c) = share-done c
+        go (no c) = rename-done (is-nine (q .call) of a b c)
 
     -- ---- the role
     abbrev RoleDone : ℕ → Type 0
@@ -160,11 +179,11 @@ module _ (t : Tables) (q : Request) (z : 0 ≡ number (ruleOf q) t q) where
         let facts = sound-e t sure .role (q .role) role in
         rw (rule, c, P .role .same role, facts .users .none dead, facts .reads .none dead, facts .writes .none dead, facts .executes .none dead, facts .owns .none dead)
 
-    pub role-stored : sound t ≡ true → 10 ≤ q .call → (q .call ≡ 15 → ⊥) → (r : Role) → r ≡ roleAfter q (roleAt t (p .role))
+    pub role-stored : sound t ≡ true → (10 ≤ q .call) × (q .call ≡ 16 → ⊥) → (q .call ≡ 15 → ⊥) → (r : Role) → r ≡ roleAfter q (roleAt t (p .role))
         → Done (withRoles t (set (t .roles) (p .role) r))
-    role-stored sure low other r same =
+    role-stored sure (low, not) other r same =
         rw same
-        (span RoleDone 10 5 (grant-done, (revoke-done, (list-done, (unlist-done, (make-done sure, tt))))) (q .call) low (omega (arith, known, other)) refl)
+        (span RoleDone 10 5 (grant-done, (revoke-done, (list-done, (unlist-done, (make-done sure, tt))))) (q .call) low (omega (arith, known, not, other)) refl)
 
     pub unmake-stored : q .call ≡ kind.unmake → (r : Role) → r ≡ roleAfter q (roleAt t (p .role))
         → Done (withSessions (withRoles t (set (t .roles) (p .role) r)) (map (dropRole (q .role)) (t .sessions)))

@@ -6,7 +6,7 @@ use lib.Dec.{ltb, eqb}
 use Rattle.bitset.specs.Tests.{every, either, some}
 use Rattle.guard.specs.Level.{entityCount, sessionLevel, roleLevel, entityLevel, keeperOf}
 use Rattle.guard.specs.Label.{label, dominates, sameLabel}
-use Rattle.guard.specs.Tables.{userAt, sessionAt, roleAt, entityAt, container, execute, own, holds, isReading, isWriting, lists, hasRight, isChild}
+use Rattle.guard.specs.Tables.{userAt, sessionAt, roleAt, entityAt, object, container, execute, own, holds, isReading, isWriting, lists, isShared, hasRight, isChild}
 use Rattle.guard.specs.Chain.{parentOf, reaches}
 use Rattle.guard.specs.declared.Label.{Label}
 use Rattle.guard.specs.declared.Tables.{Tables}
@@ -37,11 +37,15 @@ module _ (t : Tables) (q : Request) where
   abbrev pub parentNoContainer : Bool
   parentNoContainer = not (eqb (entityAt t (q .parent) .kind) container)
 
+  -- share: the entity is an object.
+  abbrev pub entityIsObject : Bool
+  entityIsObject = eqb (entityAt t (q .entity) .kind) object
+
   -- 10 integrity. openr: e's level is below x's.
   abbrev pub entityBelowSeat : Bool
   entityBelowSeat = ltb (entityLevel (q .entity)) (sessionLevel (q .seat))
 
-  -- openw: x's is below e's.
+  -- openw, share: x's is below e's.
   abbrev pub seatBelowEntity : Bool
   seatBelowEntity = ltb (sessionLevel (q .seat)) (entityLevel (q .entity))
 
@@ -88,13 +92,21 @@ module _ (t : Tables) (q : Request) where
   unfoldable pub cannotOpen : ℕ → Bool
   cannotOpen right = either (not (hasRight t (q .seat) right (q .entity))) (not (reaches t (q .seat) (q .entity)))
 
-  -- create, delete, rename: x has not the parent open for writing, or lacks execute on it.
+  -- create, delete, rename: x has not the parent open for writing, or lacks execute on it. (delete, rename: see below)
   unfoldable pub cannotChangeIn : ℕ → Bool
   cannotChangeIn parent = either (not (isWriting t (q .seat) parent)) (not (hasRight t (q .seat) execute parent))
 
-  -- grant, revoke: x lacks own on e.
+  -- grant, revoke, share: x lacks own on e.
   abbrev pub notOwned : Bool
   notOwned = not (hasRight t (q .seat) own (q .entity))
+
+  -- the parent in the entity's record, for delete and rename
+  abbrev pub recordedParent : ℕ
+  recordedParent = parentOf t (q .entity)
+
+  -- In a shared container delete and rename also need own on the entity.
+  unfoldable pub cannotChange : Bool
+  cannotChange = either (cannotChangeIn recordedParent) (every (isShared t recordedParent ∷ notOwned ∷ []))
 
   -- 16 it is so already: held, open in the way asked for, listed.
   abbrev pub roleHeld : Bool
@@ -108,6 +120,9 @@ module _ (t : Tables) (q : Request) where
 
   abbrev pub userListed : Bool
   userListed = lists t (q .role) (q .user)
+
+  abbrev pub markedSo : Bool
+  markedSo = eqb (entityAt t (q .entity) .shared) (q .shared)
 
   -- For drop, close, unlist: there is nothing to end. (drop: roleNotHeld)
   unfoldable pub notOpen : Bool
@@ -141,7 +156,3 @@ module _ (t : Tables) (q : Request) where
   -- 15 the entity has children.
   unfoldable pub hasChildren : Bool
   hasChildren = some entityCount (λ f. isChild t (q .entity) f)
-
-  -- the parent in the entity's record, for delete and rename
-  abbrev pub recordedParent : ℕ
-  recordedParent = parentOf t (q .entity)

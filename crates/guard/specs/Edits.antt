@@ -100,6 +100,11 @@ listUser u r = listing (with (r .users) u) r
 unfoldable pub unlistUser : ℕ → Role → Role
 unlistUser u r = listing (without (r .users) u) r
 
--- ---- of one entity: the name
+-- ---- of one entity: the name; the mark
 unfoldable pub renameTo : ℕ → Entity → Entity
-renameTo name e = record { live = e .live; kind = e .kind; parent = e .parent; name = name; label = e .label }
+renameTo name e =
+    record { live = e .live; kind = e .kind; parent = e .parent; name = name; label = e .label; shared = e .shared }
+
+unfoldable pub markAs : ℕ → Entity → Entity
+markAs mark e =
+    record { live = e .live; kind = e .kind; parent = e .parent; name = e .name; label = e .label; shared = mark }

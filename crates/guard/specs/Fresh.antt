@@ -27,7 +27,7 @@ freshRole r =
 
 unfoldable pub freshEntity : ℕ → Entity
 freshEntity e =
-    cond (isRoot e) (record { live = true; kind = container; parent = e; name = 0; label = noLabel }) noEntity
+    cond (isRoot e) (record { live = true; kind = container; parent = e; name = 0; label = noLabel; shared = 0 }) noEntity
 
 -- Fresh tables are built from sixteen user records: no live seat, only roots and keepers live
 unfoldable pub fresh : List User → Tables

@@ -1,4 +1,4 @@
--- The requests' numbers: 0 to 15 in the order in which the paper lists the sixteen. (proofs/Laws/Requests: the rule at each
+-- The requests' numbers: 0 to 16 in the order in which the papers list the seventeen. (proofs/Laws/Requests: the rule at each
 -- number is the request's.)
 use Prim.Native.Nat.{ℕ}
 
@@ -49,3 +49,6 @@ make = 14
 
 abbrev pub unmake : ℕ
 unmake = 15
+
+abbrev pub share : ℕ
+share = 16

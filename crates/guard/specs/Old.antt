@@ -11,7 +11,7 @@ use Rattle.guard.specs.declared.old.OldSession.{OldSession}
 use Rattle.guard.specs.declared.old.OldEntity.{OldEntity}
 use Rattle.guard.specs.declared.old.OldTables.{OldTables}
 
--- Tables in the old width are taken over with every number the same.
+-- Tables in the old width are taken over with every number the same; they have no marks, which start with 0.
 abbrev pub labelTaken : OldLabel → Label
 labelTaken a = record { cats = a .cats; grade = a .grade }
 
@@ -31,7 +31,7 @@ sessionTaken s =
 
 abbrev pub entityTaken : OldEntity → Entity
 entityTaken e =
-    record { live = e .live; kind = e .kind; parent = e .parent; name = e .name; label = labelTaken (e .label) }
+    record { live = e .live; kind = e .kind; parent = e .parent; name = e .name; label = labelTaken (e .label); shared = 0 }
 
 unfoldable pub takenOver : OldTables → Tables
 takenOver o =

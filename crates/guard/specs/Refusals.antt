@@ -12,7 +12,7 @@ abbrev pub _when_ : ℕ → Bool → Refusal
 n when b = record { number = n; met = b }
 
 -- Answer 0 means done. Otherwise the answer is the lowest number below that applies to the request and whose condition
--- is met. (The order of a list decides. Each list of the sixteen requests rises, so that its first number is its lowest:
+-- is met. (The order of a list decides. Each list of the seventeen requests rises, so that its first number is its lowest:
 -- proofs/Laws/Requests.)
 unfoldable pub first : List Refusal → ℕ
 first [] = 0

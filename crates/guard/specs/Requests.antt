@@ -1,4 +1,4 @@
--- The sixteen requests. x is the acting seat. The numbers are the refusals that apply.
+-- The seventeen requests. x is the acting seat. The numbers are the refusals that apply.
 use Prim.Native.Nat.{ℕ}
 use mathlib.Core.Bool.{Bool, true}
 use mathlib.Core.List.{List, [], _∷_}
@@ -7,14 +7,14 @@ use lib.ListN.{getD}
 use Rattle.bitset.specs.Tests.{every, either}
 use Rattle.guard.specs.Level.{userCount, sessionCount, roleCount, entityCount, isRoot, isKeeper}
 use Rattle.guard.specs.Label.{labelInRangeIn}
-use Rattle.guard.specs.Tables.{noSession, noRole, noEntity, container, read, write, own, allRights}
+use Rattle.guard.specs.Tables.{noSession, noRole, noEntity, container, sharedMark, read, write, own, allRights}
 use Rattle.guard.specs.Sound.{topName}
-use Rattle.guard.specs.Edits.{atSession, atRole, atEntity, eachSession, eachRole, takeRole, dropRole, openReading, openWriting, closeBoth, addRights, removeRights, clearRights, listUser, unlistUser, renameTo, madeRole}
+use Rattle.guard.specs.Edits.{atSession, atRole, atEntity, eachSession, eachRole, takeRole, dropRole, openReading, openWriting, closeBoth, addRights, removeRights, clearRights, listUser, unlistUser, renameTo, markAs, madeRole}
 use Rattle.guard.specs.Refusals.{Refusal, _when_}
-use Rattle.guard.specs.Conditions.{labelAsked, seatLive, userTooLow, seatDead, parentNoContainer, recordedParent}
+use Rattle.guard.specs.Conditions.{labelAsked, seatLive, userTooLow, seatDead, parentNoContainer, entityIsObject, recordedParent}
 use Rattle.guard.specs.Conditions.{entityBelowSeat, seatBelowEntity, createOutOfLevel, grantBelow, seatBelowRole, labelBelowEntity, labelsDiffer, labelBelowParent}
-use Rattle.guard.specs.Conditions.{userUnlisted, roleNotHeld, keeperNotHeld, cannotOpen, cannotChangeIn, notOwned}
-use Rattle.guard.specs.Conditions.{roleHeld, openForReading, openForWriting, userListed, notOpen, userNotListed}
+use Rattle.guard.specs.Conditions.{userUnlisted, roleNotHeld, keeperNotHeld, cannotOpen, cannotChangeIn, cannotChange, notOwned}
+use Rattle.guard.specs.Conditions.{roleHeld, openForReading, openForWriting, userListed, markedSo, notOpen, userNotListed}
 use Rattle.guard.specs.Conditions.{entityDead, parentDead, roleDead, entityLive, roleLive, nameTaken, hasChildren}
 use Rattle.guard.specs.declared.Session.{Session}
 use Rattle.guard.specs.declared.Entity.{Entity}
@@ -23,11 +23,11 @@ use Rattle.guard.specs.declared.Request.{Request}
 
 -- the fields of a request
 pub data Field : Type 0 where
-  call seat user role entity parent kind name label rights : Field
+  call seat user role entity parent kind name label rights shared : Field
 
--- 2 a number is out of range; name 0, rights 0 and a request of none of the sixteen kinds count as such.
+-- 2 a number is out of range; name 0, rights 0 and a request of none of the seventeen kinds count as such.
 abbrev pub requestCount : ℕ
-requestCount = 16
+requestCount = 17
 
 unfoldable pub fieldInRangeIn : ℕ → Request → Field → Bool
 fieldInRangeIn width q call = ltb (q .call) requestCount
@@ -40,6 +40,7 @@ fieldInRangeIn width q kind = leb (q .kind) container
 fieldInRangeIn width q name = every (leb 1 (q .name) ∷ leb (q .name) topName ∷ [])
 fieldInRangeIn width q label = labelInRangeIn width (labelAsked q)
 fieldInRangeIn width q rights = every (leb 1 (q .rights) ∷ leb (q .rights) allRights ∷ [])
+fieldInRangeIn width q shared = leb (q .shared) sharedMark
 
 -- What the paper says of one request: the fields that it uses, the refusals that apply after 1 and 2, and what it does.
 -- Refusals read the tables; what is done is a matter of the request alone.
@@ -130,7 +131,8 @@ close =
 -- create (x, e, kind, parent, name, label, role): 7, 8, 9, 10, 11, 12, 13, 14. The role gains own on e and nobody gains
 -- anything else.
 unfoldable pub created : Request → Entity
-created q = record { live = true; kind = q .kind; parent = q .parent; name = q .name; label = labelAsked q }
+created q =
+    record { live = true; kind = q .kind; parent = q .parent; name = q .name; label = labelAsked q; shared = 0 }
 
 unfoldable pub create : Rule
 create =
@@ -159,7 +161,7 @@ delete =
           5 when seatDead t q
           ∷ 6 when isRoot (q .entity)
           ∷ 7 when entityDead t q
-          ∷ 13 when cannotChangeIn t q (recordedParent t q)
+          ∷ 13 when cannotChange t q
           ∷ 15 when hasChildren t q
           ∷ [];
       effect = λ q t.
@@ -175,7 +177,7 @@ rename =
           5 when seatDead t q
           ∷ 6 when isRoot (q .entity)
           ∷ 7 when entityDead t q
-          ∷ 13 when cannotChangeIn t q (recordedParent t q)
+          ∷ 13 when cannotChange t q
           ∷ 14 when nameTaken t q (recordedParent t q)
           ∷ [];
       effect = λ q. atEntity (q .entity) (renameTo (q .name));
@@ -253,13 +255,29 @@ unmake =
       effect = λ q t. eachSession (dropRole (q .role)) (atRole (q .role) (λ old. noRole) t);
     }
 
--- A request of none of the sixteen kinds: its number is out of range, and nothing else of it is looked at but its seat.
+-- share (x, e, mark): 7, 9, 10, 13, 16. e's mark becomes the one named.
+unfoldable pub share : Rule
+share =
+    record {
+      uses = seat ∷ entity ∷ shared ∷ [];
+      refusals = λ t q.
+          5 when seatDead t q
+          ∷ 7 when entityDead t q
+          ∷ 9 when entityIsObject t q
+          ∷ 10 when seatBelowEntity t q
+          ∷ 13 when notOwned t q
+          ∷ 16 when markedSo t q
+          ∷ [];
+      effect = λ q. atEntity (q .entity) (markAs (q .shared));
+    }
+
+-- A request of none of the seventeen kinds: its number is out of range, and nothing else of it is looked at but its seat.
 unfoldable pub unknown : Rule
 unknown = record { uses = seat ∷ call ∷ []; refusals = λ t q. []; effect = λ q t. t }
 
--- The request's number: 0 to 15 in the order in which the paper lists the sixteen.
+-- The request's number: 0 to 16 in the order in which the papers list the seventeen.
 unfoldable pub rules : List Rule
-rules = login ∷ logout ∷ take ∷ drop ∷ openr ∷ openw ∷ close ∷ create ∷ delete ∷ rename ∷ grant ∷ revoke ∷ list ∷ unlist ∷ make ∷ unmake ∷ []
+rules = login ∷ logout ∷ take ∷ drop ∷ openr ∷ openw ∷ close ∷ create ∷ delete ∷ rename ∷ grant ∷ revoke ∷ list ∷ unlist ∷ make ∷ unmake ∷ share ∷ []
 
 unfoldable pub ruleOf : Request → Rule
 ruleOf q = getD rules (q .call) unknown

@@ -7,7 +7,7 @@ use lib.ListN.{length, getD}
 use Rattle.bitset.specs.Tests.{every, implies, all}
 use Rattle.guard.specs.Level.{userCount, sessionCount, roleCount, entityCount, topLevel, sessionLevel, roleLevel, entityLevel, isRoot, isKeeper}
 use Rattle.guard.specs.Label.{allCategories, labelInRangeIn, dominates, sameLabel, noLabel}
-use Rattle.guard.specs.Tables.{noUser, sessionAt, roleAt, entityAt, container, holds, isReading, isWriting, rightsOn, isChild}
+use Rattle.guard.specs.Tables.{noUser, sessionAt, roleAt, entityAt, object, container, sharedMark, holds, isReading, isWriting, rightsOn, isChild}
 use Rattle.guard.specs.Chain.{endsAtRoot}
 use Rattle.guard.specs.declared.User.{User}
 use Rattle.guard.specs.declared.Session.{Session}
@@ -45,7 +45,13 @@ topName = 65535
 
 unfoldable pub entityInRangeIn : ℕ → Entity → Bool
 entityInRangeIn width e =
-    every (leb (e .kind) container ∷ ltb (e .parent) entityCount ∷ leb (e .name) topName ∷ labelInRangeIn width (e .label) ∷ [])
+    every
+    (leb (e .kind) container
+    ∷ ltb (e .parent) entityCount
+    ∷ leb (e .name) topName
+    ∷ labelInRangeIn width (e .label)
+    ∷ leb (e .shared) sharedMark
+    ∷ [])
 
 unfoldable pub usersInRangeIn : ℕ → List User → Bool
 usersInRangeIn width us = every (eqb (length us) userCount ∷ all userCount (λ u. userInRangeIn width (getD us u noUser)) ∷ [])
@@ -100,6 +106,13 @@ unfoldable pub entitiesPlaced : Tables → Bool
 entitiesPlaced t =
     all entityCount (λ e. implies (every (entityAt t e .live ∷ not (isRoot e) ∷ [])) (isPlaced t e))
 
+-- ---- The mark of an object is 0.
+unfoldable pub isMarkAllowed : Entity → Bool
+isMarkAllowed e = implies (eqb (e .kind) object) (eqb (e .shared) 0)
+
+unfoldable pub objectsUnshared : Tables → Bool
+objectsUnshared t = all entityCount (λ e. isMarkAllowed (entityAt t e))
+
 -- ---- A seat, role or entity that is not live has every field zero or empty.
 unfoldable pub isEmptySession : Session → Bool
 isEmptySession s =
@@ -117,7 +130,7 @@ isEmptyRole r =
 
 unfoldable pub isEmptyEntity : Entity → Bool
 isEmptyEntity e =
-    every (eqb (e .kind) 0 ∷ eqb (e .parent) 0 ∷ eqb (e .name) 0 ∷ sameLabel (e .label) noLabel ∷ [])
+    every (eqb (e .kind) 0 ∷ eqb (e .parent) 0 ∷ eqb (e .name) 0 ∷ sameLabel (e .label) noLabel ∷ eqb (e .shared) 0 ∷ [])
 
 unfoldable pub deadAreEmpty : Tables → Bool
 deadAreEmpty t =
@@ -167,6 +180,7 @@ soundIn width t =
     ∷ rootsAsSaid t
     ∷ keepersAsSaid t
     ∷ entitiesPlaced t
+    ∷ objectsUnshared t
     ∷ deadAreEmpty t
     ∷ deadAreUnused t
     ∷ rightsWithin t

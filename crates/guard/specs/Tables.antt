@@ -25,7 +25,7 @@ abbrev pub noRole : Role
 noRole = record { live = false; users = 0; reads = 0; writes = 0; executes = 0; owns = 0 }
 
 abbrev pub noEntity : Entity
-noEntity = record { live = false; kind = 0; parent = 0; name = 0; label = noLabel }
+noEntity = record { live = false; kind = 0; parent = 0; name = 0; label = noLabel; shared = 0 }
 
 -- ---- the record at a number. Past the end stands what the machine's read of an array has there; every number is
 -- tested before it is used, so no answer rests on it.
@@ -40,13 +40,20 @@ sessionAt t s = getD (t .sessions) s noSession
 abbrev pub roleAt : Tables → ℕ → Role
 roleAt t r = getD (t .roles) r noRole
 
--- Entity: live or not, kind, parent, name, label.
+-- Entity: live or not, kind, parent, name, label, and the shared-container mark, 0 or 1.
 abbrev pub entityAt : Tables → ℕ → Entity
 entityAt t e = getD (t .entities) e noEntity
 
 -- kind (0 object, 1 container)
+abbrev pub object : ℕ
+object = 0
+
 abbrev pub container : ℕ
 container = 1
+
+-- mark (0 or 1)
+abbrev pub sharedMark : ℕ
+sharedMark = 1
 
 -- rights: read 1, write 2, execute 4, own 8, added up (0 to 15)
 abbrev pub read : ℕ
@@ -76,6 +83,10 @@ isWriting t s e = has (sessionAt t s .writing) e
 
 abbrev pub lists : Tables → ℕ → ℕ → Bool
 lists t r u = has (roleAt t r .users) u
+
+-- e is a shared container
+abbrev pub isShared : Tables → ℕ → Bool
+isShared t e = eqb (entityAt t e .shared) sharedMark
 
 -- the rights of a role on e, added up
 unfoldable pub rightsOf : Role → ℕ → ℕ

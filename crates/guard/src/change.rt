@@ -16,6 +16,7 @@ pub fn change_of(call: u32) -> Change
     match call {
         kinds::LOGIN..=kinds::CLOSE => Change::Session,
         kinds::CREATE..=kinds::RENAME => Change::Entity,
+        kinds::SHARE => Change::Entity,
         _ => Change::Role,
     }
 }

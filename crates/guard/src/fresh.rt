@@ -54,6 +54,7 @@ fn fresh_entity(e: usize) -> Entity
             parent: e as u8,
             name: 0,
             label: none,
+            shared: 0,
         };
     }
     entities::empty()

@@ -12,7 +12,7 @@ ghost use Rattle.guard.specs.Private.Inside.{number, Seen};
 ghost use Rattle.guard.specs.Private.InForce.{inRanges};
 ghost use Rattle.guard.specs.declared.Tables.{Tables as TablesOf};
 
-// A number that is none of the sixteen is out of range.
+// A number that is none of the seventeen is out of range.
 pub fn judge(q: Request, v: View) -> u8
     requires { ⌜ v .fits ≡ inRanges q ⌝ }
     ensures { λ n. ⌜ ((t : TablesOf) → Seen t q v → n ≡ number (ruleOf q) t q) ⌝ }
@@ -38,6 +38,7 @@ pub fn judge(q: Request, v: View) -> u8
         kinds::UNLIST => roles::list_refusal(q, v, !bitset::has16(v.users, q.user)),
         kinds::MAKE => roles::make_refusal(q, v),
         kinds::UNMAKE => roles::unmake_refusal(q, v),
+        kinds::SHARE => entities::share_refusal(q, v),
         kinds::KINDS..=4294967295 => 2,
     }
 }

@@ -1,4 +1,4 @@
-// The requests' numbers, in the order in which document 01 lists the sixteen (specs/Kind).
+// The requests' numbers, in the order in which the papers list the seventeen (specs/Kind).
 pub const LOGIN: u32 = 0;
 
 pub const LOGOUT: u32 = 1;
@@ -31,5 +31,7 @@ pub const MAKE: u32 = 14;
 
 pub const UNMAKE: u32 = 15;
 
+pub const SHARE: u32 = 16;
+
 // How many there are.
-pub const KINDS: u32 = 16;
+pub const KINDS: u32 = 17;

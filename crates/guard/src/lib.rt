@@ -62,13 +62,15 @@ pub struct Role {
     pub owns: u64,
 }
 
-// Entity: an object (kind 0) or a container (kind 1), with the number of its parent, its name and its label.
+// Entity: an object (kind 0) or a container (kind 1), with the number of its parent, its name, its label, and the mark of a
+// shared container (1, else 0).
 pub struct Entity {
     pub live: bool,
     pub kind: u8,
     pub parent: u8,
     pub name: u16,
     pub label: Label,
+    pub shared: u8,
 }
 
 pub struct Tables {
@@ -78,8 +80,8 @@ pub struct Tables {
     pub entities: [Entity; ENTITIES],
 }
 
-// One request, in fields wide enough for every number that a host may pass. `call` is the request's number: 0 to 15 in
-// the order in which document 01 lists the sixteen. `grade` and `cats` are the label asked for.
+// One request, in fields wide enough for every number that a host may pass. `call` is the request's number: 0 to 16 in
+// the order in which the papers list the seventeen. `grade` and `cats` are the label asked for, `shared` is the mark.
 // A field that the request does not use may hold anything.
 pub struct Request {
     pub call: u32,
@@ -93,6 +95,7 @@ pub struct Request {
     pub grade: u32,
     pub cats: u32,
     pub rights: u32,
+    pub shared: u32,
 }
 
 // What a request hands back: the tables after it, and its answer: 0 done, or the number of the refusal.

@@ -58,6 +58,7 @@ fn fits(q: Request) -> bool
         }
         kinds::LIST | kinds::UNLIST => seat & (role & user),
         kinds::MAKE | kinds::UNMAKE => seat & role,
+        kinds::SHARE => seat & (entity & (q.shared <= sizes::TOP_MARK)),
         kinds::KINDS..=4294967295 => false,
     }
 }
@@ -107,6 +108,7 @@ pub fn asks_rights(call: u32) -> bool
         kinds::OPENR | kinds::OPENW => true,
         kinds::CREATE | kinds::DELETE | kinds::RENAME => true,
         kinds::GRANT | kinds::REVOKE => true,
+        kinds::SHARE => true,
         _ => false,
     }
 }

@@ -1,4 +1,4 @@
-// For hosts: each of the sixteen requests as a method of its own. Each hands back the next tables and the answer, as
+// For hosts: each of the seventeen requests as a method of its own. Each hands back the next tables and the answer, as
 // `step` does for the same request.
 use crate::Outcome;
 use crate::Request;
@@ -7,7 +7,7 @@ use crate::kinds;
 ghost use mathlib.Core.Path.{_≡_};
 ghost use Rattle.guard.specs.Step.{step};
 ghost use Rattle.guard.specs.Kind.{take, drop, openr, openw, close, delete, grant, revoke, list, unlist, make, unmake};
-ghost use Rattle.guard.specs.Methods.{loginRequest, logoutRequest, roleRequest, entityRequest, createRequest, renameRequest, rightsRequest, listRequest};
+ghost use Rattle.guard.specs.Methods.{loginRequest, logoutRequest, roleRequest, entityRequest, createRequest, renameRequest, rightsRequest, listRequest, shareRequest};
 
 // A request with 0 in every field.
 const BLANK: Request = Request {
@@ -22,6 +22,7 @@ const BLANK: Request = Request {
     grade: 0,
     cats: 0,
     rights: 0,
+    shared: 0,
 };
 
 impl Tables {
@@ -222,6 +223,18 @@ impl Tables {
         q.call = kinds::UNMAKE;
         q.seat = seat;
         q.role = role;
+        self.step(q)
+    }
+
+    // The container is shared from then on (mark 1), or no longer (mark 0).
+    pub fn share(self, seat: u32, entity: u32, mark: u32) -> Outcome
+        ensures { λ o. ⌜ o ≡ step self (shareRequest seat entity mark) ⌝ }
+    {
+        let mut q = BLANK;
+        q.call = kinds::SHARE;
+        q.seat = seat;
+        q.entity = entity;
+        q.shared = mark;
         self.step(q)
     }
 }

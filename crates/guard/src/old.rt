@@ -91,6 +91,7 @@ fn entity(n: OldEntity) -> Entity
         parent: n.parent,
         name: n.name,
         label,
+        shared: 0,
     }
 }
 

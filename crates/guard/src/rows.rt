@@ -34,6 +34,7 @@ pub fn request(rows: &[u32], i: usize) -> Request
         grade: rows[b + 8],
         cats: rows[b + 9],
         rights: rows[b + 10],
+        shared: rows[b + 11],
     }
 }
 
@@ -53,6 +54,7 @@ pub fn row(q: Request) -> [u32; ROW]
         q.grade,
         q.cats,
         q.rights,
+        q.shared,
     ]
 }
 

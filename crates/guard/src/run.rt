@@ -15,7 +15,7 @@ use crate::view;
 ghost use Rattle.guard.specs.Batch.{RunsBatch};
 
 impl Tables {
-    // The requests in `rows`, eleven numbers each in the order of `Request`'s fields, as many as stand whole there and have room
+    // The requests in `rows`, twelve numbers each in the order of `Request`'s fields, as many as stand whole there and have room
     // in `answers`; each one's answer is stored there. Every request hands back sound tables, so soundness is tested once; where
     // there is no request, nothing is.
     pub fn run(mut self, rows: &[u32], answers: &mut [u8]) -> Tables

@@ -41,10 +41,17 @@ pub const TOP_NAME: u32 = 65535;
 
 pub const ALL_RIGHTS: u32 = 15;
 
-// A kind of entity: 0 is an object.
+// The kinds of entity.
+pub const OBJECT: u8 = 0;
+
 pub const CONTAINER: u8 = 1;
 
 pub const TOP_KIND: u32 = CONTAINER as u32;
+
+// A container's mark: 0 is not shared.
+pub const SHARED: u8 = 1;
+
+pub const TOP_MARK: u32 = SHARED as u32;
 
 // What a role may have: one number each, added up.
 pub const READ: u8 = 1;
@@ -56,4 +63,4 @@ pub const EXECUTE: u8 = 4;
 pub const OWN: u8 = 8;
 
 // The numbers of a request as a row.
-pub const ROW: usize = 11;
+pub const ROW: usize = 12;

@@ -8,8 +8,8 @@
 //   with KIND N FIELD X         one member more of a set
 //   fresh                       the tables are built anew over the users that they have
 //   fresh | NAME                the same: the answer, and what is not as in the tables kept
-//   old | NAME                  the tables, put into records of the old width, their categories modulo 256, and taken over:
-//                               what changed
+//   old | NAME                  the tables, put into records of the old width, their categories modulo 256 and without
+//                               marks, and taken over: what changed
 //   keep                        the tables are kept to go back to
 //   back                        to the tables kept
 //   show KIND N                 a record
@@ -24,7 +24,7 @@
 //   gather N REQUEST            the request as N rows more of the batch
 //   run X ROOM | NAME           the first X numbers of the batch, with room for so many answers: what changed, the answers
 //
-// A request is its word, or a number for one of no kind, and the numbers of the fields that it uses in document 01's order:
+// A request is its word, or a number for one of no kind, and the numbers of the fields that it uses in the papers' order:
 // login SEAT USER LEVEL CATS, create SEAT ENTITY KIND PARENT NAME LEVEL CATS ROLE, grant SEAT ROLE ENTITY RIGHTS, and so on.
 // It is made by the method of its name and by `step`, and a line tells where the two differ.
 use bytes::scan;

@@ -13,7 +13,7 @@ use Rattle.guard.specs.Old.{takenOver}
 use Rattle.guard.specs.declared.Tables.{Tables}
 use Rattle.guard.specs.declared.Request.{Request}
 use Rattle.guard.specs.declared.old.OldTables.{OldTables}
-use Rattle.isolation.specs.Within.{categoriesWithin, Fits}
+use Rattle.isolation.specs.Within.{categoriesWithin, Fits, Unshared}
 use Rattle.isolation.specs.Proof.OldWidth.{same-log, same-sound, old-ones}
 
 pub old-width :
@@ -29,9 +29,9 @@ pub old-width :
     × (soundIn oldWidth (run (takenOver o) log) ≡ true)
 old-width o = same-log (takenOver o)
 
--- So they are old ones taken over: tables that are sound in the old width are those of old tables with sets within 255, which eight
--- bits hold.
-pub old-again : (t : Tables) → soundIn oldWidth t ≡ true → (old : OldTables) × (takenOver old ≡ t) × Fits oldWidth (takenOver old)
+-- So they are old ones taken over where no container is shared, since old tables have no marks: tables that are sound in the old
+-- width and have no shared container are those of old tables with sets within 255, which eight bits hold.
+pub old-again : (t : Tables) → soundIn oldWidth t ≡ true → Unshared t → (old : OldTables) × (takenOver old ≡ t) × Fits oldWidth (takenOver old)
 old-again = old-ones
 
 -- Old tables, whose sets of categories have eight bits and so are within 255, are sound in the old width exactly if they are sound

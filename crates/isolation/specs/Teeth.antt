@@ -3,7 +3,7 @@
 --     unused-differ                              upper requests that differ in a field that they do not use ask the same
 --     named-lower                                an upper request that names something lower, answered 12 in one log and 7 in the other
 --     guard-isolates                             the rule for the step by any rules: guard's isolate ..
---     openw-fails, grant-fails, delete-fails     .. and three misreadings do not
+--     openw-fails, grant-fails, delete-fails, share-fails      .. and four misreadings do not
 -- Assumes nothing.
 use Prim.Native.Nat.{ℕ, _≤_}
 use mathlib.Core.Path.{_≡_, refl, sym, ap}
@@ -23,6 +23,7 @@ use Rattle.guard.specs.Refusals.{Refusal, _when_, first}
 use Rattle.guard.specs.Conditions.{recordedParent}
 use Rattle.guard.specs.Requests.{Rule, fieldInRangeIn, ruleOf}
 use Rattle.guard.specs.Step.{inRangesIn, answerIn, nextIn, answers, run, runIn}
+use Rattle.guard.specs.Methods.{shareRequest}
 use Rattle.guard.specs.SameRequest.{sameField, sameRequest}
 use Rattle.isolation.specs.Upper.{upperSession, upperRole, upper, isUpper, fieldUpper, namesUpper, upperRequests}
 use Rattle.guard.specs.declared.Tables.{Tables}
@@ -36,7 +37,7 @@ use Rattle.isolation.specs.Proof.Rule.{isolated}
 unfoldable pub start : Tables
 start =
     atSession 0 (λ old. record { live = true; user = 0; label = noLabel; roles = 17; reading = 0; writing = 0 })
-    (atEntity 17 (λ old. record { live = true; kind = 0; parent = 16; name = 7; label = noLabel }) (fresh morningUsers))
+    (atEntity 17 (λ old. record { live = true; kind = 0; parent = 16; name = 7; label = noLabel; shared = 0 }) (fresh morningUsers))
 
 pub start-sound : sound start ≡ true
 unfolding computing morningUsers start
@@ -45,7 +46,7 @@ start-sound = refl
 -- one request: call, seat, role, entity, rights; the other fields are 0
 abbrev pub ask : ℕ → ℕ → ℕ → ℕ → ℕ → Request
 ask call seat role entity rights =
-    record { call = call; seat = seat; user = 0; role = role; entity = entity; parent = 0; kind = 0; name = 0; grade = 0; cats = 0; rights = rights }
+    record { call = call; seat = seat; user = 0; role = role; entity = entity; parent = 0; kind = 0; name = 0; grade = 0; cats = 0; rights = rights; shared = 0 }
 
 -- of the lower seats 0 and 1
 abbrev pub make-1 : Request
@@ -65,6 +66,9 @@ grant-16 = ask 10 0 8 16 1
 
 abbrev pub delete-17 : Request
 delete-17 = ask 8 0 0 17 0
+
+abbrev pub share-16 : Request
+share-16 = shareRequest 0 16 1
 
 -- of the upper seat 4: its login, its keeper taken, the lower role 1 taken
 abbrev pub login-4 : Request
@@ -148,8 +152,11 @@ grant-without-10 = misread 10 10 (λ t q. false)
 abbrev pub delete-unopened : Request → Rule
 delete-unopened = misread 8 13 (λ t q. not (hasRight t (q .seat) execute (recordedParent t q)))
 
+abbrev pub share-without-10 : Request → Rule
+share-without-10 = misread 16 10 (λ t q. false)
+
 -- what the lower seat 0 asks below, guard refuses
-pub refused : answers start (openw-16 ∷ grant-16 ∷ delete-17 ∷ []) ≡ 10 ∷ 10 ∷ 13 ∷ []
+pub refused : answers start (openw-16 ∷ grant-16 ∷ delete-17 ∷ share-16 ∷ []) ≡ 10 ∷ 10 ∷ 13 ∷ 10 ∷ []
 unfolding computing morningUsers start
 refused = refl
 
@@ -174,3 +181,8 @@ grant-fails h = true≢false (told grant-without-10 h grant-16 [] (λ v. has (ge
 pub delete-fails : Isolates delete-unopened → ⊥
 unfolding computing morningUsers start upper upperSession upperRole from isUpper upperRequests runLog nextBy answerBy misread instead
 delete-fails h = true≢false (sym (told delete-unopened h delete-17 [] (λ v. getD (v .entities) 1 noEntity .live) refl))
+
+-- seat 0 shares root 16, on which it has own by the keeper of level 1
+pub share-fails : Isolates share-without-10 → ⊥
+unfolding computing morningUsers start upper upperSession upperRole from isUpper upperRequests runLog nextBy answerBy misread instead
+share-fails h = true≢false (told share-without-10 h share-16 [] (λ v. eqb (getD (v .entities) 0 noEntity .shared) 1) refl)

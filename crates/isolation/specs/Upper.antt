@@ -7,7 +7,7 @@ use lib.ListN.{drop}
 use Rattle.bitset.specs.Tests.{every}
 use Rattle.bitset.specs.Sets.{from}
 use Rattle.guard.specs.Level.{sessionCount, sessionLevel, roleLevel, entityLevel, entitiesPerLevel}
-use Rattle.guard.specs.Requests.{Field, call, seat, user, role, entity, parent, kind, name, label, rights, ruleOf}
+use Rattle.guard.specs.Requests.{Field, call, seat, user, role, entity, parent, kind, name, label, rights, shared, ruleOf}
 use Rattle.guard.specs.Step.{answer, next}
 use Rattle.guard.specs.declared.Session.{Session}
 use Rattle.guard.specs.declared.Role.{Role}
@@ -50,7 +50,8 @@ upperRole L r =
       owns = from (firstEntity L) (r .owns);
     }
 
--- The upper part holds all users; .. the whole record of entities of level L and above.
+-- The upper part holds all users; .. the whole record of entities of level L and above. (The mark belongs to the upper part with
+-- its entity.)
 unfoldable pub upper : ℕ → Tables → Tables
 upper L t =
     record {
@@ -78,6 +79,7 @@ fieldUpper L q kind = true
 fieldUpper L q name = true
 fieldUpper L q label = true
 fieldUpper L q rights = true
+fieldUpper L q shared = true
 
 unfoldable pub namesUpper : ℕ → Request → Bool
 namesUpper L q = every (map (fieldUpper L q) (ruleOf q .uses))

@@ -31,5 +31,5 @@ pub record SameUpper (L : ℕ) (t u : Tables) : Type 0 where
   pub roleLive : (r : ℕ) → L ≤ roleLevel r → roleAt t r .live ≡ roleAt u r .live
   pub listed : (r n : ℕ) → L ≤ roleLevel r → lists t r n ≡ lists u r n
   pub rights : (r e : ℕ) → L ≤ roleLevel r → L ≤ entityLevel e → rightsOn t r e ≡ rightsOn u r e
-  -- the whole record of entities of level L and above.
+  -- the whole record of entities of level L and above. The mark belongs to the upper part with its entity.
   pub entity : (e : ℕ) → L ≤ entityLevel e → entityAt t e ≡ entityAt u e

@@ -1,12 +1,13 @@
--- Category numbers within a width: of a request, and of tables.
+-- Category numbers within a width: of a request, and of tables. Tables without marks.
 use Prim.Native.Nat.{ℕ, _≤_, _<_}
+use mathlib.Core.Path.{_≡_}
 use mathlib.Core.Bool.{Bool, true}
 use mathlib.Core.List.{map}
 use lib.Dec.{leb}
 use Rattle.bitset.specs.Tests.{every}
 use Rattle.guard.specs.Level.{userCount, sessionCount, entityCount}
 use Rattle.guard.specs.Tables.{userAt, sessionAt, entityAt}
-use Rattle.guard.specs.Requests.{Field, call, seat, user, role, entity, parent, kind, name, label, rights, ruleOf}
+use Rattle.guard.specs.Requests.{Field, call, seat, user, role, entity, parent, kind, name, label, rights, shared, ruleOf}
 use Rattle.guard.specs.declared.Tables.{Tables}
 use Rattle.guard.specs.declared.Request.{Request}
 
@@ -22,6 +23,7 @@ fieldWithin width q kind = true
 fieldWithin width q name = true
 fieldWithin width q label = leb (q .cats) width
 fieldWithin width q rights = true
+fieldWithin width q shared = true
 
 unfoldable pub categoriesWithin : ℕ → Request → Bool
 categoriesWithin width q = every (map (fieldWithin width q) (ruleOf q .uses))
@@ -31,3 +33,7 @@ pub record Fits (width : ℕ) (t : Tables) : Type 0 where
   pub users : (u : ℕ) → u < userCount → userAt t u .clearance .cats ≤ width
   pub sessions : (s : ℕ) → s < sessionCount → sessionAt t s .label .cats ≤ width
   pub entities : (e : ℕ) → e < entityCount → entityAt t e .label .cats ≤ width
+
+-- No container is shared, as in old tables taken over.
+abbrev pub Unshared : Tables → Type 0
+Unshared t = (e : ℕ) → e < entityCount → entityAt t e .shared ≡ 0

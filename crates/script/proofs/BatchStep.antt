@@ -98,7 +98,7 @@ texts-all n marks given i lines h l p = let e : lines ≡ i = omega arith in rw 
 -- ---- what the guard hands back
 shorter : (n room : ℕ) → n ≤ room → batchLength (rowLength * n) room ≡ n
 unfolding batchLength
-shorter n room h = let e : (11 * n) / 11 ≡ n = omega arith in rw (e, le-leb n room h)
+shorter n room h = let e : (12 * n) / 12 ≡ n = omega arith in rw (e, le-leb n room h)
 
 module _ {t u : Tables} (rows : List ℕ) {old new : List ℕ} (n : ℕ) (did : RunsBatch t (take (rowLength * n) rows) old new u) (within : rowLength * n ≤ length rows) (room : n ≤ length old) where
   so-many : batchLength (length (take (rowLength * n) rows)) (length old) ≡ n

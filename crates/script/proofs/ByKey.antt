@@ -19,7 +19,7 @@ use lib.Seq.{drop-cons}
 use borrow.Author.Tests.{le-leb, lt-leb, eq-eqb, ne-eqb, eqb-true, leb-true, leb-false, ltb-true}
 use Rattle.bitset.specs.Tests.Laws.{both}
 use Rattle.script.specs.Text.{bytes, same}
-use Rattle.script.specs.Names.{names, column}
+use Rattle.script.specs.Names.{names, optionalNames, allNames, column}
 use Rattle.script.specs.Line.{requestWords, words}
 use Rattle.script.specs.Private.ShortTexts.{packed, textKey, spot}
 
@@ -198,10 +198,11 @@ nameKeys =
     ∷ 0x163617473
     ∷ 0x1726967687473
     ∷ 0x16365696c696e67
+    ∷ 0x1736861726564
     ∷ []
 
-pub name-keys : Keyed names nameKeys
-unfolding names bytes textKey packed
+pub name-keys : Keyed allNames nameKeys
+unfolding allNames names optionalNames bytes textKey packed
 name-keys = record { keys = refl; fit = refl }
 
 abbrev pub wordKeys : List ℕ
@@ -223,6 +224,7 @@ wordKeys =
     ∷ 0x1756e6c697374
     ∷ 0x16d616b65
     ∷ 0x1756e6d616b65
+    ∷ 0x17368617265
     ∷ []
 
 pub word-keys : Keyed words wordKeys

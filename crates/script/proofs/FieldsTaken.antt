@@ -17,8 +17,8 @@ use Rattle.bitset.specs.Sets.{has}
 use Rattle.bitset.specs.Tests.{all}
 use Rattle.bitset.specs.Tests.Laws.{all-e}
 use Rattle.guard.proofs.Compute.{computing}
-use Rattle.script.specs.Line.{userWord, callOf, Numbers, these, unreadable, joined, asks, used, isUsed, ordinal, fields}
-use Rattle.script.specs.Private.Rows.{takenAs, joins, takeFrom, front, ahead, members}
+use Rattle.script.specs.Line.{userWord, callOf, Numbers, these, unreadable, joined, asks, used, isUsed, ordinal, fields, optionalFields}
+use Rattle.script.specs.Private.Rows.{noWord, takenAs, joins, takeFrom, front, ahead, members}
 use Rattle.script.specs.declared.line.Line.the-variants.{Ask, SetUser, Bad}
 use Rattle.script.specs.declared.fields.Taken.{Taken}
 use Rattle.script.specs.declared.fields.Taken.the-variants.{Number, Fault}
@@ -107,7 +107,7 @@ module _ (w : ℕ) (six : Six) (x : Numbers) where
   unfolding asks ahead front joined
   asks-bad h = rw h
 
-  module _ (name level cats rights ceiling : ℕ) (h : x ≡ these (name ∷ level ∷ cats ∷ rights ∷ ceiling ∷ [])) where
+  module _ (name level cats rights ceiling shared : ℕ) (h : x ≡ these (name ∷ level ∷ cats ∷ rights ∷ ceiling ∷ shared ∷ [])) where
     pub asks-user : w ≡ userWord → SetUser (six .user) level cats ceiling ≡ asks w (ahead (Whole six) x)
     unfolding asks ahead front joined
     asks-user e = rw (h, e)
@@ -126,14 +126,15 @@ module _ (w : ℕ) (six : Six) (x : Numbers) where
           grade = level;
           cats = cats;
           rights = rights;
+          shared = shared;
         })
         ≡ asks w (ahead (Whole six) x)
     unfolding asks ahead front joined
     asks-request e = rw (h, ne-eqb w userWord e)
 
--- ---- which fields a word uses: the sets of the seventeen words, and the definition, by computing
+-- ---- which fields a word uses: the set of each word, and the definition, by computing
 unfoldable pub table : List ℕ
-table = 2820 ∷ 774 ∷ 2 ∷ 10 ∷ 10 ∷ 18 ∷ 18 ∷ 18 ∷ 1018 ∷ 18 ∷ 146 ∷ 1050 ∷ 1050 ∷ 14 ∷ 14 ∷ 10 ∷ 10 ∷ []
+table = 2820 ∷ 774 ∷ 2 ∷ 10 ∷ 10 ∷ 18 ∷ 18 ∷ 18 ∷ 1018 ∷ 18 ∷ 146 ∷ 1050 ∷ 1050 ∷ 14 ∷ 14 ∷ 10 ∷ 10 ∷ 4114 ∷ []
 
 alike : List Bool → List Bool → Bool
 alike [] [] = true
@@ -153,9 +154,9 @@ alike-same (a ∷ more) (b ∷ bs) h =
     go true b p e = rw (p, e)
     go false b p e = rw (not-true b p, e)
 
-table-right : all 17 (λ k. alike (members (getD table k 0) 1 11) (used k)) ≡ true
-unfolding computing table alike members used isUsed ordinal fields
+table-right : all noWord (λ k. alike (members (getD table k 0) 1 12) (used k)) ≡ true
+unfolding computing table alike members used isUsed ordinal fields optionalFields
 table-right = refl
 
-pub table-used : (w : ℕ) → w < 17 → members (getD table w 0) 1 11 ≡ used w
-table-used w h = alike-same _ _ (all-e 17 (λ k. alike (members (getD table k 0) 1 11) (used k)) table-right w h)
+pub table-used : (w : ℕ) → w < noWord → members (getD table w 0) 1 12 ≡ used w
+table-used w h = alike-same _ _ (all-e noWord (λ k. alike (members (getD table k 0) 1 12) (used k)) table-right w h)

@@ -19,7 +19,7 @@ use Rattle.script.specs.Names.{column}
 use Rattle.script.specs.Line.{valueOf, words}
 use Rattle.script.specs.Private.Slices.{leading}
 use Rattle.script.specs.Private.ShortTexts.{wordOf, Begins}
-use Rattle.script.specs.Private.Rows.{coded, codeAt, formOf, IsFound}
+use Rattle.script.specs.Private.Rows.{coded, codeAt, formOf, noWord, IsFound}
 use Rattle.script.specs.declared.line.Value.{Value}
 use Rattle.script.proofs.ByKey.{Bytes}
 use Rattle.script.proofs.Texts.{not-dash, no-dash, good-digits}
@@ -153,7 +153,7 @@ module _ (i from p : ℕ) (s : List ℕ) (l : from + 2 < length s) (h : p ≡ ge
       found-by i from 100000 1 1 true s (45 ∷ []) (ap leading (front i from 45 32 s l a b) ∙ lead-one 45 32 _ (omega arith) refl) refl (code-dash i (45 ∷ []) dash-same) form-dash (rw (← b))
 
 -- a word, and a space behind it
-pub found-word : (i from k n w : ℕ) (s : List ℕ) → i ≡ 0 → from + 6 < length s → Bytes s → Begins (drop from s) k n → w ≡ wordOf k → w < 17
+pub found-word : (i from k n w : ℕ) (s : List ℕ) → i ≡ 0 → from + 6 < length s → Bytes s → Begins (drop from s) k n → w ≡ wordOf k → w < noWord
     → IsFound i s from (record { code = w; form = 0; end = from + n; more = true })
 found-word i from k n w s h l b g e m =
     let t : length (drop from s) ≡ length s - from = length-drop from s in

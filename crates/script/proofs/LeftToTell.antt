@@ -16,8 +16,8 @@ use native.Mathlib.Omega.{arith}
 use borrow.Author.Tests.{lt-leb}
 use Rattle.bitset.specs.Tests.{every}
 use Rattle.bitset.specs.Tests.Laws.{is-false}
-use Rattle.script.specs.Text.{lines, values, after}
-use Rattle.script.specs.Names.{isNames}
+use Rattle.script.specs.Text.{bytes, same, lines, values, after}
+use Rattle.script.specs.Names.{names, among, isNames}
 use Rattle.script.specs.Line.{readLine}
 use Rattle.script.specs.Report.{Bench, answerLine, lineText, answered, lastLine, firstBench, below}
 use Rattle.script.specs.Private.Slices.{before, written, Put}
@@ -100,7 +100,7 @@ unfolding fromNames below closing lines
 names-none = refl
 
 empty-bad : isNames (values []) ≡ false
-unfolding isNames values every
+unfolding isNames names values among same bytes every
 empty-bad = refl
 
 pub names-end : (s : List ℕ) → length s ≤ length (before 10 s) → fromNames s ≡ cond (isNames (values s)) (fromLine (values s) firstBench 1 []) refused

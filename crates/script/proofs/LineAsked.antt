@@ -2,25 +2,27 @@
 --     read-bad, read-unknown, read-halves      a line that can't be read; an unknown word; the two halves of the fields
 --     asks-by, asks-fault                      what the first half is
 -- Assumes nothing.
-use Prim.Native.Nat.{ℕ, _≤_, _<_}
+use Prim.Native.Nat.{ℕ, zero, suc, _≤_, _<_}
 use mathlib.Core.Path.{_≡_, refl, ap, sym, _∙_}
 use mathlib.Core.Bool.{Bool, true, false, not, cond, _&&_, _||_, true≢false}
 use mathlib.Core.List.{List, []}
 use lib.Dec.{leb, ltb, eqb}
 use lib.ListN.{length, getD, length-map}
-use borrow.Author.Tests.{le-leb, lt-leb, ltb-true, ltb-false}
+use borrow.Author.Tests.{eqb-true, le-leb, lt-leb, ltb-true, ltb-false}
 use Rattle.bitset.specs.Tests.{every}
+use Rattle.bitset.specs.Tests.Laws.{none-below}
 use Rattle.script.specs.Text.{values}
-use Rattle.script.specs.Names.{names, under, Ordered}
+use Rattle.script.specs.Names.{allNames, under, Ordered}
 use Rattle.script.specs.Line.{used, Numbers, these, asks, lineOf, readLine}
-use Rattle.script.specs.Private.Rows.{noWord, fine, IsRow, takeFrom, ahead, members}
+use Rattle.script.specs.Private.Rows.{noWord, fine, fills, IsRow, takeFrom, ahead, members}
 use Rattle.script.specs.declared.line.Line.{Line}
 use Rattle.script.specs.declared.line.Line.the-variants.{Bad}
 use Rattle.script.specs.declared.fields.Half.{Half}
 use Rattle.script.specs.declared.fields.Half.the-variants.{Fault as Broken}
 use Rattle.script.specs.declared.row.Row.{Row}
 use Rattle.script.proofs.FieldsTaken.{take-split}
-use Rattle.script.proofs.NamePlaces.{names-length}
+use Rattle.script.proofs.ValuesInTurn.{values-some}
+use Rattle.script.proofs.NamePlaces.{names-length, fills-names}
 use Rattle.script.proofs.RowUnderHeader.{row-number, row-given, row-form, row-none}
 use Rattle.script.proofs.LineOfRow.{Held, line-unknown, line-known}
 use Rattle.script.proofs.NoForm.{line-none}
@@ -38,19 +40,33 @@ unfolding readLine every
 read-long h l k = rw (lt-leb (length l) 255 k)
 
 module _ {h : List (List ℕ)} {at l vals : List ℕ} {r : Row} (o : Ordered h at) (d : IsRow at l vals r) where
-  count : length (under h (values l)) ≡ 12
+  count : length (under h (values l)) ≡ 13
   unfolding under
-  count = length-map names _ ∙ names-length
+  count = length-map allNames _ ∙ names-length
+
+  -- so many values as names
+  filled : fills at (length (values l)) ≡ eqb (length (values l)) (length h)
+  filled = go (length (values l)) (values-some l)
+    where
+      go : (n : ℕ) → 0 < n → fills at n ≡ eqb n (length h)
+      go zero m = absurd (none-below 0 m)
+      go (suc j) m = fills-names o j
 
   read-none : r .good ≡ false → Bad ≡ readLine h l
   unfolding readLine every
-  read-none k = go (leb (length l) 255) (eqb (length (values l)) 12) (fine at (values l) 12) refl (sym (d .twelve) ∙ k)
+  read-none k =
+      go (leb (length l) 255) (eqb (length (values l)) (length h)) refl (fine at (values l) (length (values l))) refl
+      (ap (λ (b : Bool). b && fine at (values l) (length (values l))) (sym filled) ∙ sym (d .whole) ∙ k)
     where
-      go : (a b f : Bool) → fine at (values l) 12 ≡ f → (b && f) ≡ false → Bad ≡ cond (a && (b && true)) (lineOf (under h (values l))) Bad
-      go a true false e z = let (i, m, n) = row-none o (values l) e in either-way (a && true) (line-none (under h (values l)) i count m n)
-      go a true true e z = absurd (true≢false z)
-      go true false f e z = refl
-      go false false f e z = refl
+      go : (a b : Bool) → eqb (length (values l)) (length h) ≡ b → (f : Bool) → fine at (values l) (length (values l)) ≡ f → (b && f) ≡ false
+          → Bad ≡ cond (a && (b && true)) (lineOf (under h (values l))) Bad
+      go a true s false e z =
+          let many = eqb-true (length (values l)) (length h) s in
+          let (i, m, n) = row-none o (values l) many (ap (fine at (values l)) (sym many) ∙ e) in
+          either-way (a && true) (line-none (under h (values l)) i count m n)
+      go a true s true e z = absurd (true≢false z)
+      go true false s f e z = refl
+      go false false s f e z = refl
 
   pub read-bad : (not (r .good) || ltb 255 (r .len)) ≡ true → Bad ≡ readLine h l
   read-bad k = go (r .good) refl (ltb 255 (r .len)) refl k
@@ -69,8 +85,11 @@ module _ {h : List (List ℕ)} {at l vals : List ℕ} {r : Row} (o : Ordered h a
         go true e true f z = absurd (true≢false z)
         go false e b f z = absurd (true≢false z)
 
-    parts : (eqb (length (values l)) 12 ≡ true) × (fine at (values l) 12 ≡ true)
-    parts = and-true _ _ (sym (d .twelve) ∙ good .0)
+    parts : (eqb (length (values l)) (length h) ≡ true) × (fine at (values l) (length (values l)) ≡ true)
+    parts = and-true _ _ (ap (λ (b : Bool). b && fine at (values l) (length (values l))) (sym filled) ∙ sym (d .whole) ∙ good .0)
+
+    many : length (values l) ≡ length h
+    many = eqb-true _ _ (parts .0)
 
     read-good : lineOf (under h (values l)) ≡ readLine h l
     unfolding readLine every
@@ -79,23 +98,23 @@ module _ {h : List (List ℕ)} {at l vals : List ℕ} {r : Row} (o : Ordered h a
     held : Held (under h (values l)) vals (r .given)
     held =
         record {
-          twelve = count;
-          number = λ i m. rw (d .holds (good .0)) (row-number o (values l) i m);
-          mark = λ i m. rw (d .marks (good .0)) (row-given o (values l) i m);
-          form = λ i m. row-form o (values l) i m (parts .1);
+          whole = count;
+          number = λ i m. rw (d .holds (good .0), many) (row-number o (values l) many i m);
+          mark = λ i m. rw (d .marks (good .0), many) (row-given o (values l) many i m);
+          form = λ i m. row-form o (values l) many i m (ap (fine at (values l)) (sym many) ∙ parts .1);
         }
 
     pub read-unknown : noWord ≤ getD vals 0 0 → Bad ≡ readLine h l
     read-unknown m = line-unknown _ _ _ held m ∙ read-good
 
-    read-known : (u : ℕ) → getD vals 0 0 < noWord → members u 1 11 ≡ used (getD vals 0 0)
-        → asks (getD vals 0 0) (takeFrom u (r .given) vals 1 11 (these [])) ≡ readLine h l
+    read-known : (u : ℕ) → getD vals 0 0 < noWord → members u 1 12 ≡ used (getD vals 0 0)
+        → asks (getD vals 0 0) (takeFrom u (r .given) vals 1 12 (these [])) ≡ readLine h l
     read-known u m e = line-known _ _ _ u held m e ∙ read-good
 
-    pub read-halves : (u : ℕ) (x : Half) → getD vals 0 0 < noWord → members u 1 11 ≡ used (getD vals 0 0)
+    pub read-halves : (u : ℕ) (x : Half) → getD vals 0 0 < noWord → members u 1 12 ≡ used (getD vals 0 0)
         → ((rest : Numbers) → takeFrom u (r .given) vals 1 6 rest ≡ ahead x rest)
-        → asks (getD vals 0 0) (ahead x (takeFrom u (r .given) vals 7 5 (these []))) ≡ readLine h l
-    read-halves u x m e f = ap (asks (getD vals 0 0)) (sym (f _) ∙ sym (take-split u (r .given) vals 1 6 5 (these []))) ∙ read-known u m e
+        → asks (getD vals 0 0) (ahead x (takeFrom u (r .given) vals 7 6 (these []))) ≡ readLine h l
+    read-halves u x m e f = ap (asks (getD vals 0 0)) (sym (f _) ∙ sym (take-split u (r .given) vals 1 6 6 (these []))) ∙ read-known u m e
 
 pub asks-by : (w : ℕ) (x y : Half) (rest : Numbers) → x ≡ y → asks w (ahead y rest) ≡ asks w (ahead x rest)
 asks-by w x y rest e = rw e

@@ -1,25 +1,31 @@
 -- The line of names: which name stands at which place, and where each name stands.
 --     column-most, column-found, among-found, among-i         the place of a name among names
---     names-at, names-length                                  the twelve names are different
+--     twice-e, twice-i                                        names of which none stands twice
+--     names-at, names-length, no-name                         the names are different, and none is empty
+--     twelve, twelve-at                                       the twelve stand in front
 --     map-at                                                  an element of a list of results
---     names-count, name-among                                 a good header has twelve, and each name among them
---     placeOf, place-lt, place-at, at-name, at-lt, at-place   `at` and the place of a name are inverse
+--     Fresh, fresh-few                                        different names, of which there are no more than thirteen
+--     name-among, name-known, name-apart, names-most          a good header: the twelve are among it, each is a name, none stands twice
+--     placeOf, place-at, at-lt, at-place                      `at` and the place of a name are inverse
+--     fills-names                                             so many values as names
 --     under-at                                                the value under a name
 -- Assumes nothing.
-use Prim.Native.Nat.{ℕ, zero, suc, _≤_, _<_}
+use Prim.Native.Nat.{ℕ, zero, suc, _%_, _≤_, _<_}
 use mathlib.Core.Path.{_≡_, refl, ap, sym, _∙_}
-use mathlib.Core.Bool.{Bool, true, false, cond, _||_}
+use mathlib.Core.Bool.{Bool, true, false, not, cond, _&&_, _||_, and-eq-true-iff}
 use mathlib.Core.List.{List, [], _∷_, map}
 use native.Mathlib.Decide.{decLt}
+use native.Mathlib.Nat.{mod-eq-of-lt}
 use native.Mathlib.Omega.{arith}
 use lib.Dec.{eqb, ltb}
-use lib.ListN.{length, getD}
-use borrow.Author.Tests.{eqb-true, lt-ltb, le-ltb}
-use Rattle.bitset.specs.Tests.{all}
-use Rattle.bitset.specs.Tests.Laws.{all-e, every-at, clash, or-true, none-below}
+use lib.ListN.{length, getD, List·getD-append, List·getD-eq-default}
+use borrow.Author.Tests.{eqb-true, eq-eqb, ltb-true, lt-ltb}
+use Rattle.bitset.specs.Tests.{every, all}
+use Rattle.bitset.specs.Tests.Laws.{all-e, both, every-i, every-at, clash, is-false, not-of-false, of-not-true, or-true, none-below}
 use Rattle.guard.proofs.Laws.Pigeons.{Meet, pigeons}
 use Rattle.script.specs.Text.{bytes, same}
-use Rattle.script.specs.Names.{names, column, among, isNames, under, Ordered}
+use Rattle.script.specs.Names.{names, optionalNames, allNames, column, among, noneTwice, isNames, under, Ordered}
+use Rattle.script.specs.Private.Rows.{nameAt, fills}
 use Rattle.script.proofs.ByKey.{same-eq, same-self}
 
 pub column-most : (p : List ℕ) (ps : List (List ℕ)) → column p ps ≤ length ps
@@ -56,93 +62,179 @@ among-i p [] k l e = absurd (none-below k l)
 among-i p (q ∷ ps) zero l e = rw (e, same-self p)
 among-i p (q ∷ ps) (suc k) l e = rw (among-i p ps k (omega arith) e) (or-true (same p q))
 
--- ---- the twelve names
-names-right : all 12 (λ i. eqb (column (getD names i []) names) i) ≡ true
-unfolding all names column same bytes
+-- ---- none stands twice
+pub twice-e : (ps : List (List ℕ)) → noneTwice ps ≡ true → (a b : ℕ) → a < b → b < length ps → getD ps a [] ≡ getD ps b [] → ⊥
+unfolding noneTwice
+twice-e [] h a b l m e = none-below b m
+twice-e (p ∷ ps) h a zero l m e = none-below a l
+twice-e (p ∷ ps) h zero (suc b) l m e = clash (among ps p) (among-i p ps b (omega arith) (sym e)) (of-not-true _ (every-at _ h 0))
+twice-e (p ∷ ps) h (suc a) (suc b) l m e = twice-e ps (every-at _ h 1) a b (omega arith) (omega arith) e
+
+pub twice-i : (ps : List (List ℕ)) → ((a b : ℕ) → a < b → b < length ps → getD ps a [] ≡ getD ps b [] → ⊥) → noneTwice ps ≡ true
+unfolding noneTwice
+twice-i [] apart = refl
+twice-i (p ∷ ps) apart =
+    every-i _ (
+      not-of-false _ (is-false (among ps p) (λ m. let l = among-found p ps m in apart 0 (suc (column p ps)) (omega arith) (omega arith) (sym (column-found p ps l)))),
+      (twice-i ps (λ a b l m. apart (suc a) (suc b) (omega arith) (omega arith)), tt),
+    )
+
+-- ---- the names
+names-right : all 13 (λ i. eqb (column (getD allNames i []) allNames) i) ≡ true
+unfolding all allNames names optionalNames column same bytes
 names-right = refl
 
-pub names-at : (i : ℕ) → i < 12 → column (getD names i []) names ≡ i
-names-at i h = eqb-true _ _ (all-e 12 (λ k. eqb (column (getD names k []) names) k) names-right i h)
+pub names-at : (i : ℕ) → i < 13 → column (getD allNames i []) allNames ≡ i
+names-at i h = eqb-true _ _ (all-e 13 (λ k. eqb (column (getD allNames k []) allNames) k) names-right i h)
 
-pub names-length : length names ≡ 12
-unfolding names
+pub names-length : length allNames ≡ 13
+unfolding allNames names optionalNames
 names-length = refl
+
+pub no-name : column [] allNames ≡ 13
+unfolding allNames names optionalNames column same bytes
+no-name = refl
+
+-- the twelve stand in front
+pub twelve : length names ≡ 12
+unfolding names
+twelve = refl
+
+pub twelve-at : (i : ℕ) → i < 12 → column (getD names i []) allNames ≡ i
+unfolding allNames
+twelve-at i l = ap (λ (p : List ℕ). column p allNames) (sym (List·getD-append names optionalNames [] i (rw twelve l))) ∙ names-at i (omega arith)
 
 pub map-at : {A B : Type 0} (f : A → B) (l : List A) (i : ℕ) (d : A) (e : B) → i < length l → getD (map f l) i e ≡ f (getD l i d)
 map-at f [] i d e h = absurd (none-below i h)
 map-at f (x ∷ l) zero d e h = refl
 map-at f (x ∷ l) (suc i) d e h = map-at f l i d e (omega arith)
 
--- ---- where each name stands
-unfoldable pub placeOf : List (List ℕ) → ℕ → ℕ
-placeOf h i = column (getD names i []) h
+-- two texts at one place among the names are the same
+pub named-alike : (p q : List ℕ) → column p allNames ≡ column q allNames → column q allNames < 13 → p ≡ q
+named-alike p q e l =
+    sym (column-found p allNames (omega (arith, names-length)))
+    ∙ ap (λ (k : ℕ). getD allNames k []) e
+    ∙ column-found q allNames (omega (arith, names-length))
 
--- the places of the twelve names, and j behind them
-placeOr : List (List ℕ) → ℕ → ℕ → ℕ
-placeOr h j k = cond (ltb k 12) (placeOf h k) j
+-- ---- the first n of a header: each is a name, and none stands twice
+pub record Fresh (h : List (List ℕ)) (n : ℕ) : Type 0 where
+  pub known : (k : ℕ) → k < n → column (getD h k []) allNames < 13
+  pub apart : (a b : ℕ) → a < b → b < n → column (getD h a []) allNames ≡ column (getD h b []) allNames → ⊥
 
-placeOr-name : (h : List (List ℕ)) (j k : ℕ) → k < 12 → placeOr h j k ≡ placeOf h k
-unfolding placeOr
-placeOr-name h j k l = rw (lt-ltb k 12 l)
+-- of fourteen two would be the same
+pub fresh-few : (h : List (List ℕ)) (n : ℕ) → Fresh h n → n ≤ 13
+fresh-few h n f = go (decLt 13 n)
+  where
+    go : Dec (13 < n) → n ≤ 13
+    go (no m) = omega arith
+    go (yes m) = absurd (meet (pigeons 13 (λ k. column (getD h k []) allNames) (λ k l. f .known k (omega arith))))
+      where
+        meet : Meet (λ k. column (getD h k []) allNames) 13 → ⊥
+        meet (a, b, l, t, e) = f .apart a b l (omega arith) e
 
-placeOr-last : (h : List (List ℕ)) (j k : ℕ) → 12 ≤ k → placeOr h j k ≡ j
-unfolding placeOr
-placeOr-last h j k l = rw (le-ltb k 12 l)
-
-apart : {a b : ℕ} → a < b → a ≡ b → ⊥
-apart h e = omega arith
-
+-- ---- a good header
 module _ (h : List (List ℕ)) (good : isNames h ≡ true) where
-  pub names-count : length h ≡ 12
-  unfolding isNames
-  names-count = eqb-true (length h) 12 (every-at _ good 0)
-
   pub name-among : (i : ℕ) → i < 12 → among h (getD names i []) ≡ true
   unfolding isNames
-  name-among i l = sym (map-at (among h) names i [] true (rw names-length l)) ∙ every-at (eqb (length h) 12 ∷ map (among h) names) good (suc i)
+  name-among i l = sym (map-at (among h) names i [] true (rw twelve l)) ∙ every-at (map (among h) names) (every-at _ good 0) i
+
+  pub name-known : (k : ℕ) → k < length h → column (getD h k []) allNames < 13
+  unfolding isNames
+  name-known k l =
+      let known : among allNames (getD h k []) ≡ true = sym (map-at (among allNames) h k [] true l) ∙ every-at (map (among allNames) h) (every-at _ good 1) k in
+      omega (arith, among-found (getD h k []) allNames known, names-length)
+
+  pub name-apart : (a b : ℕ) → a < b → b < length h → getD h a [] ≡ getD h b [] → ⊥
+  unfolding isNames
+  name-apart = twice-e h (every-at _ good 2)
+
+  -- each stands at its own place first
+  first-at : (j : ℕ) → j < length h → column (getD h j []) h ≡ j
+  first-at j l = go (decLt (column (getD h j []) h) j) (decLt j (column (getD h j []) h))
+    where
+      there : column (getD h j []) h < length h
+      there = among-found (getD h j []) h (among-i (getD h j []) h j l refl)
+
+      found : getD h (column (getD h j []) h) [] ≡ getD h j []
+      found = column-found (getD h j []) h there
+
+      go : Dec (column (getD h j []) h < j) → Dec (j < column (getD h j []) h) → column (getD h j []) h ≡ j
+      go (yes m) d = absurd (name-apart (column (getD h j []) h) j m l found)
+      go (no m) (yes n) = absurd (name-apart j (column (getD h j []) h) n there (sym found))
+      go (no m) (no n) = omega arith
+
+  pub names-most : length h ≤ 13
+  names-most =
+      fresh-few h (length h)
+      (record { known = name-known; apart = λ a b l m e. name-apart a b l m (named-alike _ _ e (name-known b m)) })
+
+-- ---- where each name stands
+unfoldable pub placeOf : List (List ℕ) → ℕ → ℕ
+placeOf h i = column (getD allNames i []) h
 
 module _ {h : List (List ℕ)} {at : List ℕ} (o : Ordered h at) where
-  pub place-lt : (i : ℕ) → i < 12 → placeOf h i < 12
+  most : length h ≤ 13
+  most = names-most h (o .good)
+
+  at-name : (j : ℕ) → j < length h → getD at j 0 ≡ column (getD h j []) allNames
+  at-name j l = o .place j (omega (arith, most))
+
+  pub at-lt : (j : ℕ) → j < length h → getD at j 0 < 13
+  at-lt j l = rw (at-name j l) (name-known h (o .good) j l)
+
+  pub at-place : (j : ℕ) → j < length h → placeOf h (getD at j 0) ≡ j
   unfolding placeOf
-  place-lt i l = rw (← names-count h (o .good)) (among-found (getD names i []) h (name-among h (o .good) i l))
+  at-place j l =
+      ap (λ (k : ℕ). column (getD allNames k []) h) (at-name j l)
+      ∙ ap (λ (p : List ℕ). column p h) (column-found (getD h j []) allNames (omega (arith, name-known h (o .good) j l, names-length)))
+      ∙ first-at h (o .good) j l
 
-  pub place-at : (i : ℕ) → i < 12 → getD at (placeOf h i) 0 ≡ i
+  pub place-at : (i : ℕ) → i < 13 → placeOf h i < length h → getD at (placeOf h i) 0 ≡ i
   unfolding placeOf
-  place-at i l =
-      o .place (placeOf h i) (place-lt i l)
-      ∙ ap (λ (p : List ℕ). column p names) (column-found (getD names i []) h (among-found (getD names i []) h (name-among h (o .good) i l)))
-      ∙ names-at i l
+  place-at i l m =
+      at-name (placeOf h i) m ∙ ap (λ (p : List ℕ). column p allNames) (column-found (getD allNames i []) h m) ∙ names-at i l
 
-  place-apart : (a b : ℕ) → a < 12 → b < 12 → placeOf h a ≡ placeOf h b → a ≡ b
-  place-apart a b l m e = sym (place-at a l) ∙ ap (λ (k : ℕ). getD at k 0) e ∙ place-at b m
+  -- behind the last name none stands
+  at-none : (j : ℕ) → j < 16 → length h ≤ j → getD at j 0 ≡ 13
+  at-none j l m = o .place j l ∙ ap (λ (p : List ℕ). column p allNames) (List·getD-eq-default h [] {n = j} m) ∙ no-name
 
-  -- of the twelve places and j, two are the same
-  pub at-name : (j : ℕ) → j < 12 → (i : ℕ) × (i < 12) × (placeOf h i ≡ j)
-  at-name j l = meet (pigeons 12 (placeOr h j) below)
+  name-in : (j : ℕ) → j < length h → nameAt at j < 13
+  name-in j l = let same : nameAt at j ≡ getD at j 0 = mod-eq-of-lt (omega (arith, at-lt j l)) in rw same (at-lt j l)
+
+  none-in : (j : ℕ) → j < 16 → length h ≤ j → nameAt at j ≡ 13
+  none-in j l m = rw (at-none j l m)
+
+  pub fills-names : (j : ℕ) → fills at (suc j) ≡ eqb (suc j) (length h)
+  unfolding fills
+  fills-names j = both _ _ forth back
     where
-      below : (k : ℕ) → k ≤ 12 → placeOr h j k < 12
-      below k m = go (decLt k 12)
-        where
-          go : Dec (k < 12) → placeOr h j k < 12
-          go (yes n) = rw (placeOr-name h j k n) (place-lt k n)
-          go (no n) = rw (placeOr-last h j k (omega arith)) l
+      within : Dec (j < length h) → suc j < 16 → nameAt at j < 13 → j < length h
+      within (yes m) l n = m
+      within (no m) l n = absurd (omega (arith, none-in j (omega arith) (omega arith)))
 
-      meet : Meet (placeOr h j) 12 → (i : ℕ) × (i < 12) × (placeOf h i ≡ j)
-      meet (a, b, m, n, e) = go (decLt b 12)
-        where
-          first : placeOr h j a ≡ placeOf h a
-          first = placeOr-name h j a (omega arith)
+      last : Dec (suc j < length h) → nameAt at (suc j) ≡ 13 → length h ≤ suc j
+      last (yes m) n = absurd (omega (arith, name-in (suc j) m))
+      last (no m) n = omega arith
 
-          go : Dec (b < 12) → (i : ℕ) × (i < 12) × (placeOf h i ≡ j)
-          go (yes k) = absurd (apart m (place-apart a b (omega arith) k (sym first ∙ e ∙ placeOr-name h j b k)))
-          go (no k) = (a, omega arith, sym first ∙ e ∙ placeOr-last h j b (omega arith))
+      forth : (ltb (suc j) 16 && (ltb (nameAt at j) 13 && eqb (nameAt at (suc j)) 13)) ≡ true → eqb (suc j) (length h) ≡ true
+      forth t =
+          let (a, more) = and-eq-true-iff (ltb (suc j) 16) (ltb (nameAt at j) 13 && eqb (nameAt at (suc j)) 13) .0 t in
+          let (b, c) = and-eq-true-iff (ltb (nameAt at j) 13) (eqb (nameAt at (suc j)) 13) .0 more in
+          let here = within (decLt j (length h)) (ltb-true (suc j) 16 a) (ltb-true (nameAt at j) 13 b) in
+          let over = last (decLt (suc j) (length h)) (eqb-true (nameAt at (suc j)) 13 c) in
+          eq-eqb (suc j) (length h) (omega arith)
 
-  pub at-lt : (j : ℕ) → j < 12 → getD at j 0 < 12
-  at-lt j l = let (i, m, e) = at-name j l in rw (← e, place-at i m) m
+      back : eqb (suc j) (length h) ≡ true → (ltb (suc j) 16 && (ltb (nameAt at j) 13 && eqb (nameAt at (suc j)) 13)) ≡ true
+      back t =
+          let e = eqb-true (suc j) (length h) t in
+          and-eq-true-iff (ltb (suc j) 16) (ltb (nameAt at j) 13 && eqb (nameAt at (suc j)) 13) .1 (
+            lt-ltb (suc j) 16 (omega (arith, most)),
+            and-eq-true-iff (ltb (nameAt at j) 13) (eqb (nameAt at (suc j)) 13) .1 (
+              lt-ltb (nameAt at j) 13 (name-in j (omega arith)),
+              eq-eqb (nameAt at (suc j)) 13 (none-in (suc j) (omega (arith, most)) (omega arith)),
+            ),
+          )
 
-  pub at-place : (j : ℕ) → j < 12 → placeOf h (getD at j 0) ≡ j
-  at-place j l = let (i, m, e) = at-name j l in ap (λ (k : ℕ). placeOf h (getD at k 0)) (sym e) ∙ ap (placeOf h) (place-at i m) ∙ e
-
-  pub under-at : (vs : List (List ℕ)) (i : ℕ) → i < 12 → getD (under h vs) i [] ≡ getD vs (placeOf h i) []
+  pub under-at : (vs : List (List ℕ)) (i : ℕ) → i < 13 → getD (under h vs) i [] ≡ getD vs (placeOf h i) (bytes "-")
   unfolding under placeOf
-  under-at vs i l = map-at (λ (n : List ℕ). getD vs (column n h) []) names i [] [] (rw names-length l)
+  under-at vs i l = map-at (λ (n : List ℕ). getD vs (column n h) (bytes "-")) allNames i [] [] (rw names-length l)

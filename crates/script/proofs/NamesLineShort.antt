@@ -1,4 +1,4 @@
--- A good names line is short: its values are the names-length names in some order, so that it is as long as the sample's.
+-- A good names line is short: its values are different names, so that it is no longer than all names together.
 --     names-short     a line whose values are the names has at most 255 bytes
 -- Assumes nothing.
 use Prim.Native.Nat.{ℕ, suc, _+_, _≤_, _<_}
@@ -8,13 +8,12 @@ use mathlib.Core.List.{List, [], _∷_, map}
 use lib.Dec.{eqb}
 use lib.ListN.{length}
 use native.Mathlib.Omega.{arith}
-use borrow.Author.Tests.{eqb-true}
 use Rattle.bitset.specs.Tests.{every}
+use Rattle.bitset.specs.Tests.Laws.{is-false, of-not-true, every-at}
 use Rattle.script.specs.Text.{bytes, same, onto, values}
-use Rattle.script.specs.Names.{names, among, isNames}
-use Rattle.script.proofs.ByKey.{same-eq}
+use Rattle.script.specs.Names.{names, optionalNames, allNames, among, noneTwice, isNames}
+use Rattle.script.proofs.ByKey.{same-eq, same-self}
 use Rattle.script.proofs.ValuesInTurn.{values-some}
-use Rattle.script.proofs.NamePlaces.{names-length}
 
 -- ---- how long the line of some values is, with one byte 10 or 32 behind each
 abbrev span : List (List ℕ) → ℕ
@@ -54,16 +53,6 @@ without-span p (q ∷ qs) h = go (same p q) refl h (without-span p qs)
     go true e h more = rw (same-eq p q e)
     go false e h more = omega (arith, more h)
 
-without-length : (p : List ℕ) (qs : List (List ℕ)) → among qs p ≡ true → length qs ≡ suc (length (without p qs))
-unfolding among
-without-length p [] h = absurd (true≢false (sym h))
-without-length p (q ∷ qs) h = go (same p q) h (without-length p qs)
-  where
-    go : (t : Bool) → (t || among qs p) ≡ true → (among qs p ≡ true → length qs ≡ suc (length (without p qs)))
-        → suc (length qs) ≡ suc (length (cond t qs (q ∷ without p qs)))
-    go true h more = refl
-    go false h more = ap suc (more h)
-
 without-other : (p m : List ℕ) (qs : List (List ℕ)) → same m p ≡ false → among qs m ≡ true → among (without p qs) m ≡ true
 unfolding among
 without-other p m [] d h = h
@@ -76,44 +65,28 @@ without-other p m (q ∷ qs) d h = go (same p q) refl (same m q) refl h (without
     go false e true f h more = rw f
     go false e false f h more = rw f (more h)
 
--- ---- texts of which no two are the same, each among some others: the others span no more, if they are no more
-abbrev others : List ℕ → List (List ℕ) → Bool
-others p [] = true
-others p (n ∷ ns) = cond (same n p) false (others p ns)
-
-abbrev distinct : List (List ℕ) → Bool
-distinct [] = true
-distinct (n ∷ ns) = cond (others n ns) (distinct ns) false
-
+-- ---- texts of which none stands twice, each among some others, span no more than the others
 abbrev Among : List (List ℕ) → List (List ℕ) → Type 0
 Among hs [] = Unit {0}
 Among hs (n ∷ ns) = (among hs n ≡ true) × Among hs ns
 
-still : (p : List ℕ) (hs ns : List (List ℕ)) → others p ns ≡ true → Among hs ns → Among (without p hs) ns
+-- n, which is not p, is still among the others without p
+still : (p : List ℕ) (hs ns : List (List ℕ)) → among ns p ≡ false → Among hs ns → Among (without p hs) ns
+unfolding among
 still p hs [] o a = tt
-still p hs (n ∷ ns) o (here, a) = go (same n p) refl o (λ o. still p hs ns o a)
+still p hs (n ∷ ns) o (here, a) = go (same p n) refl o (λ o. still p hs ns o a)
   where
-    go : (t : Bool) → same n p ≡ t → cond t false (others p ns) ≡ true → (others p ns ≡ true → Among (without p hs) ns)
+    go : (t : Bool) → same p n ≡ t → (t || among ns p) ≡ false → (among ns p ≡ false → Among (without p hs) ns)
         → (among (without p hs) n ≡ true) × Among (without p hs) ns
-    go true e o more = absurd (true≢false (sym o))
-    go false e o more = (without-other p n hs e here, more o)
+    go true e o more = absurd (true≢false o)
+    go false e o more = (without-other p n hs (is-false (same n p) (λ m. true≢false (sym (same-self p) ∙ ap (same p) (sym (same-eq n p m)) ∙ e))) here, more o)
 
-bounded : (ns hs : List (List ℕ)) → distinct ns ≡ true → Among hs ns → length hs ≤ length ns → span hs ≤ span ns
-bounded [] [] d a h = omega arith
-bounded [] (q ∷ hs) d a h = absurd (past (length hs) h)
-  where
-    past : (n : ℕ) → suc n ≤ 0 → ⊥
-    past n h = omega arith
-bounded (n ∷ ns) hs d (here, a) h = go (others n ns) refl d (bounded ns (without n hs))
-  where
-    go : (t : Bool) → others n ns ≡ t → cond t (distinct ns) false ≡ true
-        → (distinct ns ≡ true → Among (without n hs) ns → length (without n hs) ≤ length ns → span (without n hs) ≤ span ns)
-        → span hs ≤ length n + 1 + span ns
-    go true e d more =
-        let l : length hs ≡ suc (length (without n hs)) = without-length n hs here in
-        let s : span hs ≡ length n + 1 + span (without n hs) = without-span n hs here in
-        omega (arith, more d (still n hs ns e a) (omega arith))
-    go false e d more = absurd (true≢false (sym d))
+bounded : (ns hs : List (List ℕ)) → noneTwice ns ≡ true → Among hs ns → span ns ≤ span hs
+unfolding noneTwice
+bounded [] hs d a = omega arith
+bounded (n ∷ ns) hs d (here, a) =
+    let s : span hs ≡ length n + 1 + span (without n hs) = without-span n hs here in
+    omega (arith, bounded ns (without n hs) (every-at _ d 1) (still n hs ns (of-not-true _ (every-at _ d 0)) a))
 
 each-among : (hs ns : List (List ℕ)) → every (map (among hs) ns) ≡ true → Among hs ns
 unfolding every
@@ -125,21 +98,12 @@ each-among hs (n ∷ ns) h = go (among hs n) refl h (each-among hs ns)
     go true e h more = (e, more h)
     go false e h more = absurd (true≢false (sym h))
 
-names-distinct : distinct names ≡ true
-unfolding names bytes same
-names-distinct = refl
-
-names-span : span names ≤ 256
-unfolding names bytes
+names-span : span allNames ≤ 256
+unfolding allNames names optionalNames bytes
 names-span = omega arith
 
 pub names-short : (l : List ℕ) → isNames (values l) ≡ true → length l ≤ 255
-unfolding isNames every
-names-short l h = go (eqb (length (values l)) 12) refl h
-  where
-    go : (t : Bool) → eqb (length (values l)) 12 ≡ t → (t && every (map (among (values l)) names)) ≡ true → length l ≤ 255
-    go true e h =
-        let n : length (values l) ≡ 12 = eqb-true _ _ e in
-        let b : span (values l) ≤ span names = bounded names (values l) names-distinct (each-among (values l) names h) (omega (arith, names-length)) in
-        omega (arith, values-span l, names-span)
-    go false e h = absurd (true≢false (sym h))
+unfolding isNames
+names-short l h =
+    let b : span (values l) ≤ span allNames = bounded (values l) allNames (every-at _ h 2) (each-among allNames (values l) (every-at _ h 1)) in
+    omega (arith, values-span l, names-span)

@@ -15,10 +15,10 @@ use native.Mathlib.Omega.{arith}
 use lib.Dec.{eqb, leb}
 use lib.ListN.{length, getD, drop, length-drop}
 use lib.Seq.{getD-drop, drop-drop}
-use borrow.Author.Tests.{eqb-true, eqb-false, ne-eqb, lt-leb}
+use borrow.Author.Tests.{eqb-true, eqb-false, lt-leb, le-ltb}
 use Rattle.script.specs.Text.{values, after}
 use Rattle.script.specs.Private.Slices.{before, leading}
-use Rattle.script.specs.Private.Rows.{codeAt, IsFound, nameAt, codeIn, blank, gathered, marked, fine, IsRow}
+use Rattle.script.specs.Private.Rows.{codeAt, IsFound, nameAt, codeIn, blank, gathered, marked, fine, fills, IsRow}
 use Rattle.script.specs.declared.row.Found.{Found}
 use Rattle.script.proofs.ValuesInTurn.{values-more, values-last, values-some, first-value, after-drop}
 use Rattle.script.proofs.FirstValue.{before-drop, before-rest, lead-most, lead-more, lead-last}
@@ -41,14 +41,20 @@ fine-not at vs j (suc n) l h = go (decLt j n) (λ k. fine-not at vs j n k h)
     go (yes k) ih = rw (ih k)
     go (no k) ih = let e : n ≡ j = omega arith in rw (e, lt-leb (codeIn at vs j) 100000 h) (last (fine at vs j))
 
+-- ---- more values than there are places
+fills-over : (at : List ℕ) (n : ℕ) → 16 ≤ n → fills at n ≡ false
+unfolding fills
+fills-over at zero l = refl
+fills-over at (suc j) l = rw (le-ltb (suc j) 16 l)
+
 -- ---- the loop, over a line l = before 10 s
 pub record Filled (s at vals : List ℕ) (given from j : ℕ) : Type 0 where
   pub within : from ≤ length (before 10 s)
   pub less : j ≤ from
   pub left : drop j (values (before 10 s)) ≡ values (drop from (before 10 s))
-  pub holds : j ≤ 12 → vals ≡ gathered at (values (before 10 s)) j
-  pub marks : j ≤ 12 → given ≡ marked at (values (before 10 s)) j
-  pub good : j ≤ 12 → fine at (values (before 10 s)) j ≡ true
+  pub holds : j ≤ 15 → vals ≡ gathered at (values (before 10 s)) j
+  pub marks : j ≤ 15 → given ≡ marked at (values (before 10 s)) j
+  pub good : j ≤ 15 → fine at (values (before 10 s)) j ≡ true
 
 pub filled-start : (s at vals : List ℕ) → vals ≡ blank → Filled s at vals 0 0 0
 unfolding gathered marked fine
@@ -80,18 +86,19 @@ module _ {s at vals : List ℕ} {given from j : ℕ} (p : Filled s at vals given
       ∙ first-value (drop from l)
       ∙ ap (before 32) rest
 
+  -- there is a value at j
+  some : j < length vs
+  some = omega (arith, ap length (p .left), length-drop j vs, values-some (drop from l))
+
   -- too many values
-  pub row-over : {n g : ℕ} → 12 ≤ j → n ≡ from + length (before 10 (drop from s)) → IsRow at l vals (record { good = false; given = g; len = n })
+  pub row-over : {n g : ℕ} → 15 ≤ j → n ≡ from + length (before 10 (drop from s)) → IsRow at l vals (record { good = false; given = g; len = n })
   row-over {n} {g} h e =
       record {
         long = e ∙ before-rest 10 from s (p .within);
-        twelve = rw (ne-eqb (length vs) 12 (many h));
+        whole = rw (fills-over at (length vs) (omega (arith, some)));
         holds = λ z. cc;
         marks = λ z. cc;
       }
-    where
-      many : 12 ≤ j → length vs ≡ 12 → ⊥
-      many h z = omega (arith, ap length (p .left), length-drop j vs, values-some (drop from l))
 
   module _ {f : Found} (q : IsFound (nameAt at j) s from f) where
     pub code-here : codeIn at vs j ≡ f .code
@@ -102,11 +109,11 @@ module _ {s at vals : List ℕ} {given from j : ℕ} (p : Filled s at vals given
     end-most = omega (arith, q .end, lead-most (drop from s), before-rest 10 from s (p .within))
 
     -- a value of no form
-    pub row-other : {n g : ℕ} → j < 12 → f .form ≡ 2 → n ≡ f .end + length (before 10 (drop (f .end) s)) → IsRow at l vals (record { good = false; given = g; len = n })
-    row-other {n} {g} h o e =
+    pub row-other : {n g : ℕ} → f .form ≡ 2 → n ≡ f .end + length (before 10 (drop (f .end) s)) → IsRow at l vals (record { good = false; given = g; len = n })
+    row-other {n} {g} o e =
         record {
           long = e ∙ before-rest 10 (f .end) s end-most;
-          twelve = rw (fine-not at vs j 12 h (rw code-here (other-form (f .code) (sym (q .form) ∙ o)))) (last (eqb (length vs) 12));
+          whole = rw (fine-not at vs j (length vs) some (rw code-here (other-form (f .code) (sym (q .form) ∙ o)))) (last (fills at (length vs)));
           holds = λ z. cc;
           marks = λ z. cc;
         }

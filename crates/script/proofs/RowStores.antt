@@ -6,17 +6,17 @@
 -- Assumes nothing.
 use Prim.Native.Nat.{ℕ, _+_, _*_, _≤_, _<_}
 use mathlib.Core.Path.{_≡_, refl, ap, sym, _∙_}
-use mathlib.Core.Bool.{Bool, true, false, _&&_}
+use mathlib.Core.Bool.{Bool, true, false, and-true}
 use mathlib.Core.List.{List}
 use native.Mathlib.Numerals.{add-one}
 use native.Mathlib.Omega.{arith}
-use lib.Dec.{eqb, ltb}
+use lib.Dec.{ltb}
 use lib.ListN.{length, getD, set}
-use borrow.Author.Tests.{eqb-true, lt-ltb, le-leb, ltb-true}
+use borrow.Author.Tests.{lt-ltb, le-leb, ltb-true}
 use Rattle.bitset.specs.Sets.{with}
 use Rattle.script.specs.Text.{values}
 use Rattle.script.specs.Private.Slices.{before}
-use Rattle.script.specs.Private.Rows.{IsFound, nameAt, codeIn, gathered, marked, fine, IsRow}
+use Rattle.script.specs.Private.Rows.{IsFound, nameAt, codeIn, gathered, marked, fine, fills, IsRow}
 use Rattle.script.specs.declared.row.Found.{Found}
 use Rattle.script.proofs.ValuesInTurn.{before-most}
 use Rattle.script.proofs.CodeForms.{number-form, dash-form}
@@ -31,37 +31,33 @@ module _ {s at vals : List ℕ} {given from j : ℕ} (p : Filled s at vals given
   vs = values (before 10 s)
 
   row-end : f .more ≡ false → (vals2 : List ℕ) (g : ℕ) → vals2 ≡ gathered at vs (j + 1) → g ≡ marked at vs (j + 1) → fine at vs (j + 1) ≡ true
-      → IsRow at l vals2 (record { good = eqb (j + 1) 12; given = g; len = f .end })
-  row-end m vals2 g a b k =
+      → (last : Bool) → last ≡ fills at (j + 1) → IsRow at l vals2 (record { good = last; given = g; len = f .end })
+  row-end m vals2 g a b k last is =
       record {
         long = line-end p q m;
-        twelve = rw (count p q m) (go (eqb (j + 1) 12) refl);
-        holds = λ z. a ∙ ap (gathered at vs) (eqb-true (j + 1) 12 z);
-        marks = λ z. b ∙ ap (marked at vs) (eqb-true (j + 1) 12 z);
+        whole = rw (count p q m, k) (is ∙ sym (and-true (fills at (j + 1))));
+        holds = λ z. rw (count p q m) a;
+        marks = λ z. rw (count p q m) b;
       }
-    where
-      go : (b : Bool) → eqb (j + 1) 12 ≡ b → b ≡ (b && fine at vs 12)
-      go true e = sym (ap (fine at vs) (sym (eqb-true (j + 1) 12 e)) ∙ k)
-      go false e = refl
 
   -- a number
   module _ (h : f .form ≡ 0) where
     number : ltb (codeIn at vs j) 100000 ≡ true
     number = rw (code-here p q) (lt-ltb (f .code) 100000 (number-form (f .code) (sym (q .form) ∙ h)))
 
-    stored : j < 12 → set vals (nameAt at j) (f .code) ≡ gathered at vs (j + 1)
+    stored : j < 15 → set vals (nameAt at j) (f .code) ≡ gathered at vs (j + 1)
     unfolding gathered
     stored k = rw (add-one, number, code-here p q, p .holds (omega arith))
 
-    noted : j < 12 → with given (nameAt at j) ≡ marked at vs (j + 1)
+    noted : j < 15 → with given (nameAt at j) ≡ marked at vs (j + 1)
     unfolding marked
     noted k = rw (add-one, number, p .marks (omega arith))
 
-    kept : j < 12 → fine at vs (j + 1) ≡ true
+    kept : j < 15 → fine at vs (j + 1) ≡ true
     unfolding fine
     kept k = rw (add-one, p .good (omega arith)) (le-leb (codeIn at vs j) 100000 (omega (arith, ltb-true (codeIn at vs j) 100000 number)))
 
-    pub filled-number : {g : ℕ} → g ≡ with given (nameAt at j) → f .more ≡ true → j < 12 → Filled s at (set vals (nameAt at j) (f .code)) g (f .end + 1) (j + 1)
+    pub filled-number : {g : ℕ} → g ≡ with given (nameAt at j) → f .more ≡ true → j < 15 → Filled s at (set vals (nameAt at j) (f .code)) g (f .end + 1) (j + 1)
     filled-number w m k =
         record {
           within = inside p q m;
@@ -72,24 +68,24 @@ module _ {s at vals : List ℕ} {given from j : ℕ} (p : Filled s at vals given
           good = λ z. kept k;
         }
 
-    pub row-number : {g : ℕ} → g ≡ with given (nameAt at j) → f .more ≡ false → j < 12
-        → IsRow at l (set vals (nameAt at j) (f .code)) (record { good = eqb (j + 1) 12; given = g; len = f .end })
-    row-number w m k = row-end m _ _ (stored k) (w ∙ noted k) (kept k)
+    pub row-number : {g : ℕ} → g ≡ with given (nameAt at j) → f .more ≡ false → j < 15 → {last : Bool} → last ≡ fills at (j + 1)
+        → IsRow at l (set vals (nameAt at j) (f .code)) (record { good = last; given = g; len = f .end })
+    row-number w m k is = row-end m _ _ (stored k) (w ∙ noted k) (kept k) _ is
 
   -- a dash
   module _ (h : f .form ≡ 0 → ⊥) (o : f .form ≡ 2 → ⊥) where
     dash : codeIn at vs j ≡ 100000
     dash = code-here p q ∙ dash-form (f .code) (λ z. h (q .form ∙ z)) (λ z. o (q .form ∙ z))
 
-    stored-dash : j < 12 → vals ≡ gathered at vs (j + 1)
+    stored-dash : j < 15 → vals ≡ gathered at vs (j + 1)
     unfolding gathered
     stored-dash k = rw (add-one, dash) (p .holds (omega arith))
 
-    noted-dash : j < 12 → given ≡ marked at vs (j + 1)
+    noted-dash : j < 15 → given ≡ marked at vs (j + 1)
     unfolding marked
     noted-dash k = rw (add-one, dash) (p .marks (omega arith))
 
-    kept-dash : j < 12 → fine at vs (j + 1) ≡ true
+    kept-dash : j < 15 → fine at vs (j + 1) ≡ true
     unfolding fine
     kept-dash k = rw (add-one, dash, p .good (omega arith))
 
@@ -104,8 +100,8 @@ module _ {s at vals : List ℕ} {given from j : ℕ} (p : Filled s at vals given
           good = λ z. kept-dash (omega arith);
         }
 
-    pub row-dash : f .more ≡ false → j < 12 → IsRow at l vals (record { good = eqb (j + 1) 12; given = given; len = f .end })
-    row-dash m k = row-end m _ _ (stored-dash k) (noted-dash k) (kept-dash k)
+    pub row-dash : f .more ≡ false → j < 15 → {last : Bool} → last ≡ fills at (j + 1) → IsRow at l vals (record { good = last; given = given; len = f .end })
+    row-dash m k is = row-end m _ _ (stored-dash k) (noted-dash k) (kept-dash k) _ is
 
 -- ---- how far the loop is, and a dash with a space behind it
 pub filled-slice : {s at vals : List ℕ} {given from j : ℕ} → Filled s at vals given from j → from ≤ length s

@@ -6,20 +6,21 @@
 use Prim.Native.Nat.{ℕ, zero, suc, _%_, _≤_, _<_}
 use mathlib.Core.Path.{_≡_, refl, ap, sym, _∙_}
 use mathlib.Core.Bool.{Bool, true, false, cond, _&&_, and-eq-true-iff}
-use mathlib.Core.List.{List, []}
+use mathlib.Core.List.{List, [], _∷_}
 use native.Mathlib.Decide.{decLt}
 use native.Mathlib.Nat.{mod-eq-of-lt}
 use native.Mathlib.Omega.{arith}
 use lib.Dec.{leb, ltb}
-use lib.ListN.{length, getD, set, length-set}
+use lib.ListN.{length, getD, set, length-set, List·getD-eq-default}
 use lib.Seq.{getD-set-same, getD-set-other}
 use borrow.Author.Tests.{leb-true, leb-false}
 use Rattle.bitset.specs.Sets.{has, with}
 use Rattle.bitset.specs.Sets.Laws.{has-none, has-with-same, has-with-other}
 use Rattle.bitset.specs.Tests.Laws.{none-below}
+use Rattle.script.specs.Text.{bytes, same}
 use Rattle.script.specs.Names.{under, Ordered}
 use Rattle.script.specs.Private.Rows.{codeAt, nameAt, codeIn, blank, gathered, marked, fine}
-use Rattle.script.proofs.NamePlaces.{placeOf, place-lt, place-at, at-lt, at-place, under-at}
+use Rattle.script.proofs.NamePlaces.{placeOf, place-at, at-lt, at-place, under-at}
 
 -- ---- each value has a form
 module _ (at : List ℕ) (vs : List (List ℕ)) where
@@ -63,15 +64,26 @@ module _ (at : List ℕ) (vs : List (List ℕ)) where
 apart : {a b : ℕ} → a < b → a ≡ b → ⊥
 apart h e = omega arith
 
-module _ {h : List (List ℕ)} {at : List ℕ} (o : Ordered h at) (vs : List (List ℕ)) where
-  name-at : (n : ℕ) → n < 12 → nameAt at n ≡ getD at n 0
+-- a value that is there, whatever stands behind the last
+there : (vs : List (List ℕ)) (k : ℕ) (d e : List ℕ) → k < length vs → getD vs k d ≡ getD vs k e
+there [] k d e l = absurd (none-below k l)
+there (v ∷ vs) zero d e l = refl
+there (v ∷ vs) (suc k) d e l = there vs k d e (omega arith)
+
+-- a dash has the code of a dash under every name
+dash-code : (i : ℕ) → codeAt i (bytes "-") ≡ 100000
+unfolding codeAt same bytes
+dash-code i = refl
+
+module _ {h : List (List ℕ)} {at : List ℕ} (o : Ordered h at) (vs : List (List ℕ)) (many : length vs ≡ length h) where
+  name-at : (n : ℕ) → n < length h → nameAt at n ≡ getD at n 0
   name-at n l = mod-eq-of-lt (omega (arith, at-lt o n l))
 
   -- a name that stands elsewhere
-  other : (n i : ℕ) → n < 12 → (placeOf h i ≡ n → ⊥) → i ≡ nameAt at n → ⊥
+  other : (n i : ℕ) → n < length h → (placeOf h i ≡ n → ⊥) → i ≡ nameAt at n → ⊥
   other n i l k e = k (ap (placeOf h) (e ∙ name-at n l) ∙ at-place o n l)
 
-  gathered-before : (n i : ℕ) → n ≤ 12 → n ≤ placeOf h i → getD (gathered at vs n) i 0 ≡ getD blank i 0
+  gathered-before : (n i : ℕ) → n ≤ length h → n ≤ placeOf h i → getD (gathered at vs n) i 0 ≡ getD blank i 0
   unfolding gathered
   gathered-before zero i m k = refl
   gathered-before (suc n) i m k = go (ltb (codeIn at vs n) 100000) (gathered-before n i (omega arith) (omega arith))
@@ -84,7 +96,7 @@ module _ {h : List (List ℕ)} {at : List ℕ} (o : Ordered h at) (vs : List (Li
       go true ih = getD-set-other (gathered at vs n) (nameAt at n) i _ 0 (other n i (omega arith) (later k)) ∙ ih
       go false ih = ih
 
-  marked-before : (n i : ℕ) → n ≤ 12 → n ≤ placeOf h i → has (marked at vs n) i ≡ false
+  marked-before : (n i : ℕ) → n ≤ length h → n ≤ placeOf h i → has (marked at vs n) i ≡ false
   unfolding marked
   marked-before zero i m k = has-none i
   marked-before (suc n) i m k = go (ltb (codeIn at vs n) 100000) (marked-before n i (omega arith) (omega arith))
@@ -96,11 +108,11 @@ module _ {h : List (List ℕ)} {at : List ℕ} (o : Ordered h at) (vs : List (Li
       go true ih = has-with-other (marked at vs n) (nameAt at n) i (other n i (omega arith) (later k)) ∙ ih
       go false ih = ih
 
-  module _ (i : ℕ) (l : i < 12) where
-    here : (n : ℕ) → placeOf h i ≡ n → nameAt at n ≡ i
-    here n e = ap (λ (k : ℕ). getD at k 0 % 16) (sym e) ∙ ap (λ (k : ℕ). k % 16) (place-at o i l) ∙ mod-eq-of-lt (omega arith)
+  module _ (i : ℕ) (l : i < 13) where
+    here : (n : ℕ) → n < length h → placeOf h i ≡ n → nameAt at n ≡ i
+    here n b e = ap (λ (k : ℕ). getD at k 0 % 16) (sym e) ∙ ap (λ (k : ℕ). k % 16) (place-at o i l (rw e b)) ∙ mod-eq-of-lt (omega arith)
 
-    gathered-at : (n : ℕ) → n ≤ 12 → placeOf h i < n
+    gathered-at : (n : ℕ) → n ≤ length h → placeOf h i < n
         → getD (gathered at vs n) i 0 ≡ cond (ltb (codeIn at vs (placeOf h i)) 100000) (codeIn at vs (placeOf h i)) (getD blank i 0)
     unfolding gathered
     gathered-at zero m k = absurd (none-below _ k)
@@ -114,12 +126,12 @@ module _ {h : List (List ℕ)} {at : List ℕ} (o : Ordered h at) (vs : List (Li
         go (yes q) false e ih = ih q
         go (no q) true e ih =
             let this : placeOf h i ≡ n = omega arith in
-            rw (this, e, here n this) (getD-set-same (gathered at vs n) i _ 0 (omega (arith, gathered-length at vs n)))
+            rw (this, e, here n (omega arith) this) (getD-set-same (gathered at vs n) i _ 0 (omega (arith, gathered-length at vs n)))
         go (no q) false e ih =
             let this : placeOf h i ≡ n = omega arith in
             rw (this, e) (gathered-before n i (omega arith) (omega arith))
 
-    marked-at : (n : ℕ) → n ≤ 12 → placeOf h i < n → has (marked at vs n) i ≡ ltb (codeIn at vs (placeOf h i)) 100000
+    marked-at : (n : ℕ) → n ≤ length h → placeOf h i < n → has (marked at vs n) i ≡ ltb (codeIn at vs (placeOf h i)) 100000
     unfolding marked
     marked-at zero m k = absurd (none-below _ k)
     marked-at (suc n) m k = go (decLt (placeOf h i) n) (ltb (codeIn at vs n) 100000) refl (marked-at n (omega arith))
@@ -131,28 +143,46 @@ module _ {h : List (List ℕ)} {at : List ℕ} (o : Ordered h at) (vs : List (Li
         go (yes q) false e ih = ih q
         go (no q) true e ih =
             let this : placeOf h i ≡ n = omega arith in
-            rw (this, e, here n this) (has-with-same (marked at vs n) i)
+            rw (this, e, here n (omega arith) this) (has-with-same (marked at vs n) i)
         go (no q) false e ih =
             let this : placeOf h i ≡ n = omega arith in
             rw (this, e) (marked-before n i (omega arith) (omega arith))
 
-    code-under : codeIn at vs (placeOf h i) ≡ codeAt i (getD (under h vs) i [])
+    -- the name stands in the header, or its field counts as a dash
+    code-under : placeOf h i < length h → codeIn at vs (placeOf h i) ≡ codeAt i (getD (under h vs) i [])
     unfolding codeIn
-    code-under = rw (here (placeOf h i) refl, under-at o vs i l)
+    code-under m = rw (here (placeOf h i) m refl, under-at o vs i l) (ap (codeAt i) (there vs (placeOf h i) [] (bytes "-") (rw many m)))
 
-    pub row-number : getD (gathered at vs 12) i 0
+    code-lacking : length h ≤ placeOf h i → codeAt i (getD (under h vs) i []) ≡ 100000
+    code-lacking m = ap (codeAt i) (under-at o vs i l ∙ List·getD-eq-default vs (bytes "-") {n = placeOf h i} (rw many m)) ∙ dash-code i
+
+    pub row-number : getD (gathered at vs (length h)) i 0
         ≡ cond (ltb (codeAt i (getD (under h vs) i [])) 100000) (codeAt i (getD (under h vs) i [])) (getD blank i 0)
-    row-number = rw (← code-under) (gathered-at 12 (omega arith) (place-lt o i l))
+    row-number = go (decLt (placeOf h i) (length h))
+      where
+        go : Dec (placeOf h i < length h)
+            → getD (gathered at vs (length h)) i 0 ≡ cond (ltb (codeAt i (getD (under h vs) i [])) 100000) (codeAt i (getD (under h vs) i [])) (getD blank i 0)
+        go (yes m) = rw (← code-under m) (gathered-at (length h) (omega arith) m)
+        go (no m) = rw (code-lacking (omega arith)) (gathered-before (length h) i (omega arith) (omega arith))
 
-    pub row-given : has (marked at vs 12) i ≡ ltb (codeAt i (getD (under h vs) i [])) 100000
-    row-given = rw (← code-under) (marked-at 12 (omega arith) (place-lt o i l))
+    pub row-given : has (marked at vs (length h)) i ≡ ltb (codeAt i (getD (under h vs) i [])) 100000
+    row-given = go (decLt (placeOf h i) (length h))
+      where
+        go : Dec (placeOf h i < length h) → has (marked at vs (length h)) i ≡ ltb (codeAt i (getD (under h vs) i [])) 100000
+        go (yes m) = rw (← code-under m) (marked-at (length h) (omega arith) m)
+        go (no m) = rw (code-lacking (omega arith)) (marked-before (length h) i (omega arith) (omega arith))
 
-    pub row-form : fine at vs 12 ≡ true → codeAt i (getD (under h vs) i []) ≤ 100000
-    row-form f = rw (← code-under) (fine-at at vs 12 (placeOf h i) f (place-lt o i l))
+    pub row-form : fine at vs (length h) ≡ true → codeAt i (getD (under h vs) i []) ≤ 100000
+    row-form f = go (decLt (placeOf h i) (length h))
+      where
+        go : Dec (placeOf h i < length h) → codeAt i (getD (under h vs) i []) ≤ 100000
+        go (yes m) = rw (← code-under m) (fine-at at vs (length h) (placeOf h i) f m)
+        go (no m) = omega (arith, code-lacking (omega arith))
 
-  pub row-none : fine at vs 12 ≡ false → (i : ℕ) × (i < 12) × (100000 < codeAt i (getD (under h vs) i []))
+  pub row-none : fine at vs (length h) ≡ false → (i : ℕ) × (i < 13) × (100000 < codeAt i (getD (under h vs) i []))
   row-none f =
-      let (k, l, m) = fine-none at vs 12 f in
+      let (k, l, m) = fine-none at vs (length h) f in
       let i = getD at k 0 in
-      let n : i < 12 = at-lt o k l in
-      (i, n, rw (← code-under i n, at-place o k l) m)
+      let n : i < 13 = at-lt o k l in
+      let place : placeOf h i ≡ k = at-place o k l in
+      (i, n, rw (← code-under i n (rw place l), place) m)

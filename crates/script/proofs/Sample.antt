@@ -4,8 +4,8 @@ use mathlib.Core.List.{List}
 use Prim.Native.Nat.{ℕ}
 use Rattle.guard.proofs.Compute.{computing}
 use Rattle.script.specs.Text.{bytes, same, onto, lines, values, allDigits, number, place, decimal}
-use Rattle.script.specs.Names.{names, column, among, isNames, under}
-use Rattle.script.specs.Line.{valueOf, requestWords, words, ordinal, isUsed, fields, used, joined, taken, takeAll, asks, lineOf, readLine}
+use Rattle.script.specs.Names.{names, optionalNames, allNames, column, among, noneTwice, isNames, under}
+use Rattle.script.specs.Line.{valueOf, requestWords, words, ordinal, isUsed, fields, optionalFields, used, joined, taken, takeAll, asks, lineOf, readLine}
 use Rattle.script.specs.Report.{withUser, userInRanges, answerLine, heading, lineText, answered, below, report}
 
 abbrev input : List ℕ
@@ -15,5 +15,5 @@ abbrev output : List ℕ
 output = bytes "line answer\n2 0\n3 0\n4 0\n5 0\n6 16\n7 5\n"
 
 pub sample : report input ≡ output
-unfolding computing bytes same onto lines values allDigits number place decimal names column among isNames under valueOf requestWords words ordinal isUsed fields used joined taken takeAll asks lineOf readLine withUser userInRanges answerLine heading lineText answered below report
+unfolding computing bytes same onto lines values allDigits number place decimal names optionalNames allNames column among noneTwice isNames under valueOf requestWords words ordinal isUsed fields optionalFields used joined taken takeAll asks lineOf readLine withUser userInRanges answerLine heading lineText answered below report
 sample = refl

@@ -4,7 +4,7 @@
 --     values-last, values-more, values-some       the first value and the others
 --     to-end                                      a part up to the end
 --     Reached, reached-start                      how far a loop over the values is
---     reached-here, reached-end, reached-over, reached-next        the value there; the last one; too many; the next one
+--     reached-some, reached-here, reached-end, reached-next        there is a value; the value there; the last one; the next one
 -- Assumes nothing.
 use Prim.Native.Nat.{ℕ, suc, _+_, _-_, _≤_, _<_}
 use mathlib.Core.Path.{_≡_, refl, ap, sym, _∙_}
@@ -16,7 +16,6 @@ use native.Mathlib.Omega.{arith}
 use lib.Dec.{eqb}
 use lib.ListN.{length, getD, take, drop, length-drop}
 use lib.Seq.{length-take-le, take-all, getD-drop, drop-drop}
-use borrow.Author.Tests.{ne-eqb}
 use Rattle.script.specs.Text.{values, onto, after}
 use Rattle.script.specs.Private.Slices.{before}
 
@@ -77,14 +76,13 @@ values-last (b ∷ s) h = go (eqb b 32) (values-last s) h
 pub part-length : (d : ℕ) (s : List ℕ) (e : ℕ) → e ≡ length (before d s) → e ≡ length (take e s)
 part-length d s e h = sym (length-take-le e s (omega (arith, before-most d s)))
 
--- where the values of s from place j on are those of s from byte `from` on, and there is room for one more
+-- where the values of s from place j on are those of s from byte `from` on
 pub record Reached (s : List ℕ) (from j : ℕ) : Type 0 where
   pub within : from ≤ length s
-  pub few : j < 12
   pub left : drop j (values s) ≡ values (drop from s)
 
 pub reached-start : (s : List ℕ) → Reached s 0 0
-reached-start s = record { within = omega arith; few = omega arith; left = refl }
+reached-start s = record { within = omega arith; left = refl }
 
 pub to-end : (n : ℕ) (l : List ℕ) → take (length l - n) (drop n l) ≡ drop n l
 to-end n l = take-all (length l - n) (drop n l) (rw length-drop (omega arith))
@@ -103,6 +101,9 @@ values-some s = go (decLt (length (before 32 s)) (length s))
     go : Dec (length (before 32 s) < length s) → 0 < length (values s)
     go (yes h) = rw (values-more s h) (omega arith)
     go (no h) = rw (values-last s (omega arith)) (omega arith)
+
+pub reached-some : {s : List ℕ} {from j : ℕ} → Reached s from j → j < length (values s)
+reached-some {s} {from} {j} p = omega (arith, ap length (p .left), length-drop j (values s), values-some (drop from s))
 
 module _ {s : List ℕ} {from j e : ℕ} (p : Reached s from j) (f : e ≡ length (before 32 (take (length s - from) (drop from s)))) where
   onward : (n : ℕ) → from + suc n ≡ from + n + 1
@@ -136,17 +137,5 @@ module _ {s : List ℕ} {from j e : ℕ} (p : Reached s from j) (f : e ≡ lengt
       ∙ ap (drop 1) v
       ∙ ap values (sym w ∙ drop-drop (suc e) from s ∙ ap (λ (n : ℕ). drop n s) (onward e))
 
-  too-many : e < length (take (length s - from) (drop from s)) → 12 ≤ j + 1 → length (values s) ≡ 12 → ⊥
-  too-many h k n =
-      omega (
-        arith,
-        ap length (next-left h),
-        length-drop (j + 1) (values s),
-        values-some (drop (from + e + 1) s),
-      )
-
-  pub reached-over : e < length (take (length s - from) (drop from s)) → 12 ≤ j + 1 → eqb (length (values s)) 12 ≡ false
-  reached-over h k = ne-eqb (length (values s)) 12 (too-many h k)
-
-  pub reached-next : e < length (take (length s - from) (drop from s)) → j + 1 < 12 → Reached s (from + e + 1) (j + 1)
-  reached-next h k = record { within = omega (arith, rest-length, p .within); few = k; left = next-left h }
+  pub reached-next : e < length (take (length s - from) (drop from s)) → Reached s (from + e + 1) (j + 1)
+  reached-next h = record { within = omega (arith, rest-length, p .within); left = next-left h }

@@ -31,7 +31,7 @@ pub word-at-key : {k n : ℕ} → k ≡ n → spot n wordKeys ≡ wordOf k
 unfolding wordOf
 word-at-key {k} {n} e = rw e (ap (spot n) (sym (word-keys .keys)))
 
-pub word-none : {k : ℕ} → Misses (Unit {0}) k wordKeys → 17 ≡ wordOf k
+pub word-none : {k : ℕ} → Misses (Unit {0}) k wordKeys → noWord ≡ wordOf k
 unfolding wordOf
 word-none {k} m = sym (spot-none k wordKeys m .1) ∙ ap (spot k) (sym (word-keys .keys))
 
@@ -39,7 +39,7 @@ pub word-text : (p : List ℕ) → Bytes p → wordOf (textKey p) ≡ column p w
 unfolding wordOf
 word-text p b = by-key p words b (word-keys .fit)
 
-no-word : wordOf 0 ≡ 17
+no-word : wordOf 0 ≡ noWord
 unfolding wordOf
 no-word = ap (spot 0) (word-keys .keys)
 
@@ -96,7 +96,7 @@ bytes-take n s l b i = go (decLt i n)
     go (no h) = rw (List·getD-eq-default (take n s) 0 {n = i} (rw (length-take-le n s l) (omega arith))) (omega arith)
 
 -- ---- a word and a space behind it
-plain : all 17 (λ i. clean (getD words i []) && not (same (getD words i []) (bytes "-"))) ≡ true
+plain : all noWord (λ i. clean (getD words i []) && not (same (getD words i []) (bytes "-"))) ≡ true
 unfolding all words requestWords bytes same
 plain = refl
 
@@ -110,14 +110,14 @@ pub record Word (t p : List ℕ) (w : ℕ) : Type 0 where
   pub no-dash : same p (bytes "-") ≡ false
 
 -- a key that a word has is not 0
-key-some : (k : ℕ) {w : ℕ} → w ≡ wordOf k → w < 17 → 0 < k
+key-some : (k : ℕ) {w : ℕ} → w ≡ wordOf k → w < noWord → 0 < k
 key-some zero e l = absurd (omega (arith, e, no-word))
 key-some (suc k) e l = omega arith
 
-pub word-space : {t : List ℕ} {k n w : ℕ} → w ≡ wordOf k → w < 17 → Begins t k n → getD t n 0 ≡ 32
+pub word-space : {t : List ℕ} {k n w : ℕ} → w ≡ wordOf k → w < noWord → Begins t k n → getD t n 0 ≡ 32
 word-space {t} {k} e l g = g .space (key-some k e l)
 
-pub word-known : (t : List ℕ) (k n w : ℕ) → Bytes t → Begins t k n → w ≡ wordOf k → w < 17 → n < length t → Word t (take n t) w
+pub word-known : (t : List ℕ) (k n w : ℕ) → Bytes t → Begins t k n → w ≡ wordOf k → w < noWord → n < length t → Word t (take n t) w
 word-known t k n w b g e l m =
     record { leads = split ∙ lead-clean (take n t) (drop (suc n) t) (pure .0); place = known; no-dash = not-true _ (pure .1) }
   where
@@ -130,7 +130,7 @@ word-known t k n w b g e l m =
     pure : (clean (take n t) ≡ true) × (not (same (take n t) (bytes "-")) ≡ true)
     pure =
         and-eq-true-iff (clean (take n t)) (not (same (take n t) (bytes "-"))) .0
-        (rw here at (all-e 17 (λ i. clean (getD words i []) && not (same (getD words i []) (bytes "-"))) plain (column (take n t) words) (omega (arith, known))))
+        (rw here at (all-e noWord (λ i. clean (getD words i []) && not (same (getD words i []) (bytes "-"))) plain (column (take n t) words) (omega (arith, known))))
 
     split : leading t ≡ leading (take n t ++ (32 ∷ drop (suc n) t))
     split = ap leading (split-at t n 0 m ∙ ap (λ (d : ℕ). take n t ++ (d ∷ drop (suc n) t)) (g .space (key-some k e l)))

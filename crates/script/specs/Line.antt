@@ -5,13 +5,13 @@ use mathlib.Core.List.{List, [], _∷_, _++_, map}
 use lib.Dec.{leb, ltb, eqb}
 use lib.ListN.{length, getD}
 use Rattle.bitset.specs.Tests.{every}
-use Rattle.guard.specs.Requests.{Field, call, seat, user, role, entity, parent, kind, name, label, rights, unknown, rules}
+use Rattle.guard.specs.Requests.{Field, call, seat, user, role, entity, parent, kind, name, label, rights, shared, unknown, rules}
 use Rattle.script.specs.declared.line.Value.{Value}
 use Rattle.script.specs.declared.line.Value.the-variants.{Digits, Dash, Other}
 use Rattle.script.specs.declared.line.Line.{Line}
 use Rattle.script.specs.declared.line.Line.the-variants.{Ask, SetUser, Bad}
 use Rattle.script.specs.Text.{bytes, same, values, allDigits, number}
-use Rattle.script.specs.Names.{nameCount, column, under}
+use Rattle.script.specs.Names.{column, under}
 
 -- ---- values
 -- Values are 1 to 5 decimal digits, `-` for a field the request does not use
@@ -20,7 +20,7 @@ valueOf bs =
     cond (same bs (bytes "-")) Dash
     (cond (every (leb 1 (length bs) ∷ leb (length bs) 5 ∷ allDigits bs ∷ [])) (Digits (number 0 bs)) Other)
 
--- .. and the request's word under `call`: the sixteen, in the order of their numbers
+-- .. and the request's word under `call`: the seventeen, in the order of their numbers
 unfoldable pub requestWords : List (List ℕ)
 requestWords =
     bytes "login"
@@ -39,6 +39,7 @@ requestWords =
     ∷ bytes "unlist"
     ∷ bytes "make"
     ∷ bytes "unmake"
+    ∷ bytes "share"
     ∷ []
 
 -- .. and in front of them the word `user`
@@ -65,6 +66,7 @@ ordinal kind = 6
 ordinal name = 7
 ordinal label = 8
 ordinal rights = 9
+ordinal shared = 10
 
 unfoldable pub isUsed : List Field → Field → Bool
 isUsed [] f = false
@@ -74,13 +76,18 @@ isUsed (g ∷ gs) f = eqb (ordinal f) (ordinal g) || isUsed gs f
 unfoldable pub fields : List Field
 fields = seat ∷ user ∷ role ∷ entity ∷ parent ∷ kind ∷ name ∷ label ∷ label ∷ rights ∷ []
 
--- of the eleven names behind `call`, those that the word uses. No request uses `ceiling`; `user` uses the user, its
--- clearance and its ceiling.
+-- .. and behind `ceiling`
+unfoldable pub optionalFields : List Field
+optionalFields = shared ∷ []
+
+-- of the names behind `call`, those that the word uses. No request uses `ceiling`; `user` uses the user, its clearance and its
+-- ceiling.
 unfoldable pub used : ℕ → List Bool
 used word =
+    let uses = getD rules (callOf word) unknown .uses in
     cond (eqb word userWord)
-    (false ∷ true ∷ false ∷ false ∷ false ∷ false ∷ false ∷ true ∷ true ∷ false ∷ true ∷ [])
-    (map (isUsed (getD rules (callOf word) unknown .uses)) fields ++ (false ∷ []))
+    (false ∷ true ∷ false ∷ false ∷ false ∷ false ∷ false ∷ true ∷ true ∷ false ∷ true ∷ false ∷ [])
+    (map (isUsed uses) fields ++ (false ∷ map (isUsed uses) optionalFields))
 
 -- ---- reading
 -- the numbers of a line, 0 where a field is not used; or a line that can't be read
@@ -123,10 +130,11 @@ asks word (these ns) =
       grade = getD ns 7 0;
       cats = getD ns 8 0;
       rights = getD ns 9 0;
+      shared = getD ns 11 0;
     }))
 asks word unreadable = Bad
 
--- the twelve values in the sample's order: the word, and the others
+-- the values in the sample's order: the word, and the others
 unfoldable pub lineOf : List (List ℕ) → Line
 lineOf [] = Bad
 lineOf (w ∷ vs) =
@@ -141,4 +149,4 @@ longestLine = 255
 unfoldable pub readLine : List (List ℕ) → List ℕ → Line
 readLine header l =
     let vs = values l in
-    cond (every (leb (length l) longestLine ∷ eqb (length vs) nameCount ∷ [])) (lineOf (under header vs)) Bad
+    cond (every (leb (length l) longestLine ∷ eqb (length vs) (length header) ∷ [])) (lineOf (under header vs)) Bad

@@ -1,15 +1,11 @@
 -- The line of names.
 use Prim.Native.Nat.{ℕ, suc, _<_}
 use mathlib.Core.Path.{_≡_}
-use mathlib.Core.Bool.{Bool, true, false, cond, _||_}
-use mathlib.Core.List.{List, [], _∷_, map}
-use lib.Dec.{eqb}
-use lib.ListN.{length, getD}
+use mathlib.Core.Bool.{Bool, true, false, not, cond, _||_}
+use mathlib.Core.List.{List, [], _∷_, _++_, map}
+use lib.ListN.{getD}
 use Rattle.bitset.specs.Tests.{every}
 use Rattle.script.specs.Text.{bytes, same}
-
-abbrev pub nameCount : ℕ
-nameCount = 12
 
 -- The twelve names are those in the sample
 unfoldable pub names : List (List ℕ)
@@ -28,6 +24,13 @@ names =
     ∷ bytes "ceiling"
     ∷ []
 
+-- .. and a thirteenth name `shared`; a names line without it is still read
+unfoldable pub optionalNames : List (List ℕ)
+optionalNames = bytes "shared" ∷ []
+
+unfoldable pub allNames : List (List ℕ)
+allNames = names ++ optionalNames
+
 -- the place of the first p among ps, or how many there are
 unfoldable pub column : List ℕ → List (List ℕ) → ℕ
 column p [] = 0
@@ -37,15 +40,24 @@ unfoldable pub among : List (List ℕ) → List ℕ → Bool
 among [] p = false
 among (q ∷ ps) p = same p q || among ps p
 
--- each once, in any order: twelve, and each of the names among them
+unfoldable pub noneTwice : List (List ℕ) → Bool
+noneTwice [] = true
+noneTwice (p ∷ ps) = every (not (among ps p) ∷ noneTwice ps ∷ [])
+
+-- each once, in any order: the twelve are all there, each in the line is one of them or an optional one, and none stands twice
 unfoldable pub isNames : List (List ℕ) → Bool
-isNames header = every (eqb (length header) nameCount ∷ map (among header) names)
+isNames header =
+    every (every (map (among header) names) ∷ every (map (among allNames) header) ∷ noneTwice header ∷ [])
 
--- then lines of values in that order: the value under each name, in the sample's order
+-- then lines of values in that order: the value under each name, in the sample's order, the field under a name that the line
+-- lacks counting as a dash
 unfoldable pub under : List (List ℕ) → List (List ℕ) → List (List ℕ)
-under header vs = map (λ n. getD vs (column n header) []) names
+under header vs = map (λ n. getD vs (column n header) (bytes "-")) allNames
 
--- `at` tells for each place of the header which name stands there
+-- `at` tells for each place of the header which name stands there, and for those behind its last that none does
+abbrev pub placeCount : ℕ
+placeCount = 16
+
 pub record Ordered (header : List (List ℕ)) (at : List ℕ) : Type 0 where
   pub good : isNames header ≡ true
-  pub place : (j : ℕ) → j < nameCount → getD at j 0 ≡ column (getD header j []) names
+  pub place : (j : ℕ) → j < placeCount → getD at j 0 ≡ column (getD header j []) allNames

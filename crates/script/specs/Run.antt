@@ -9,7 +9,7 @@ use lib.Dec.{eqb, leb, ltb}
 use lib.ListN.{length, take, drop, replicate}
 use Rattle.guard.specs.declared.Tables.{Tables}
 use Rattle.script.specs.Text.{lines, values, after}
-use Rattle.script.specs.Names.{nameCount, isNames, Ordered}
+use Rattle.script.specs.Names.{placeCount, isNames, Ordered}
 use Rattle.script.specs.Line.{longestLine, readLine}
 use Rattle.script.specs.Report.{Bench, answerLine, heading, lineRoom, answered, lastLine, firstBench, below}
 use Rattle.script.specs.declared.runner.Runner.{Runner}
@@ -128,7 +128,7 @@ unbegun =
     record {
       tables = firstBench .tables;
       shut = false;
-      at = replicate nameCount 0;
+      at = replicate placeCount 0;
       phase = atHeading;
       done = 0;
       skip = false;

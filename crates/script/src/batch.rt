@@ -65,6 +65,7 @@ fn put_row(q: Request, rows: &mut [u32], at: usize) -> usize
     rows[at + 8] = q.grade;
     rows[at + 9] = q.cats;
     rows[at + 10] = q.rights;
+    rows[at + 11] = q.shared;
     at + sizes::ROW
 }
 
@@ -97,7 +98,7 @@ fn is_allowed(l: Line, shut: bool) -> bool
 // Whole lines from the front of `s`, at most so many, up to a `user` line that is allowed.
 pub fn gather(
     s: &[u8],
-    at: [u8; limits::NAMES],
+    at: [u8; limits::VALUES],
     most: usize,
     shut: bool,
     rows: &mut [u32],

@@ -32,30 +32,31 @@ pub enum Half {
 }
 
 // For each word the fields that it uses: bit i is the i-th name, `call` being 0, so from the right none, seat, user, role,
-// entity, parent, kind, name, level, cats, rights, ceiling.
+// entity, parent, kind, name, level, cats, rights, ceiling, shared.
 const USES: [u16; limits::WORDS] = [
-    0b101100000100, // user
-    0b001100000110, // login
-    0b000000000010, // logout
-    0b000000001010, // take
-    0b000000001010, // drop
-    0b000000010010, // openr
-    0b000000010010, // openw
-    0b000000010010, // close
-    0b001111111010, // create
-    0b000000010010, // delete
-    0b000010010010, // rename
-    0b010000011010, // grant
-    0b010000011010, // revoke
-    0b000000001110, // list
-    0b000000001110, // unlist
-    0b000000001010, // make
-    0b000000001010, // unmake
+    0b0101100000100, // user
+    0b0001100000110, // login
+    0b0000000000010, // logout
+    0b0000000001010, // take
+    0b0000000001010, // drop
+    0b0000000010010, // openr
+    0b0000000010010, // openw
+    0b0000000010010, // close
+    0b0001111111010, // create
+    0b0000000010010, // delete
+    0b0000010010010, // rename
+    0b0010000011010, // grant
+    0b0010000011010, // revoke
+    0b0000000001110, // list
+    0b0000000001110, // unlist
+    0b0000000001010, // make
+    0b0000000001010, // unmake
+    0b1000000010010, // share
 ];
 
 pub fn uses(word: u32) -> u16
     requires { ⌜ word < noWord ⌝ }
-    ensures { λ r. ⌜ members r 1 11 ≡ used word ⌝ }
+    ensures { λ r. ⌜ members r 1 12 ≡ used word ⌝ }
 {
     USES[word as usize]
 }
@@ -107,9 +108,9 @@ pub fn first(vals: &[u32; limits::VALUES], given: u16, uses: u16) -> Half
     })
 }
 
-// The other five, and what the line asks.
+// The other six, and what the line asks.
 pub fn second(word: u32, six: Six, vals: &[u32; limits::VALUES], given: u16, uses: u16) -> Line
-    ensures { λ r. ⌜ r ≡ asks word (ahead (Half.Numbers six) (takeFrom uses given (now (vals .entry)) 7 5 (these []))) ⌝ }
+    ensures { λ r. ⌜ r ≡ asks word (ahead (Half.Numbers six) (takeFrom uses given (now (vals .entry)) 7 6 (these []))) ⌝ }
 {
     let Taken::Number(name) = field(vals[7], given, uses, 7) else {
         return Line::Bad;
@@ -124,6 +125,9 @@ pub fn second(word: u32, six: Six, vals: &[u32; limits::VALUES], given: u16, use
         return Line::Bad;
     };
     let Taken::Number(ceiling) = field(vals[11], given, uses, 11) else {
+        return Line::Bad;
+    };
+    let Taken::Number(shared) = field(vals[12], given, uses, 12) else {
         return Line::Bad;
     };
     if word == limits::USER {
@@ -141,5 +145,6 @@ pub fn second(word: u32, six: Six, vals: &[u32; limits::VALUES], given: u16, use
         grade: level,
         cats,
         rights,
+        shared,
     })
 }

@@ -2,18 +2,18 @@
 use guard::kinds;
 use guard::sizes;
 
-// The names in the line of names.
-pub const NAMES: usize = 12;
+// What is none of the names: the first number behind theirs. The set of the twelve that every line of names has.
+pub const NO_NAME: u8 = 13;
 
-// Room for a value under each of them; any byte has a place there by its remainder.
+pub const FIXED_NAMES: u16 = 4095;
+
+// Room for a place or a value of each name and of none; any byte has a place there by its remainder.
 pub const VALUES: usize = 16;
 
 pub const PLACES: u8 = VALUES as u8;
 
-// What is none of them, and the set of all of them.
-pub const NO_NAME: u8 = NAMES as u8;
-
-pub const ALL_NAMES: u16 = 4095;
+// The last of them, where no name of a line of names stands.
+pub const LAST_PLACE: usize = VALUES - 1;
 
 // The words: `user`, which stands in front, and one for each kind of request of the guard.
 pub const KINDS: usize = kinds::KINDS as usize;

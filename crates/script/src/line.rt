@@ -62,7 +62,7 @@ fn asked(row: Row, vals: &[u32; limits::VALUES]) -> Line
 }
 
 // The line at the front of `s`, up to byte 10 or the end, under a good header.
-pub fn next(s: &[u8], at: &[u8; limits::NAMES]) -> Front
+pub fn next(s: &[u8], at: &[u8; limits::VALUES]) -> Front
     ensures { λ r. ⌜ (r .len ≡ length (before 10 (now (s .entry)))) × ((h : List (List ℕ)) → Ordered h (now (at .entry)) → r .asked ≡ readLine h (before 10 (now (s .entry)))) ⌝ }
 {
     let mut vals = empty();

@@ -5,8 +5,9 @@ ghost use mathlib.Core.Bool.{true};
 ghost use lib.Dec.{eqb};
 ghost use lib.ListN.{length, getD};
 ghost use Rattle.script.specs.Text.{bytes, same};
+ghost use Rattle.script.specs.Names.{placeCount};
 ghost use Rattle.script.specs.Private.Slices.{before};
-ghost use Rattle.script.specs.Private.Rows.{blank, IsFound, IsRow};
+ghost use Rattle.script.specs.Private.Rows.{blank, IsFound, fills, IsRow};
 use crate::digit;
 use crate::limits;
 use crate::line::Value;
@@ -21,7 +22,7 @@ pub struct Found {
     pub more: bool,
 }
 
-// A row: good where the line has twelve values, each of a form; then `given` is the set of the names whose value is a
+// A row: good where the line has as many values as there are names, each of a form; then `given` is the set of the names whose value is a
 // number. `len` is the line's length.
 pub struct Row {
     pub good: bool,
@@ -170,9 +171,17 @@ fn code_at(s: &[u8], from: usize, i: u32) -> Found
     any_at(s, from, i)
 }
 
-// The row of the line at the front of `s`, in one pass. A dash leaves the row as it is. The names of a good header are below
-// 12; the remainder keeps any other number in the row.
-pub fn read_row(s: &[u8], at: &[u8; limits::NAMES], vals: &mut [u32; limits::VALUES]) -> Row
+// Whether `j` is the last place with a name.
+fn is_last(at: &[u8; limits::VALUES], j: usize) -> bool
+    requires { ⌜ j + 1 < placeCount ⌝ }
+    ensures { λ r. ⌜ r ≡ fills (now (at .entry)) (j + 1) ⌝ }
+{
+    (at[j] % limits::PLACES < limits::NO_NAME) & (at[j + 1] % limits::PLACES == limits::NO_NAME)
+}
+
+// The row of the line at the front of `s`, in one pass. A dash leaves the row as it is. The numbers in `at` are below 16; the
+// remainder keeps any other in the row.
+pub fn read_row(s: &[u8], at: &[u8; limits::VALUES], vals: &mut [u32; limits::VALUES]) -> Row
     requires { ⌜ now vals ≡ blank ⌝ }
     ensures { λ r. ⌜ IsRow (now (at .entry)) (before 10 (now (s .entry))) (now (vals .exit)) r ⌝ }
 {
@@ -188,7 +197,7 @@ pub fn read_row(s: &[u8], at: &[u8; limits::NAMES], vals: &mut [u32; limits::VAL
                 continue;
             }
         }
-        if limits::NAMES <= j {
+        if limits::LAST_PLACE <= j {
             return Row {
                 good: false,
                 given,
@@ -198,18 +207,18 @@ pub fn read_row(s: &[u8], at: &[u8; limits::NAMES], vals: &mut [u32; limits::VAL
         let i = (at[j] % limits::PLACES) as u32;
         let f = code_at(s, from, i);
         let end = f.end;
-        j += 1;
         if f.form == 0 {
             vals[i as usize] = f.code;
             given = bitset::with16(given, i);
             if !f.more {
                 return Row {
-                    good: j == limits::NAMES,
+                    good: is_last(at, j),
                     given,
                     len: end,
                 };
             }
             from = end + 1;
+            j += 1;
             continue;
         }
         if f.form == 2 {
@@ -221,11 +230,12 @@ pub fn read_row(s: &[u8], at: &[u8; limits::NAMES], vals: &mut [u32; limits::VAL
         }
         if !f.more {
             return Row {
-                good: j == limits::NAMES,
+                good: is_last(at, j),
                 given,
                 len: end,
             };
         }
         from = end + 1;
+        j += 1;
     }
 }

@@ -37,7 +37,7 @@ const AT_END: u8 = 3;
 pub struct Runner {
     tables: Tables,
     shut: bool,
-    at: [u8; limits::NAMES],
+    at: [u8; limits::VALUES],
     phase: u8,
     done: u32,
     skip: bool,
@@ -112,7 +112,7 @@ impl Runner {
         Runner {
             tables,
             shut: false,
-            at: [0u8; limits::NAMES],
+            at: [0u8; limits::VALUES],
             phase: AT_HEADING,
             done: 0,
             skip: false,

@@ -2,7 +2,7 @@
 ghost use Prim.Native.Nat.{_+_, _<_, _≤_};
 ghost use mathlib.Core.Path.{_≡_};
 ghost use lib.ListN.{length, getD, take, drop};
-ghost use Rattle.script.specs.Names.{names, column};
+ghost use Rattle.script.specs.Names.{allNames, column};
 ghost use Rattle.script.specs.Line.{valueOf, words};
 ghost use Rattle.script.specs.Private.Slices.{before, leading};
 ghost use Rattle.script.specs.Private.ShortTexts.{textKey, wordOf, Begins};
@@ -105,7 +105,7 @@ fn key(s: &[u8]) -> u64
 
 // Which of the names it is.
 pub fn name_at(s: &[u8]) -> u8
-    ensures { λ r. ⌜ r ≡ column (now (s .entry)) names ⌝ }
+    ensures { λ r. ⌜ r ≡ column (now (s .entry)) allNames ⌝ }
 {
     let k = key(s);
     match k {
@@ -121,6 +121,7 @@ pub fn name_at(s: &[u8]) -> u8
         0x1_63617473 => 9, // cats
         0x1_726967687473 => 10, // rights
         0x1_6365696c696e67 => 11, // ceiling
+        0x1_736861726564 => 12, // shared
         _ => limits::NO_NAME,
     }
 }
@@ -147,6 +148,7 @@ pub fn word_of(k: u64) -> u32
         0x1_756e6c697374 => 14, // unlist
         0x1_6d616b65 => 15, // make
         0x1_756e6d616b65 => 16, // unmake
+        0x1_7368617265 => 17, // share
         _ => limits::NO_WORD,
     }
 }

@@ -5,7 +5,7 @@
 use std::sync::OnceLock;
 
 use crate::paper::{self, Call, Field, CALLS, USER_USES};
-use crate::program::{report, sample_order, Column, What};
+use crate::program::{optional, report, sample_order, Column, What};
 
 pub struct Case {
     call: Call,
@@ -114,11 +114,24 @@ impl Case {
         format!("{} {}, {}", self.call.word(), self.number, self.side)
     }
 
+    fn lines(&self) -> impl Iterator<Item = &'static str> + '_ {
+        self.before.iter().copied().chain([self.last])
+    }
+
+    /// The twelve names, and of the optional ones those below which a line of the case has a number.
+    fn order(&self) -> Vec<Column> {
+        let used = |column: &Column| self.lines().any(|line| uses(line).any(|at| at == *column));
+        let mut order = sample_order();
+        order.extend(optional().into_iter().filter(used));
+        order
+    }
+
     pub fn input(&self) -> Vec<u8> {
-        let names: Vec<&str> = sample_order().iter().map(|column| column.word()).collect();
+        let order = self.order();
+        let names: Vec<&str> = order.iter().map(|column| column.word()).collect();
         let mut text = names.join(" ") + "\n";
-        for line in self.before.iter().chain([&self.last]) {
-            text += &written(line);
+        for line in self.lines() {
+            text += &written(line, &order);
             text.push('\n');
         }
         text.into_bytes()
@@ -200,7 +213,7 @@ pub fn print_list(cases: &[&Case]) {
     println!("| request | number | side | the last line of its case |");
     println!("|---|---|---|---|");
     for case in cases {
-        let mut place = format!("`{}`", written(case.last));
+        let mut place = format!("`{}`", written(case.last, &case.order()));
         if let Some(company) = &case.company {
             let mut numbers: Vec<String> = company
                 .beside
@@ -220,20 +233,25 @@ pub fn print_list(cases: &[&Case]) {
     }
 }
 
-/// A line in the sample's order from one in the paper's order of fields.
-fn written(line: &str) -> String {
+/// The columns in which the line has its values, in the paper's order of fields.
+fn uses(line: &str) -> impl Iterator<Item = Column> {
+    let word = line.split(' ').next().expect("a word");
+    let uses: &'static [Field] = call_named(word).map_or(&USER_USES, |call| call.uses());
+    uses.iter().map(|&field| Column::Field(field))
+}
+
+/// A line in the order of the columns from one in the paper's order of fields.
+fn written(line: &str, order: &[Column]) -> String {
     let mut words = line.split(' ');
     let word = words.next().expect("a word");
-    let uses: &[Field] = call_named(word).map_or(&USER_USES, |call| call.uses());
     let values: Vec<&str> = words.collect();
-    assert_eq!(values.len(), uses.len(), "alone.txt: {line}");
-    let columns: Vec<&str> = sample_order()
+    assert_eq!(values.len(), uses(line).count(), "alone.txt: {line}");
+    let columns: Vec<&str> = order
         .iter()
         .map(|column| match column {
             Column::Call => word,
-            Column::Field(field) => uses
-                .iter()
-                .position(|used| used == field)
+            _ => uses(line)
+                .position(|used| used == *column)
                 .map_or("-", |at| values[at]),
         })
         .collect();
@@ -247,7 +265,7 @@ mod tests {
         assert_eq!(
             super::cases().map(|cases| super::count_line(&cases)),
             Ok(String::from(
-                "138 sides, 115 alone, 23 that cannot stand alone"
+                "149 sides, 124 alone, 25 that cannot stand alone"
             ))
         );
     }

@@ -3,12 +3,15 @@
 use crate::alone;
 use crate::files::{self, Made};
 use crate::lines;
+use crate::marks::SITUATIONS;
 use crate::paper::{self, Call, CALLS};
 use crate::program::{Report, Seen, What};
 
+const COUNT: usize = CALLS.len();
+
 pub struct Coverage {
     /// By call and answer; 0 is done.
-    answers: [[usize; 17]; 16],
+    answers: [[usize; 17]; COUNT],
     /// By answer of a `user` line.
     users: [usize; 18],
     unreadable: usize,
@@ -16,9 +19,11 @@ pub struct Coverage {
     met: Vec<Vec<usize>>,
     alone: Vec<Vec<usize>>,
     /// By call, answer and a higher number that was met as well.
-    together: [[[bool; 17]; 17]; 16],
+    together: [[[bool; 17]; 17]; COUNT],
     /// By call: refused for categories 8 to 15 alone.
-    upper_half: [usize; 16],
+    upper_half: [usize; COUNT],
+    /// By situation and call.
+    situations: Vec<[usize; COUNT]>,
     forms: Vec<(&'static str, usize)>,
     files: usize,
     lines: usize,
@@ -31,13 +36,14 @@ impl Coverage {
             .map(|&call| vec![0; paper::sides(call).len()])
             .collect();
         Coverage {
-            answers: [[0; 17]; 16],
+            answers: [[0; 17]; COUNT],
             users: [0; 18],
             unreadable: 0,
             met: sides.clone(),
             alone: sides,
-            together: [[[false; 17]; 17]; 16],
-            upper_half: [0; 16],
+            together: [[[false; 17]; 17]; COUNT],
+            upper_half: [0; COUNT],
+            situations: vec![[0; COUNT]; SITUATIONS.len()],
             forms: files::forms().into_iter().map(|form| (form, 0)).collect(),
             files: 0,
             lines: 0,
@@ -77,10 +83,14 @@ impl Coverage {
                 request,
                 met,
                 upper_half,
+                situations,
             } => {
                 let call = request.call as usize;
                 self.answers[call][seen.answer] += 1;
                 self.upper_half[call] += usize::from(upper_half);
+                for (situation, counts) in self.situations.iter_mut().enumerate() {
+                    counts[call] += usize::from(situations & (1 << situation) != 0);
+                }
                 for (side, text) in paper::sides(request.call).iter().enumerate() {
                     if met & (1 << side) != 0 {
                         self.met[call][side] += 1;
@@ -139,6 +149,19 @@ impl Coverage {
                 row += &format!(" {number}:{}/{alone}", self.answers[call as usize][number]);
             }
             println!("{row}");
+        }
+    }
+
+    /// What was seen of marks.
+    pub fn print_situations(&self) {
+        println!("marks:");
+        for (situation, counts) in SITUATIONS.iter().zip(&self.situations) {
+            let counts: Vec<String> = situation
+                .calls
+                .iter()
+                .map(|&call| format!("{} {}", call.word(), counts[call as usize]))
+                .collect();
+            println!("  {}: {}", situation.name, counts.join(", "));
         }
     }
 
@@ -212,6 +235,17 @@ impl Coverage {
             }
             upper_half.push(format!("{} {count}", call.word()));
         }
+        let (mut situations, mut situations_met) = (0, 0);
+        for (situation, counts) in SITUATIONS.iter().zip(&self.situations) {
+            for &call in situation.calls {
+                situations += 1;
+                if counts[call as usize] > 0 {
+                    situations_met += 1;
+                } else {
+                    missing.push(format!("{}, {}: never seen", call.word(), situation.name));
+                }
+            }
+        }
         for line in &missing {
             println!("unmet: {line}");
         }
@@ -219,6 +253,7 @@ impl Coverage {
             "refused for categories 8 to 15 alone: {}",
             upper_half.join(", ")
         );
+        println!("{situations_met} of {situations} situations with marks met");
         println!(
             "{both_met} of {both} pairs of numbers that one request can meet together met, the lower answered"
         );

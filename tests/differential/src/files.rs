@@ -2,7 +2,7 @@
 
 use crate::generator::Writer;
 use crate::lines;
-use crate::program::{sample_order, LAST_LINE};
+use crate::program::{optional, sample_order, LAST_LINE};
 use crate::random::Random;
 
 pub struct Made {
@@ -43,10 +43,14 @@ enum End {
 
 const SAMPLE_ORDER: &str = "names in the sample's order";
 const OTHER_ORDER: &str = "names in another order";
+const SAMPLE_AND_OPTIONAL: &str = "names in the sample's order, then the optional ones";
+const OTHER_AND_OPTIONAL: &str = "names in another order, the optional ones among them";
 
 static SHAPES: &[(&str, Shape)] = &[
     (SAMPLE_ORDER, Shape::End(End::Ended)),
     (OTHER_ORDER, Shape::End(End::Ended)),
+    (SAMPLE_AND_OPTIONAL, Shape::End(End::Ended)),
+    (OTHER_AND_OPTIONAL, Shape::End(End::Ended)),
     ("last line without byte 10", Shape::End(End::Unended)),
     (
         "last line unreadable and without byte 10",
@@ -69,37 +73,89 @@ static SHAPES: &[(&str, Shape)] = &[
     ),
     ("names: none, a request first", Shape::RequestFirst),
     (
-        "names: one missing",
+        "names: one of the twelve missing",
         Shape::Names(|random, names| {
             let mut names = names.to_vec();
-            names.remove(random.below(12));
+            names.remove(one_of_twelve(random, &names));
             names.join(" ").into_bytes()
         }),
     ),
     (
-        "names: one twice, twelve in all",
+        "names: one twice, another missing",
         Shape::Names(|random, names| {
             let mut names = names.to_vec();
-            let at = random.below(12);
-            names[at] = names[(at + random.between(1, 11)) % 12];
+            let count = names.len();
+            let at = random.below(count);
+            names[at] = names[(at + random.between(1, count - 1)) % count];
             names.join(" ").into_bytes()
         }),
     ),
     (
-        "names: one twice, thirteen in all",
+        "names: one twice",
         Shape::Names(|random, names| {
             let mut names = names.to_vec();
             let again = random.pick(&names);
-            names.insert(random.below(13), again);
+            add(random, &mut names, again);
             names.join(" ").into_bytes()
         }),
+    ),
+    (
+        "names: an optional one twice",
+        Shape::Names(|random, names| {
+            let mut names = twelve(names);
+            let name = an_optional(random);
+            add(random, &mut names, name);
+            add(random, &mut names, name);
+            names.join(" ").into_bytes()
+        }),
+    ),
+    (
+        "names: an optional one for one of the twelve",
+        Shape::Names(|random, names| {
+            let mut names = twelve(names);
+            names[random.below(12)] = an_optional(random);
+            names.join(" ").into_bytes()
+        }),
+    ),
+    (
+        "names: an optional one twice, one of the twelve missing",
+        Shape::Names(|random, names| {
+            let mut names = twelve(names);
+            let name = an_optional(random);
+            names[random.below(12)] = name;
+            add(random, &mut names, name);
+            names.join(" ").into_bytes()
+        }),
+    ),
+    (
+        "names: an optional one, one of the twelve twice",
+        Shape::Names(|random, names| {
+            let mut names = twelve(names);
+            let (again, name) = (random.pick(&names), an_optional(random));
+            add(random, &mut names, again);
+            add(random, &mut names, name);
+            names.join(" ").into_bytes()
+        }),
+    ),
+    (
+        "names: an optional one cut short",
+        Shape::Names(|random, names| {
+            let mut names = twelve(names);
+            let name = an_optional(random);
+            add(random, &mut names, &name[..name.len() - 1]);
+            names.join(" ").into_bytes()
+        }),
+    ),
+    (
+        "names: an optional one alone",
+        Shape::Names(|random, _| an_optional(random).as_bytes().to_vec()),
     ),
     (
         "names: an unknown one for one",
         Shape::Names(|random, names| {
             let mut names = names.to_vec();
-            names[random.below(12)] =
-                random.pick(&["grade", "x", "label", "answer", "line", "-", "0"]);
+            let at = random.below(names.len());
+            names[at] = random.pick(&["grade", "x", "label", "answer", "line", "-", "0"]);
             names.join(" ").into_bytes()
         }),
     ),
@@ -107,7 +163,8 @@ static SHAPES: &[(&str, Shape)] = &[
         "names: an unknown one added",
         Shape::Names(|random, names| {
             let mut names = names.to_vec();
-            names.insert(random.below(13), random.pick(&["grade", "x", "label", "-"]));
+            let unknown = random.pick(&["grade", "x", "label", "mark", "-"]);
+            add(random, &mut names, unknown);
             names.join(" ").into_bytes()
         }),
     ),
@@ -115,7 +172,7 @@ static SHAPES: &[(&str, Shape)] = &[
         "names: one cut short",
         Shape::Names(|random, names| {
             let mut names = names.to_vec();
-            let at = random.below(12);
+            let at = random.below(names.len());
             names[at] = &names[at][..names[at].len() - 1];
             names.join(" ").into_bytes()
         }),
@@ -124,7 +181,8 @@ static SHAPES: &[(&str, Shape)] = &[
         "names: one with more after it",
         Shape::Names(|random, names| {
             let mut names: Vec<String> = names.iter().map(|name| name.to_string()).collect();
-            names[random.below(12)].push(random.pick(&['s', '0', '\0', ':', ',']));
+            let at = random.below(names.len());
+            names[at].push(random.pick(&['s', '0', '\0', ':', ',']));
             names.join(" ").into_bytes()
         }),
     ),
@@ -132,7 +190,7 @@ static SHAPES: &[(&str, Shape)] = &[
         "names: a capital",
         Shape::Names(|random, names| {
             let mut names: Vec<String> = names.iter().map(|name| name.to_string()).collect();
-            let at = random.below(12);
+            let at = random.below(names.len());
             names[at] = names[at].to_ascii_uppercase();
             names.join(" ").into_bytes()
         }),
@@ -254,6 +312,35 @@ static SHAPES: &[(&str, Shape)] = &[
     ),
 ];
 
+fn is_optional(name: &str) -> bool {
+    optional().iter().any(|column| column.word() == name)
+}
+
+/// The names without the optional ones.
+fn twelve(names: &[&'static str]) -> Vec<&'static str> {
+    let mut names = names.to_vec();
+    names.retain(|name| !is_optional(name));
+    names
+}
+
+/// The place of one of the twelve.
+fn one_of_twelve(random: &mut Random, names: &[&'static str]) -> usize {
+    loop {
+        let at = random.below(names.len());
+        if !is_optional(names[at]) {
+            return at;
+        }
+    }
+}
+
+fn an_optional(random: &mut Random) -> &'static str {
+    random.pick(&optional()).word()
+}
+
+fn add(random: &mut Random, names: &mut Vec<&'static str>, name: &'static str) {
+    names.insert(random.below(names.len() + 1), name);
+}
+
 fn spaces(line: &str) -> Vec<usize> {
     line.match_indices(' ').map(|(at, _)| at).collect()
 }
@@ -266,7 +353,17 @@ fn padded(names: &[&'static str], length: usize) -> Vec<u8> {
 
 /// Every form that a run has to meet: of unreadable lines, of lines only just readable, and of whole files.
 pub fn forms() -> Vec<&'static str> {
-    let mut forms: Vec<&'static str> = lines::UNREADABLE.iter().map(|form| form.name).collect();
+    let unreadable = [
+        lines::UNREADABLE,
+        lines::OPTIONAL_USED,
+        lines::OPTIONAL_UNUSED,
+        lines::OPTIONAL_IN_USER,
+        lines::NAMELESS,
+    ];
+    let mut forms: Vec<&'static str> = Vec::new();
+    for list in unreadable {
+        forms.extend(list.iter().map(|form| form.name));
+    }
     forms.extend(lines::LATE);
     forms.extend(lines::READABLE);
     forms.extend(SHAPES.iter().map(|(name, _)| name));
@@ -276,21 +373,40 @@ pub fn forms() -> Vec<&'static str> {
 /// File `index` of the run. The first files take each shape once; of the later ones most are plain.
 pub fn file(seed: u64, index: usize, long: bool) -> Made {
     let mut random = Random::for_file(seed, index);
+    let plain = if random.chance(1, 4) {
+        OTHER_ORDER
+    } else {
+        OTHER_AND_OPTIONAL
+    };
+    let plain = (plain, Shape::End(End::Ended));
     let (name, shape) = if index < SHAPES.len() {
         SHAPES[index]
     } else if random.chance(1, 8) {
         // Files of very many lines take their time.
         let shape = random.pick(SHAPES);
         match shape.1 {
-            Shape::Lines { .. } | Shape::MuchAfter { .. } if random.chance(5, 6) => SHAPES[1],
+            Shape::Lines { .. } | Shape::MuchAfter { .. } if random.chance(5, 6) => plain,
             _ => shape,
         }
     } else {
-        SHAPES[1]
+        plain
     };
     let mut order = sample_order();
-    while name != SAMPLE_ORDER && order == sample_order() {
-        random.shuffle(&mut order);
+    for column in optional() {
+        let there = match name {
+            SAMPLE_ORDER | OTHER_ORDER => false,
+            SAMPLE_AND_OPTIONAL | OTHER_AND_OPTIONAL => true,
+            _ => random.chance(2, 3),
+        };
+        if there {
+            order.push(column);
+        }
+    }
+    if name != SAMPLE_ORDER && name != SAMPLE_AND_OPTIONAL {
+        let first = order.clone();
+        while order == first {
+            random.shuffle(&mut order);
+        }
     }
     let names: Vec<&'static str> = order.iter().map(|column| column.word()).collect();
     let names_line = names.join(" ").into_bytes();
@@ -418,7 +534,7 @@ mod tests {
     #[test]
     fn files_reach_far() {
         let mut deepest = [0; 4];
-        let (mut seats, mut roles, mut entities, mut labelled) = (0, 0, 0, 0);
+        let (mut seats, mut roles, mut entities, mut labelled, mut shared) = (0, 0, 0, 0, 0);
         for index in SHAPES.len()..SHAPES.len() + 60 {
             let made = file(1, index, false);
             let mut lines = made.bytes.split(|&byte| byte == b'\n');
@@ -453,9 +569,11 @@ mod tests {
                     .iter()
                     .filter(|seat| seat.label != Label::default() && seat.writing.contains(&true));
                 labelled = opened.count().max(labelled);
+                let marks = tables.entities.iter().map(|entity| entity.shared);
+                shared = marks.sum::<usize>().max(shared);
             }
         }
         assert!(deepest.iter().all(|&depth| depth >= 8));
-        assert!(seats == 16 && roles >= 12 && entities >= 40 && labelled >= 3);
+        assert!(seats == 16 && roles >= 12 && entities >= 40 && labelled >= 3 && shared >= 8);
     }
 }

@@ -4,7 +4,7 @@
 //! are used up. So most requests are done or refused for one reason alone.
 
 use crate::lines::{self, Good};
-use crate::paper::{self, Call, Field, Label, Request, Tables, CALLS};
+use crate::paper::{self, Call, Field, Label, Request, Tables, Values, CALLS, OPTIONAL};
 use crate::program::{Column, Program, What, LAST_LINE};
 use crate::random::Random;
 
@@ -19,6 +19,9 @@ pub struct Writer {
     pub line_count: usize,
     pub forms: Vec<(usize, &'static str)>,
     pub habits: Habits,
+    /// The calls all of whose fields have a name in this file, and the others.
+    pub calls: Vec<Call>,
+    pub nameless: Vec<Call>,
     /// The seats, roles and entities that the last requests named.
     recent: Vec<(Field, usize)>,
     pub last: Option<What>,
@@ -54,13 +57,18 @@ impl Writer {
         };
         let mut bytes = names_line.to_vec();
         bytes.push(b'\n');
+        let program = Program::start(names_line).expect("good names");
+        let named = |field: &Field| program.order.contains(&Column::Field(*field));
+        let (calls, nameless) = CALLS.iter().partition(|call| call.uses().iter().all(named));
         Writer {
             random,
-            program: Program::start(names_line).expect("good names"),
+            program,
             bytes,
             line_count: 1,
             forms: Vec::new(),
             habits,
+            calls,
+            nameless,
             recent: Vec::new(),
             last: None,
             last_answer: 0,
@@ -104,12 +112,14 @@ impl Writer {
 
     // -- From requests to lines
 
-    pub fn good(&self, word: &str, uses: &[Field], values: &[usize; 11]) -> Good {
+    pub fn good(&self, word: &str, uses: &[Field], values: &Values) -> Good {
         let mut good = Good {
             order: self.program.order.clone(),
             values: Vec::new(),
             used: Vec::new(),
             unused: Vec::new(),
+            optional_used: Vec::new(),
+            optional_unused: Vec::new(),
             call: 0,
         };
         for (at, column) in self.program.order.iter().enumerate() {
@@ -120,10 +130,16 @@ impl Writer {
                 }
                 Column::Field(field) if uses.contains(field) => {
                     good.used.push(at);
+                    if OPTIONAL.contains(field) {
+                        good.optional_used.push(at);
+                    }
                     values[*field as usize].to_string()
                 }
-                Column::Field(_) => {
+                Column::Field(field) => {
                     good.unused.push(at);
+                    if OPTIONAL.contains(field) {
+                        good.optional_unused.push(at);
+                    }
                     String::from("-")
                 }
             };
@@ -132,8 +148,11 @@ impl Writer {
         good
     }
 
-    /// Writes the request. True if it is done.
+    /// Writes the request, unless a field of it has no name. True if it is done.
     pub fn request(&mut self, request: &Request) -> bool {
+        if !self.calls.contains(&request.call) {
+            return false;
+        }
         let uses = request.call.uses();
         let mut good = self.good(request.call.word(), uses, &request.values);
         let mut form = None;
@@ -145,6 +164,11 @@ impl Writer {
                 form = Some(lines::JUST_PAST);
             } else if value > field.last() && value >= 10_000 {
                 form = Some(lines::FIVE_DIGITS_PAST);
+            }
+        }
+        for (mark, name) in lines::MARKS_PAST {
+            if request.call == Call::Share && request.at(Field::Shared) == mark {
+                form = Some(name);
             }
         }
         if self.random.chance(self.habits.zeros, 100) {
@@ -213,6 +237,9 @@ impl Writer {
                     paper::entity_level(e) == level && !t.entities[e].live
                 })
             }
+            Field::Entity if call == Call::Share && way < 6 => self.one_of(64, |t, e| {
+                t.entities[e].kind == paper::CONTAINER && paper::has_right(t, seat, e, paper::OWN)
+            }),
             Field::Entity if way < 3 => self.one_of(64, |t, e| {
                 t.entities[e].live && t.seats[seat].writing[t.entities[e].parent]
             }),
@@ -248,6 +275,10 @@ impl Writer {
             Field::Rights if way < 7 => self.random.pick(&[1, 2, 4, 8]),
             Field::Rights => self.random.between(1, 15),
             Field::Ceiling => self.random.below(4),
+            Field::Shared if way < 7 => {
+                1 - self.tables().entities[request.at(Field::Entity).min(63)].shared
+            }
+            Field::Shared => self.random.below(2),
         }
     }
 
@@ -292,15 +323,16 @@ impl Writer {
         self.past_range(field, inside)
     }
 
-    /// A number past the field's range, of at most five digits: often the first or the last of these, or one that eight
-    /// or sixteen bits take for `inside`.
+    /// A number past the field's range, of at most five digits: often the first or the last of these, the last of
+    /// sixteen bits, or one that eight or sixteen bits take for `inside`.
     pub fn past_range(&mut self, field: Field, inside: usize) -> usize {
         let first = field.last() + 1;
-        let choice = match self.random.below(6) {
+        let choice = match self.random.below(7) {
             0 | 1 => first,
             2 => 99_999,
             3 => 65_536 + inside,
             4 => 256 + inside,
+            5 => 65_535,
             _ => self.random.between(first, 99_999),
         };
         choice.clamp(first, 99_999)
@@ -395,7 +427,7 @@ impl Writer {
 
     /// A call, those that build up more often than those that end something.
     pub fn call(&mut self) -> Call {
-        const WEIGHTS: [(Call, usize); 16] = [
+        const WEIGHTS: [(Call, usize); CALLS.len()] = [
             (Call::Login, 8),
             (Call::Logout, 1),
             (Call::Take, 10),
@@ -412,10 +444,12 @@ impl Writer {
             (Call::Unlist, 2),
             (Call::Make, 4),
             (Call::Unmake, 1),
+            (Call::Share, 6),
         ];
-        let all: usize = WEIGHTS.iter().map(|(_, weight)| weight).sum();
+        let weights = WEIGHTS.iter().filter(|(call, _)| self.calls.contains(call));
+        let all: usize = weights.clone().map(|(_, weight)| weight).sum();
         let mut at = self.random.below(all);
-        for (call, weight) in WEIGHTS {
+        for &(call, weight) in weights {
             if at < weight {
                 return call;
             }
@@ -427,7 +461,7 @@ impl Writer {
     /// A side of any call; a number past its range less often than the others.
     fn side(&mut self) -> (Call, usize) {
         loop {
-            let (call, side) = (self.random.pick(&CALLS), self.random.below(22));
+            let (call, side) = (self.random.pick(&self.calls), self.random.below(22));
             if let Some(found) = paper::sides(call).get(side) {
                 if found.number != 2 || self.random.chance(1, 3) {
                     return (call, side);
@@ -453,7 +487,7 @@ impl Writer {
                 self.aim(call, &[], 1 << side | 1 << other)
             }
             _ => {
-                let call = self.random.pick(&CALLS);
+                let call = self.random.pick(&self.calls);
                 let mut request = Request::new(call);
                 for &field in call.uses() {
                     let value = if self.random.chance(1, 2) {

@@ -10,6 +10,9 @@ pub struct Good {
     pub values: Vec<Vec<u8>>,
     pub used: Vec<usize>,
     pub unused: Vec<usize>,
+    /// Of these, the columns whose names a line of names may leave out.
+    pub optional_used: Vec<usize>,
+    pub optional_unused: Vec<usize>,
     pub call: usize,
 }
 
@@ -38,6 +41,17 @@ impl Good {
         random.pick(&spaces)
     }
 
+    /// Any column.
+    fn column(&self, random: &mut Random) -> usize {
+        random.below(self.values.len())
+    }
+
+    fn without(&self, column: usize) -> Vec<u8> {
+        let mut values = self.values.clone();
+        values.remove(column);
+        values.join(&b' ')
+    }
+
     fn word(&self) -> String {
         String::from_utf8(self.values[self.call].clone()).unwrap()
     }
@@ -57,7 +71,9 @@ pub static UNREADABLE: &[Form] = &[
     form("spaces alone", |random, _| {
         vec![b' '; random.between(1, 30)]
     }),
-    form("eleven spaces alone", |_, _| vec![b' '; 11]),
+    form("the spaces between the values alone", |_, good| {
+        vec![b' '; good.values.len() - 1]
+    }),
     form("two spaces for one", |random, good| {
         inserted(good.line(), good.space(random), b" ")
     }),
@@ -92,34 +108,30 @@ pub static UNREADABLE: &[Form] = &[
         replaced(good.line(), good.space(random), b",")
     }),
     form("one value", |random, good| {
-        good.values[random.below(12)].clone()
+        good.values[good.column(random)].clone()
     }),
     form("the word alone", |_, good| good.values[good.call].clone()),
-    form("eleven values", |random, good| {
+    form("one value left out", |random, good| {
+        good.without(good.column(random))
+    }),
+    form("the last value left out", |_, good| {
+        good.without(good.values.len() - 1)
+    }),
+    form("a dash added", |random, good| {
         let mut values = good.values.clone();
-        values.remove(random.below(12));
+        values.insert(random.below(values.len() + 1), b"-".to_vec());
         values.join(&b' ')
     }),
-    form("eleven values, the last left out", |_, good| {
-        good.values[..11].join(&b' ')
-    }),
-    form("thirteen values, a dash added", |random, good| {
+    form("a number added", |random, good| {
         let mut values = good.values.clone();
-        values.insert(random.below(13), b"-".to_vec());
+        let value = digits(random.below(100));
+        values.insert(random.below(values.len() + 1), value);
         values.join(&b' ')
     }),
-    form("thirteen values, a number added", |random, good| {
-        let mut values = good.values.clone();
-        values.insert(random.below(13), digits(random.below(100)));
-        values.join(&b' ')
+    form("one more value at the end", |random, good| {
+        let last = random.pick(&[&b" -"[..], b" 0", b" 1", b" login", b" 17"]);
+        [good.line(), last.to_vec()].concat()
     }),
-    form(
-        "twelve values and a thirteenth at the end",
-        |random, good| {
-            let last = random.pick(&[&b" -"[..], b" 0", b" login", b" 17"]);
-            [good.line(), last.to_vec()].concat()
-        },
-    ),
     form("the line twice in one", |_, good| {
         [good.line(), good.line()].join(&b' ')
     }),
@@ -260,7 +272,7 @@ pub static UNREADABLE: &[Form] = &[
         good.with(column, besides(random, &good.values[column], byte))
     }),
     form("digit or dash with the top bit set", |random, good| {
-        let column = random.below(12);
+        let column = good.column(random);
         let value: Vec<u8> = good.values[column].iter().map(|byte| byte | 128).collect();
         good.with(column, value)
     }),
@@ -303,7 +315,7 @@ pub static UNREADABLE: &[Form] = &[
         good.with(good.call, &good.word()[1..])
     }),
     form("word with more after it", |random, good| {
-        let more = random.pick(&["s", "x", "0", "-", "\0", "\r", "r", "w"]);
+        let more = random.pick(&["s", "d", "x", "0", "-", "\0", "\r", "r", "w"]);
         good.with(good.call, format!("{}{more}", good.word()))
     }),
     form("word with more before it", |random, good| {
@@ -335,7 +347,7 @@ pub static UNREADABLE: &[Form] = &[
     }),
     form("word in another column", |random, good| {
         let mut values = good.values.clone();
-        let other = (good.call + random.between(1, 11)) % 12;
+        let other = (good.call + random.between(1, values.len() - 1)) % values.len();
         values.swap(good.call, other);
         values.join(&b' ')
     }),
@@ -403,6 +415,71 @@ pub static UNREADABLE: &[Form] = &[
     ),
 ];
 
+/// Lines that use a field whose name a line of names may leave out.
+pub static OPTIONAL_USED: &[Form] = &[
+    form("number below an optional name left out", |random, good| {
+        good.without(random.pick(&good.optional_used))
+    }),
+    form(
+        "dash for a number below an optional name",
+        |random, good| good.with(random.pick(&good.optional_used), "-"),
+    ),
+    form("six digits below an optional name", |random, good| {
+        let text = random.pick(&["123456", "100000", "999999", "000000", "000001"]);
+        good.with(random.pick(&good.optional_used), text)
+    }),
+    form(
+        "number of an optional name below another",
+        |random, good| {
+            let mut values = good.values.clone();
+            values.swap(random.pick(&good.optional_used), good.unused(random));
+            values.join(&b' ')
+        },
+    ),
+];
+
+/// Lines that do not use such a field.
+pub static OPTIONAL_UNUSED: &[Form] = &[
+    form("dash below an optional name left out", |random, good| {
+        good.without(random.pick(&good.optional_unused))
+    }),
+    form(
+        "number for a dash below an optional name",
+        number_below_optional,
+    ),
+];
+
+/// And `user` lines, none of which does.
+pub static OPTIONAL_IN_USER: &[Form] = &[form(
+    "number below an optional name in a `user` line",
+    number_below_optional,
+)];
+
+fn number_below_optional(random: &mut Random, good: &Good) -> Vec<u8> {
+    let value = random.pick(&[0, 1, 2, 65_535, 99_999, 123_456]);
+    good.with(random.pick(&good.optional_unused), digits(value))
+}
+
+/// Lines of a request that uses a field without a name: no number can be given for it.
+pub static NAMELESS: &[Form] = &[
+    form("a request whose field has no name", |_, good| good.line()),
+    form(
+        "a request whose field has no name, and a number at the end",
+        |random, good| {
+            let mut values = good.values.clone();
+            values.push(digits(random.below(3)));
+            values.join(&b' ')
+        },
+    ),
+    form(
+        "a request whose field has no name, and a number in another",
+        |random, good| {
+            let value = digits(random.below(3));
+            good.with(good.unused(random), value)
+        },
+    ),
+];
+
 /// A line of this length: the good line with zeros, spaces or more before or after.
 fn grown(random: &mut Random, good: &Good, length: usize) -> Vec<u8> {
     let line = good.line();
@@ -447,6 +524,12 @@ pub const LEADING_ZEROS: &str = "up to five digits, zeros before";
 pub const FIVE_DIGITS_PAST: &str = "five digits past the range";
 pub const JUST_PAST: &str = "one past the range";
 pub const LAST_IN_RANGE: &str = "the last number in range";
+pub const MARKS_PAST: [(usize, &str); 3] = [
+    (2, "`share` with mark 2"),
+    (65_535, "`share` with mark 65,535"),
+    (99_999, "`share` with mark 99,999"),
+];
+pub const MADE_AGAIN: &str = "`share` to 0 of a number made again that was shared";
 pub const USER_AFTER_UNREADABLE: &str = "`user` after an unreadable line";
 pub const USER_TWICE: &str = "`user` again for the same user";
 pub const USER_AFTER_FAULT: &str = "`user` after a `user` answered 2";
@@ -465,6 +548,10 @@ pub const READABLE: &[&str] = &[
     FIVE_DIGITS_PAST,
     JUST_PAST,
     LAST_IN_RANGE,
+    MARKS_PAST[0].1,
+    MARKS_PAST[1].1,
+    MARKS_PAST[2].1,
+    MADE_AGAIN,
     USER_AFTER_UNREADABLE,
     USER_TWICE,
     USER_AFTER_FAULT,

@@ -1,11 +1,12 @@
-//! Compares two programs that read request files, `requests` and `reference`, with each other and with document 01 as
-//! `paper` and `program` have it, on generated files and on one case for each refusal.
+//! Compares two programs that read request files, `requests` and `reference`, with each other and with the papers as
+//! `paper` and `program` have them, on generated files and on one case for each refusal.
 
 mod alone;
 mod coverage;
 mod files;
 mod generator;
 mod lines;
+mod marks;
 mod paper;
 mod program;
 mod programs;
@@ -148,6 +149,7 @@ fn generated(options: &Options) -> bool {
     }
     coverage.print_answers();
     coverage.print_pairs();
+    coverage.print_situations();
     println!("{:.0} s", begun.elapsed().as_secs_f64());
     coverage.verdict()
 }

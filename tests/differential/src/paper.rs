@@ -1,6 +1,6 @@
 //! Document 01 written down as it reads: the tables, the refusals that apply to each request, and what a done request
-//! changes. Of document 02 it has A.1: "Categories become a set of sixteen, 0 to 65,535, in users, seats and entities."
-//! Nothing here is made for speed or shared between requests beyond what the papers share.
+//! changes. Of document 02 it has A.1: "Categories become a set of sixteen, 0 to 65,535, in users, seats and entities";
+//! and A.2, shared drawers. Nothing here is made for speed or shared between requests beyond what the papers share.
 //!
 //! A refusal whose condition has parts joined by "or" is written as several sides of the same number. A side is a
 //! plain question about the tables and the request. Each one can be asked whatever the others say: the record of
@@ -23,12 +23,19 @@ pub enum Field {
     Cats,
     Rights,
     Ceiling,
+    Shared,
 }
 
-/// The fields in the order of the paper's sample.
-pub const FIELDS: [Field; 11] = [
-    Seat, User, Role, Entity, Parent, Kind, Name, Level, Cats, Rights, Ceiling,
+/// The fields in the order of the paper's sample, then those of document 02.
+pub const FIELDS: [Field; 12] = [
+    Seat, User, Role, Entity, Parent, Kind, Name, Level, Cats, Rights, Ceiling, Shared,
 ];
+
+/// The fields whose names a line of names may leave out.
+pub const OPTIONAL: [Field; 1] = [Shared];
+
+/// A number for each field.
+pub type Values = [usize; FIELDS.len()];
 
 impl Field {
     pub fn word(self) -> &'static str {
@@ -44,6 +51,7 @@ impl Field {
             Cats => "cats",
             Rights => "rights",
             Ceiling => "ceiling",
+            Shared => "shared",
         }
     }
 
@@ -57,6 +65,7 @@ impl Field {
             Level | Ceiling => 3,
             Cats => 65_535,
             Rights => 15,
+            Shared => 1,
         }
     }
 }
@@ -79,11 +88,12 @@ pub enum Call {
     Unlist,
     Make,
     Unmake,
+    Share,
 }
 
-pub const CALLS: [Call; 16] = [
+pub const CALLS: [Call; 17] = [
     Login, Logout, Take, Drop, Openr, Openw, Close, Create, Delete, Rename, Grant, Revoke, List,
-    Unlist, Make, Unmake,
+    Unlist, Make, Unmake, Share,
 ];
 
 impl Call {
@@ -105,6 +115,7 @@ impl Call {
             Unlist => "unlist",
             Make => "make",
             Unmake => "unmake",
+            Share => "share",
         }
     }
 
@@ -121,6 +132,7 @@ impl Call {
             Grant | Revoke => &[Seat, Role, Entity, Rights],
             List | Unlist => &[Seat, Role, User],
             Make | Unmake => &[Seat, Role],
+            Share => &[Seat, Entity, Shared],
         }
     }
 }
@@ -131,14 +143,14 @@ pub const USER_USES: [Field; 4] = [User, Level, Cats, Ceiling];
 #[derive(Clone, Copy, Debug, PartialEq, Eq)]
 pub struct Request {
     pub call: Call,
-    pub values: [usize; 11],
+    pub values: Values,
 }
 
 impl Request {
     pub fn new(call: Call) -> Request {
         Request {
             call,
-            values: [0; 11],
+            values: Values::default(),
         }
     }
 
@@ -189,6 +201,7 @@ pub struct EntityRecord {
     pub parent: usize,
     pub name: usize,
     pub label: Label,
+    pub shared: usize,
 }
 
 #[derive(Clone, Debug, PartialEq, Eq)]
@@ -219,6 +232,7 @@ pub const EMPTY_ENTITY: EntityRecord = EntityRecord {
     parent: 0,
     name: 0,
     label: Label { grade: 0, cats: 0 },
+    shared: 0,
 };
 
 pub const OBJECT: usize = 0;
@@ -323,7 +337,8 @@ pub fn fresh(users: &[UserRecord; 16]) -> Tables {
 
 // ---- Sound tables
 
-/// The six points on sound tables, in the paper's order. Tables reached from fresh ones are sound; a run checks it.
+/// The six points on sound tables, in the paper's order, and that of A.2. Tables reached from fresh ones are sound; a
+/// run checks it.
 pub fn sound(tables: &Tables) -> bool {
     in_range(tables)
         && live_entities_placed(tables)
@@ -331,6 +346,7 @@ pub fn sound(tables: &Tables) -> bool {
         && rights_not_upward(tables)
         && reading_allowed(tables)
         && writing_allowed(tables)
+        && objects_unshared(tables)
 }
 
 fn in_range(tables: &Tables) -> bool {
@@ -352,6 +368,7 @@ fn in_range(tables: &Tables) -> bool {
                 && entity.parent <= 63
                 && entity.name <= 65_535
                 && label_in_range(entity.label)
+                && entity.shared <= 1
         })
         && [0, 16, 32, 48].iter().all(|&root| {
             tables.entities[root]
@@ -359,6 +376,8 @@ fn in_range(tables: &Tables) -> bool {
                     live: true,
                     kind: CONTAINER,
                     parent: root,
+                    // "Roots start with 0"; nothing is said of later.
+                    shared: tables.entities[root].shared,
                     ..EMPTY_ENTITY
                 }
         })
@@ -449,6 +468,14 @@ fn writing_allowed(tables: &Tables) -> bool {
     })
 }
 
+/// "Soundness asks 0 for an object."
+fn objects_unshared(tables: &Tables) -> bool {
+    tables
+        .entities
+        .iter()
+        .all(|entity| entity.kind != OBJECT || entity.shared == 0)
+}
+
 // ---- The refusals that apply to each request
 
 pub struct Side {
@@ -494,6 +521,7 @@ const RIGHTS_RANGE: Side = side(2, "the rights are past 15", &[Rights], |_, q| {
     q.at(Rights) > 15
 });
 const RIGHTS_ZERO: Side = side(2, "the rights are 0", &[Rights], |_, q| q.at(Rights) == 0);
+const MARK_RANGE: Side = side(2, "the mark is past 1", &[Shared], |_, q| q.at(Shared) > 1);
 
 const SEAT_DEAD: Side = side(5, "x is not live", &[Seat], |t, q| {
     !t.seats[q.at(Seat)].live
@@ -540,6 +568,16 @@ const ABOVE_NOT_EXECUTED: Side = side(
 const NO_OWN: Side = side(13, "x lacks own on e", &[Seat, Entity], |t, q| {
     !has_right(t, q.at(Seat), q.at(Entity), OWN)
 });
+/// "In a shared container delete and rename also need own on the entity."
+pub const NO_OWN_IN_SHARED: Side = side(
+    13,
+    "the parent is shared and x lacks own on e",
+    &[Seat, Entity],
+    |t, q| {
+        t.entities[t.entities[q.at(Entity)].parent].shared == 1
+            && !has_right(t, q.at(Seat), q.at(Entity), OWN)
+    },
+);
 
 static LOGIN: [Side; 8] = [
     SEAT_RANGE,
@@ -737,7 +775,7 @@ static CREATE: [Side; 22] = [
     ),
 ];
 
-static DELETE: [Side; 8] = [
+static DELETE: [Side; 9] = [
     SEAT_RANGE,
     ENTITY_RANGE,
     SEAT_DEAD,
@@ -745,12 +783,13 @@ static DELETE: [Side; 8] = [
     ENTITY_DEAD,
     ABOVE_NOT_OPEN,
     ABOVE_NOT_EXECUTED,
+    NO_OWN_IN_SHARED,
     side(15, "the entity has children", &[Entity], |t, q| {
         (0..64).any(|child| is_child(t, child, q.at(Entity)))
     }),
 ];
 
-static RENAME: [Side; 11] = [
+static RENAME: [Side; 12] = [
     SEAT_RANGE,
     ENTITY_RANGE,
     NAME_RANGE,
@@ -760,6 +799,7 @@ static RENAME: [Side; 11] = [
     ENTITY_DEAD,
     ABOVE_NOT_OPEN,
     ABOVE_NOT_EXECUTED,
+    NO_OWN_IN_SHARED,
     side(
         14,
         "another child of the parent has the name",
@@ -848,6 +888,22 @@ static UNMAKE: [Side; 7] = [
     KEEPER_NOT_HELD,
 ];
 
+static SHARE: [Side; 9] = [
+    SEAT_RANGE,
+    ENTITY_RANGE,
+    MARK_RANGE,
+    SEAT_DEAD,
+    ENTITY_DEAD,
+    side(9, "the entity is an object", &[Entity], |t, q| {
+        t.entities[q.at(Entity)].kind == OBJECT
+    }),
+    SEAT_BELOW_ENTITY,
+    NO_OWN,
+    side(16, "the mark is so already", &[Entity, Shared], |t, q| {
+        t.entities[q.at(Entity)].shared == q.at(Shared)
+    }),
+];
+
 /// Every side of every refusal that applies to the request, by number. 1 is left out: the program's tables are sound.
 pub fn sides(call: Call) -> &'static [Side] {
     match call {
@@ -866,6 +922,7 @@ pub fn sides(call: Call) -> &'static [Side] {
         Unlist => &UNLIST,
         Make => &MAKE,
         Unmake => &UNMAKE,
+        Share => &SHARE,
     }
 }
 
@@ -880,7 +937,7 @@ pub fn numbers(call: Call) -> Vec<usize> {
 /// asked.
 pub fn met(tables: &Tables, request: &Request) -> u32 {
     let mut met = 0;
-    let mut past: [bool; 11] = [false; 11];
+    let mut past = [false; FIELDS.len()];
     let sides = sides(request.call);
     for (bit, side) in sides.iter().enumerate() {
         if side.number == 2 && (side.holds)(tables, request) {
@@ -957,6 +1014,7 @@ pub fn done(tables: &mut Tables, q: &Request) {
                 parent: q.at(Parent),
                 name: q.at(Name),
                 label,
+                shared: 0,
             };
             tables.roles[role].rights[entity] = OWN;
         }
@@ -1001,6 +1059,7 @@ pub fn done(tables: &mut Tables, q: &Request) {
                 seat.roles[role] = false;
             }
         }
+        Share => tables.entities[entity].shared = q.at(Shared),
     }
 }
 
@@ -1012,7 +1071,7 @@ mod tests {
     fn pairs_and_sides() {
         let pairs: usize = CALLS.iter().map(|&call| numbers(call).len()).sum();
         let all: usize = CALLS.iter().map(|&call| sides(call).len()).sum();
-        assert_eq!((pairs, all), (87, 138));
+        assert_eq!((pairs, all), (94, 149));
         for call in CALLS {
             let rising: Vec<usize> = sides(call).iter().map(|side| side.number).collect();
             assert!(rising.windows(2).all(|pair| pair[0] <= pair[1]));
@@ -1044,5 +1103,27 @@ mod tests {
     #[test]
     fn fresh_tables_are_sound() {
         assert!(sound(&fresh(&[UserRecord::default(); 16])));
+    }
+
+    #[test]
+    fn marks_of_sound_tables() {
+        let mut fresh = fresh(&[UserRecord::default(); 16]);
+        assert!(fresh.entities.iter().all(|entity| entity.shared == 0));
+        for (entity, kind) in [(1, CONTAINER), (2, OBJECT)] {
+            fresh.entities[entity] = EntityRecord {
+                live: true,
+                kind,
+                name: entity,
+                ..EMPTY_ENTITY
+            };
+        }
+        // A root, a container, an object and a number that is not live.
+        for (entity, most) in [(48, 1), (1, 1), (2, 0), (3, 0)] {
+            for mark in 0..4 {
+                let mut tables = fresh.clone();
+                tables.entities[entity].shared = mark;
+                assert_eq!(sound(&tables), mark <= most);
+            }
+        }
     }
 }

@@ -1,7 +1,10 @@
-//! The request program as document 01 describes it, over the tables of `paper`: from the bytes of an input to what is
+//! The request program as the papers describe it, over the tables of `paper`: from the bytes of an input to what is
 //! to be printed for each line.
 
-use crate::paper::{self, Call, Field, Label, Request, Tables, UserRecord, CALLS, FIELDS};
+use crate::marks;
+use crate::paper::{
+    self, Call, Field, Label, Request, Tables, UserRecord, Values, CALLS, FIELDS, OPTIONAL,
+};
 
 pub const LAST_LINE: usize = 65_535;
 pub const LONGEST_LINE: usize = 255;
@@ -23,14 +26,20 @@ impl Column {
 
 /// The twelve names, in the order of the paper's sample.
 pub fn sample_order() -> Vec<Column> {
+    let twelve = FIELDS.iter().filter(|field| !OPTIONAL.contains(field));
     let mut order = vec![Column::Call];
-    order.extend(FIELDS.iter().map(|&field| Column::Field(field)));
+    order.extend(twelve.map(|&field| Column::Field(field)));
     order
+}
+
+/// The names that a line of names may leave out.
+pub fn optional() -> Vec<Column> {
+    OPTIONAL.map(Column::Field).to_vec()
 }
 
 pub enum Read {
     Unreadable,
-    User([usize; 11]),
+    User(Values),
     Request(Request),
 }
 
@@ -44,6 +53,8 @@ pub enum What {
         met: u32,
         /// Refused for categories 8 to 15 alone.
         upper_half: bool,
+        /// What it shows of marks: bit i for `marks::SITUATIONS[i]`.
+        situations: u32,
     },
 }
 
@@ -67,17 +78,18 @@ impl Program {
         if line.len() > LONGEST_LINE {
             return None;
         }
+        let names = [sample_order(), optional()].concat();
         let mut order = Vec::new();
         for word in line.split(|&byte| byte == b' ') {
-            let column = sample_order()
-                .into_iter()
+            let column = *names
+                .iter()
                 .find(|column| column.word().as_bytes() == word)?;
             if order.contains(&column) {
                 return None;
             }
             order.push(column);
         }
-        if order.len() != 12 {
+        if sample_order().iter().any(|column| !order.contains(column)) {
             return None;
         }
         let users = [UserRecord::default(); 16];
@@ -94,15 +106,15 @@ impl Program {
             return Read::Unreadable;
         }
         let values: Vec<&[u8]> = line.split(|&byte| byte == b' ').collect();
-        if values.len() != 12 {
+        if values.len() != self.order.len() {
             return Read::Unreadable;
         }
-        let call_at = self
-            .order
-            .iter()
-            .position(|&column| column == Column::Call)
-            .unwrap();
-        let word = values[call_at];
+        // A name that is left out: "the field then counting as a dash".
+        let below = |name: Column| -> &[u8] {
+            let at = self.order.iter().position(|&column| column == name);
+            at.map_or(b"-", |at| values[at])
+        };
+        let word = below(Column::Call);
         let call: Option<Call> = CALLS
             .into_iter()
             .find(|call| call.word().as_bytes() == word);
@@ -111,17 +123,15 @@ impl Program {
             None if word == b"user" => &paper::USER_USES,
             None => return Read::Unreadable,
         };
-        let mut numbers = [0; 11];
-        for (column, value) in self.order.iter().zip(&values) {
-            let Column::Field(field) = *column else {
-                continue;
-            };
+        let mut numbers = Values::default();
+        for field in FIELDS {
+            let value = below(Column::Field(field));
             if uses.contains(&field) {
                 match number(value) {
                     Some(n) => numbers[field as usize] = n,
                     None => return Read::Unreadable,
                 }
-            } else if *value != b"-" {
+            } else if value != b"-" {
                 return Read::Unreadable;
             }
         }
@@ -171,6 +181,7 @@ impl Program {
                 // Only these two numbers look at labels.
                 let upper_half =
                     [4, 11].contains(&answer) && paper::done_in_lower_half(&self.tables, &request);
+                let situations = marks::situations(&self.tables, &request, met);
                 if answer == 0 {
                     paper::done(&mut self.tables, &request);
                 }
@@ -179,6 +190,7 @@ impl Program {
                         request,
                         met,
                         upper_half,
+                        situations,
                     },
                     answer,
                 }
@@ -254,9 +266,15 @@ mod tests {
     use super::*;
 
     const NAMES: &str = "call seat user role entity parent kind name level cats rights ceiling\n";
+    const NAMES_SHARED: &str =
+        "call seat user role entity parent kind name level cats rights ceiling shared\n";
 
     fn answers(lines: &str) -> Vec<usize> {
-        let input = format!("{NAMES}{lines}");
+        answers_below(NAMES, lines)
+    }
+
+    fn answers_below(names: &str, lines: &str) -> Vec<usize> {
+        let input = format!("{names}{lines}");
         let report = report(input.as_bytes());
         assert!(report.names_good && report.sound);
         report.seen.iter().map(|seen| seen.answer).collect()
@@ -337,6 +355,49 @@ mod tests {
     }
 
     #[test]
+    fn a_shared_drawer() {
+        let lines = "user - 0 - - - - - 3 255 - 3 -\nlogin 12 0 - - - - - 0 0 - - -\n\
+             take 12 - 12 - - - - - - - - -\nopenw 12 - - 48 - - - - - - - -\n\
+             create 12 - 12 49 48 0 7 0 0 - - -\ncreate 12 - 12 50 48 1 8 0 0 - - -\n\
+             share 12 - - 48 - - - - - - - 0\nshare 12 - - 48 - - - - - - - 1\n\
+             share 12 - - 49 - - - - - - - 1\nshare 12 - - 50 - - - - - - - 1\n\
+             rename 12 - - 49 - - 9 - - - - -\nrevoke 12 - 12 49 - - - - - 8 - -\n\
+             rename 12 - - 49 - - 9 - - - - -\ndelete 12 - - 49 - - - - - - - -\n\
+             delete 12 - - 50 - - - - - - - -\ncreate 12 - 12 50 48 1 8 0 0 - - -\n\
+             share 12 - - 50 - - - - - - - 0\nshare 12 - - 48 - - - - - - - 0\n\
+             delete 12 - - 49 - - - - - - - -\n";
+        assert_eq!(
+            answers_below(NAMES_SHARED, lines),
+            [0, 0, 0, 0, 0, 0, 16, 0, 9, 0, 0, 0, 13, 13, 0, 0, 16, 0, 0]
+        );
+    }
+
+    #[test]
+    fn edges_of_marks() {
+        let lines = "login 0 0 - - - - - 0 0 - - -\ntake 0 - 0 - - - - - - - - -\n\
+             share 0 - - 0 - - - - - - - 2\nshare 0 - - 0 - - - - - - - 65535\n\
+             share 0 - - 0 - - - - - - - 99999\nshare 0 - - 0 - - - - - - - 123456\n\
+             share 0 - - 0 - - - - - - - -\nshare 0 - - 0 - - - - - - - 00001\n\
+             drop 0 - 0 - - - - - - - - 0\ndrop 0 - 0 - - - - - - - -\n\
+             drop 0 - 0 - - - - - - - - -\n";
+        assert_eq!(
+            answers_below(NAMES_SHARED, lines),
+            [0, 0, 2, 2, 2, 17, 17, 0, 17, 17, 0]
+        );
+    }
+
+    #[test]
+    fn without_the_name_there_is_no_mark() {
+        let lines = "user - 0 - - - - - 0 0 - 0 -\nshare 0 - - 0 - - - - - - -\n\
+             share 0 - - 0 - - - - - - - 1\nshare 0 - - 0 - - - - - - 1\n\
+             user - 0 - - - - - 0 0 - 0\nlogin 0 0 - - - - - 0 0 - -\n";
+        assert_eq!(answers(lines), [17, 17, 17, 17, 0, 0]);
+        let lines = "user - 0 - - - - - 0 0 - 0\nuser - 0 - - - - - 0 0 - 0 0\n\
+             user - 0 - - - - - 0 0 - 0 -\n";
+        assert_eq!(answers_below(NAMES_SHARED, lines), [17, 17, 0]);
+    }
+
+    #[test]
     fn user_lines() {
         let lines = "user - 16 - - - - - 0 0 - 0\n\nuser - 1 - - - - - 3 0 - 3\n\
              user - 1 - - - - - 0 0 - 0\nlogin 0 16 - - - - - 0 0 - -\n\
@@ -357,5 +418,12 @@ mod tests {
             report(NAMES.replace(" kind", "").as_bytes()).output(),
             b"line answer\n1 17\n"
         );
+        let good = |names: &str| report(names.as_bytes()).names_good;
+        assert!(good(NAMES_SHARED) && good(&NAMES.replace("call", "shared call")));
+        assert!(good(&NAMES.replace("kind", "kind shared")));
+        assert!(!good(&NAMES.replace("kind", "shared")) && !good("shared\n"));
+        assert!(!good(&NAMES_SHARED.replace("kind", "shared")));
+        assert!(!good(&NAMES_SHARED.replace("kind", "kind shared")));
+        assert!(!good(&NAMES_SHARED.replace("shared", "share")));
     }
 }

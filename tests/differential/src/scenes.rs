@@ -3,7 +3,7 @@
 
 use crate::generator::{Writer, DONE};
 use crate::lines;
-use crate::paper::{self, Call, Field, Label, CALLS};
+use crate::paper::{self, Call, Field, Label, Values};
 use crate::program::What;
 
 impl Writer {
@@ -20,8 +20,9 @@ impl Writer {
                 10 => self.recycle_seat(),
                 11..=13 => self.outlive(),
                 14..=15 => self.survey(),
-                16..=17 => self.share(),
+                16..=17 => self.hand_on(),
                 18 => self.write_object(),
+                19..=21 => self.drawer(),
                 _ => self.aimed(),
             }
             if self.random.chance(self.habits.unreadable, 100) {
@@ -47,7 +48,7 @@ impl Writer {
                 self.unreadable();
             }
             let user = if turn == 0 { 0 } else { self.random.below(16) };
-            let mut values = [0; 11];
+            let mut values = Values::default();
             let label = if turn == 0 && strong {
                 Label {
                     grade: 3,
@@ -97,7 +98,7 @@ impl Writer {
 
     /// `user` when it is too late.
     fn late_user(&mut self) {
-        let mut values = [0; 11];
+        let mut values = Values::default();
         for field in paper::USER_USES {
             values[field as usize] = self.random.below(field.last() + 1);
         }
@@ -113,29 +114,52 @@ impl Writer {
 
     /// A line that can't be read, from one that would be done.
     pub fn unreadable(&mut self) {
-        let form = &lines::UNREADABLE[self.random.below(lines::UNREADABLE.len())];
-        let good = if !self.program.shut && self.random.chance(1, 2) {
-            let mut values = [0; 11];
+        let nameless = !self.nameless.is_empty() && self.random.chance(1, 12);
+        let user = !nameless && !self.program.shut && self.random.chance(1, 2);
+        let good = if nameless {
+            let call = self.random.pick(&self.nameless);
+            self.good_request(call)
+        } else if user {
+            let mut values = Values::default();
             for field in paper::USER_USES {
                 values[field as usize] = self.random.below(field.last() + 1);
             }
             self.good("user", &paper::USER_USES, &values)
         } else {
             let call = self.call();
-            let (request, _) = self.aim(call, &[], DONE);
-            self.good(call.word(), call.uses(), &request.values)
+            self.good_request(call)
         };
+        let forms = if nameless {
+            lines::NAMELESS
+        } else if !good.optional_used.is_empty() && self.random.chance(1, 2) {
+            lines::OPTIONAL_USED
+        } else if !good.optional_unused.is_empty() && self.random.chance(1, 8) {
+            if user {
+                lines::OPTIONAL_IN_USER
+            } else {
+                lines::OPTIONAL_UNUSED
+            }
+        } else {
+            lines::UNREADABLE
+        };
+        let form = &forms[self.random.below(forms.len())];
         let line = (form.spoil)(&mut self.random, &good);
         self.write(&line, Some(form.name));
+    }
+
+    /// The line of a request that would be done, or nearly.
+    fn good_request(&mut self, call: Call) -> lines::Good {
+        let (request, _) = self.aim(call, &[], DONE);
+        self.good(call.word(), call.uses(), &request.values)
     }
 
     /// A few seats that can begin. Sometimes the first request of all is one past its range.
     fn settle(&mut self) {
         if self.random.chance(1, 6) {
-            let call = self.random.pick(&CALLS);
+            let call = self.random.pick(&self.calls);
             let (request, _) = self.aim(call, &[], 1);
             self.request(&request);
-            let good = self.good("user", &paper::USER_USES, &[0; 11]);
+            let good = self.good("user", &paper::USER_USES, &Values::default());
             self.write(&good.line(), Some(lines::USER_LATE_AT_ONCE));
         }
         for _ in 0..self.random.between(1, 5) {
@@ -272,13 +296,25 @@ impl Writer {
                     .any(|seat| seat.writing[e] || seat.reading[e])
                     || t.roles.iter().any(|role| role.rights[e] != 0))
         });
+        let before = self.tables().entities[entity];
         if !self.wish(Call::Delete, &[(Field::Entity, entity)]) {
             return;
         }
         if self.random.chance(1, 4) {
             self.ask_all_seats(Call::Close, Field::Entity, entity);
         }
-        if self.wish(Call::Create, &[(Field::Entity, entity)]) {
+        let mut again = vec![(Field::Entity, entity)];
+        if before.shared == 1 {
+            again.push((Field::Kind, paper::CONTAINER));
+        }
+        if self.wish(Call::Create, &again) {
+            if before.shared == 1 {
+                let unmark = [(Field::Entity, entity), (Field::Shared, 0)];
+                self.near(Call::Share, &unmark, &[16]);
+                if self.last_answer == 16 {
+                    self.forms.push((self.line_count, lines::MADE_AGAIN));
+                }
+            }
             if self.random.chance(1, 2) {
                 self.ask_all_seats(Call::Close, Field::Entity, entity);
             }
@@ -396,8 +432,130 @@ impl Writer {
         }
     }
 
+    /// Two seats that write in one container, each with a role of its own, while it is shared and when it no longer is.
+    fn drawer(&mut self) {
+        let seat = self.one_of(16, |t, seat| t.seats[seat].writing.contains(&true));
+        let drawer = self.one_of(64, |t, e| {
+            t.seats[seat].writing[e] && t.entities[e].kind == paper::CONTAINER
+        });
+        let (level, label) = (
+            paper::entity_level(drawer),
+            self.tables().entities[drawer].label,
+        );
+        let role = self.one_of(16, |t, role| {
+            paper::role_level(role) >= level
+                && !paper::is_keeper(role)
+                && !t.seats[seat].roles[role]
+        });
+        let other = self.one_of(16, |t, other| {
+            other != seat
+                && paper::seat_level(other) >= level
+                && (!t.seats[other].live || t.seats[other].label == label)
+        });
+        if !self.tables().seats[other].live {
+            let as_the_drawer = [
+                (Field::Seat, other),
+                (Field::Level, label.grade),
+                (Field::Cats, label.cats),
+            ];
+            self.wish(Call::Login, &as_the_drawer);
+        }
+        if !self.tables().roles[role].live {
+            self.wish(Call::Make, &[(Field::Role, role)]);
+        }
+        let user = self.tables().seats[other].user;
+        self.wish(Call::List, &[(Field::Role, role), (Field::User, user)]);
+        let rights = self.random.pick(&[6, 7, 14]);
+        let given = [
+            (Field::Role, role),
+            (Field::Entity, drawer),
+            (Field::Rights, rights),
+        ];
+        self.wish(Call::Grant, &given);
+        self.wish(Call::Take, &[(Field::Seat, other), (Field::Role, role)]);
+        self.wish(
+            Call::Openw,
+            &[(Field::Seat, other), (Field::Entity, drawer)],
+        );
+        let mark = |mark| [(Field::Entity, drawer), (Field::Shared, mark)];
+        let early = self.random.chance(1, 2);
+        if early {
+            self.wish(Call::Share, &mark(1));
+        }
+        self.wish(
+            Call::Create,
+            &[(Field::Seat, seat), (Field::Parent, drawer)],
+        );
+        let with_role = [
+            (Field::Seat, other),
+            (Field::Parent, drawer),
+            (Field::Role, role),
+        ];
+        self.wish(Call::Create, &with_role);
+        if !early {
+            self.wish(Call::Share, &mark(1));
+        }
+        self.try_sheets(&[seat, other], drawer);
+        if self.random.chance(1, 2) {
+            // Own on a sheet is given or taken away.
+            let sheet = self.one_of(64, |t, e| paper::is_child(t, e, drawer));
+            let to = self.random.pick(&[role, paper::keeper_of(role)]);
+            let call = self.random.pick(&[Call::Grant, Call::Revoke]);
+            let own = [
+                (Field::Role, to),
+                (Field::Entity, sheet),
+                (Field::Rights, paper::OWN),
+            ];
+            self.wish(call, &own);
+            self.try_sheets(&[seat, other], drawer);
+        }
+        if self.random.chance(1, 4) {
+            if self.random.chance(1, 2) {
+                self.wish(
+                    Call::Close,
+                    &[(Field::Seat, other), (Field::Entity, drawer)],
+                );
+            } else {
+                let execute = [
+                    (Field::Role, role),
+                    (Field::Entity, drawer),
+                    (Field::Rights, paper::EXECUTE),
+                ];
+                self.wish(Call::Revoke, &execute);
+            }
+            self.try_sheets(&[other], drawer);
+        }
+        if self.random.chance(2, 3) {
+            self.wish(Call::Share, &mark(0));
+            self.try_sheets(&[seat, other], drawer);
+        }
+    }
+
+    /// Each of the seats tries to delete or rename some of what is in the container, and to share it.
+    fn try_sheets(&mut self, seats: &[usize], container: usize) {
+        for &seat in seats {
+            for _ in 0..2 {
+                let sheet = self.one_of(64, |t, e| paper::is_child(t, e, container));
+                let mut asked = vec![(Field::Seat, seat), (Field::Entity, sheet)];
+                match self.random.below(8) {
+                    0..=2 => self.ask(Call::Delete, &asked),
+                    3..=5 => self.ask(Call::Rename, &asked),
+                    6 => {
+                        let named = self.one_of(64, |t, e| paper::is_child(t, e, container));
+                        asked.push((Field::Name, self.tables().entities[named].name.max(1)));
+                        self.ask(Call::Rename, &asked)
+                    }
+                    _ => {
+                        asked.push((Field::Shared, self.random.below(2)));
+                        self.ask(Call::Share, &asked)
+                    }
+                };
+            }
+        }
+    }
+
     /// Hands rights on one entity to another role, and lets a seat with that role open it.
-    fn share(&mut self) {
+    fn hand_on(&mut self) {
         let entity = self.one_of(64, |t, e| t.entities[e].live);
         let role = self.one_of(16, |t, role| {
             t.roles[role].live && paper::role_level(role) >= paper::entity_level(entity)
@@ -413,7 +571,7 @@ impl Writer {
     fn survey(&mut self) {
         let seat = self.one_of(16, |t, seat| t.seats[seat].live);
         let entity = self.one_of(64, |t, e| t.entities[e].live);
-        match self.random.below(8) {
+        match self.random.below(10) {
             0 => {
                 for role in 0..16 {
                     self.ask(Call::Take, &[(Field::Seat, seat), (Field::Role, role)]);
@@ -440,7 +598,18 @@ impl Writer {
                     self.wish(Call::List, &[(Field::Role, role), (Field::User, user)]);
                 }
             }
-            6 => {
+            6 => self.ask_all_seats(Call::Share, Field::Entity, entity),
+            7 => {
+                let level = self.random.below(4);
+                for entity in level * 16..level * 16 + 16 {
+                    let mut asked = vec![(Field::Seat, seat), (Field::Entity, entity)];
+                    if self.random.chance(1, 10) {
+                        asked.push((Field::Shared, self.past_range(Field::Shared, 1)));
+                    }
+                    self.ask(Call::Share, &asked);
+                }
+            }
+            8 => {
                 let parent = self.one_of(64, |t, e| t.seats[seat].writing[e]);
                 for name in 1..self.habits.names.min(16) {
                     self.wish(

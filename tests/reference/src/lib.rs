@@ -1,7 +1,8 @@
-//! The access guard of document 01 in plain Rust, with the categories of
-//! document 02, A.1: the tables are changed in place, sets are bit sets and no
-//! request touches the heap. It follows the papers alone and shares no line with
-//! the proved guard, so that the two can be held against each other.
+//! The access guard of document 01 in plain Rust, with the categories and the
+//! shared drawers of document 02, A.1 and A.2: the tables are changed in place,
+//! sets are bit sets and no request touches the heap. It follows the papers alone
+//! and shares no line with the proved guard, so that the two can be held against
+//! each other.
 //!
 //! Numbers handed back are those of the paper: 0 for done, otherwise the
 //! refusal. The refusals of a request stand in the order in which they are
@@ -23,7 +24,7 @@ pub const OWN: u8 = 8;
 pub const OBJECT: u8 = 0;
 pub const CONTAINER: u8 = 1;
 
-/// The numbers of the sixteen requests.
+/// The numbers of the seventeen requests.
 pub mod call {
     pub const LOGIN: u32 = 0;
     pub const LOGOUT: u32 = 1;
@@ -41,6 +42,7 @@ pub mod call {
     pub const UNLIST: u32 = 13;
     pub const MAKE: u32 = 14;
     pub const UNMAKE: u32 = 15;
+    pub const SHARE: u32 = 16;
 }
 
 /// A confidentiality label. `grade` is in range up to 3. `cats` has one bit for
@@ -121,6 +123,8 @@ pub struct Entity {
     pub parent: u8,
     pub name: u16,
     pub label: Label,
+    /// 1 for a shared container, else 0.
+    pub shared: u8,
 }
 
 #[derive(Clone, Debug, PartialEq, Eq)]
@@ -133,7 +137,7 @@ pub struct Tables {
 
 /// A request as the host brings it: any number may stand in any field, and a
 /// field that the request does not use is not looked at. `level` is the
-/// label's grade.
+/// label's grade, `shared` the mark asked for.
 #[derive(Clone, Copy, Debug, Default, PartialEq, Eq)]
 pub struct Request {
     pub call: u32,
@@ -147,6 +151,7 @@ pub struct Request {
     pub level: u32,
     pub cats: u32,
     pub rights: u32,
+    pub shared: u32,
 }
 
 /// The integrity level of a seat or role, and that of an entity.
@@ -166,8 +171,8 @@ pub fn is_keeper(role: usize) -> bool {
     role.is_multiple_of(4)
 }
 
-/// The sixteen requests, by their numbers.
-const CALLS: [fn(&mut Tables, &Request) -> u8; 16] = [
+/// The seventeen requests, by their numbers.
+const CALLS: [fn(&mut Tables, &Request) -> u8; 17] = [
     Tables::login,
     Tables::logout,
     Tables::take,
@@ -184,6 +189,7 @@ const CALLS: [fn(&mut Tables, &Request) -> u8; 16] = [
     Tables::unlist,
     Tables::make,
     Tables::unmake,
+    Tables::share,
 ];
 
 /// Takes the number of a table's row, or leaves the request with 2.
@@ -210,6 +216,10 @@ fn name(number: u32) -> Option<u16> {
 
 fn rights(number: u32) -> Option<u8> {
     (1..=15).contains(&number).then_some(number as u8)
+}
+
+fn mark(number: u32) -> Option<u8> {
+    (number <= 1).then_some(number as u8)
 }
 
 impl Tables {
@@ -447,6 +457,7 @@ impl Tables {
             parent: d as u8,
             name,
             label,
+            shared: 0,
         };
         self.roles[p].rights[e] = OWN;
         0
@@ -465,7 +476,7 @@ impl Tables {
         if !entity.live {
             return 7;
         }
-        if !self.may_change(seat, usize::from(entity.parent)) {
+        if !self.may_alter(seat, e) {
             return 13;
         }
         if self.has_child(e) {
@@ -489,7 +500,6 @@ impl Tables {
             return 2;
         };
         let entity = &self.entities[e];
-        let parent = usize::from(entity.parent);
         if !seat.live {
             return 5;
         }
@@ -499,10 +509,10 @@ impl Tables {
         if !entity.live {
             return 7;
         }
-        if !self.may_change(seat, parent) {
+        if !self.may_alter(seat, e) {
             return 13;
         }
-        if self.has_child_named(parent, name) {
+        if self.has_child_named(usize::from(entity.parent), name) {
             return 14;
         }
         self.entities[e].name = name;
@@ -622,6 +632,35 @@ impl Tables {
         0
     }
 
+    fn share(&mut self, r: &Request) -> u8 {
+        let x = row!(r.seat, SEATS);
+        let e = row!(r.entity, ENTITIES);
+        let Some(mark) = mark(r.shared) else {
+            return 2;
+        };
+        let (seat, entity) = (&self.seats[x], &self.entities[e]);
+        if !seat.live {
+            return 5;
+        }
+        if !entity.live {
+            return 7;
+        }
+        if entity.kind == OBJECT {
+            return 9;
+        }
+        if level(x) < entity_level(e) {
+            return 10;
+        }
+        if !self.has(seat.roles, OWN, e) {
+            return 13;
+        }
+        if entity.shared == mark {
+            return 16;
+        }
+        self.entities[e].shared = mark;
+        0
+    }
+
     /// Whether one of the roles, of at least the entity's level, has the right.
     #[inline]
     fn has(&self, roles: u16, right: u8, e: usize) -> bool {
@@ -653,6 +692,15 @@ impl Tables {
     #[inline]
     fn may_change(&self, seat: &Seat, parent: usize) -> bool {
         seat.writing >> parent & 1 != 0 && self.has(seat.roles, EXECUTE, parent)
+    }
+
+    /// What delete and rename ask of the seat. "In a shared container" they "also
+    /// need own on the entity" (document 02, A.2).
+    #[inline]
+    fn may_alter(&self, seat: &Seat, e: usize) -> bool {
+        let parent = usize::from(self.entities[e].parent);
+        self.may_change(seat, parent)
+            && (self.entities[parent].shared == 0 || self.has(seat.roles, OWN, e))
     }
 
     /// The entities of the parent's level; its children are among them.
@@ -702,6 +750,7 @@ impl Tables {
             live: true,
             kind: CONTAINER,
             parent: root as u8,
+            shared: entities[0].shared & 1,
             ..Entity::default()
         };
         // Siblings of one name have one key.
@@ -724,6 +773,10 @@ impl Tables {
     fn is_sound_entity(&self, e: usize, entity: &Entity) -> bool {
         let d = usize::from(entity.parent);
         if entity.kind > 1 || entity.label.grade > 3 || entity.name == 0 || d >= ENTITIES {
+            return false;
+        }
+        // The mark is 0 or 1, and 0 for an object.
+        if entity.shared > entity.kind {
             return false;
         }
         let parent = &self.entities[d];

@@ -1,6 +1,8 @@
 //! The request program of document 01 over the reference guard: requests on
 //! standard input, answers on standard output. "`cats` may reach 65,535"
-//! (document 02, A.1), which is the guard's bound.
+//! (document 02, A.1), which is the guard's bound. "The program gains a
+//! thirteenth name `shared`; a names line without it is still read, the field
+//! then counting as a dash" (A.2).
 //!
 //! The tables start fresh and only the guard changes them, so that they stay
 //! sound, and the program does not test them again before each request. With
@@ -20,7 +22,8 @@ const LONGEST: usize = 255;
 
 const BLOCK: usize = 1 << 16;
 
-/// The twelve fields, in the order of the sample.
+/// The twelve fields in the order of the sample, then those that a names line may
+/// leave out.
 #[derive(Clone, Copy)]
 enum Field {
     Call,
@@ -35,33 +38,37 @@ enum Field {
     Cats,
     Rights,
     Ceiling,
+    Shared,
 }
 
 use Field::*;
 
-fn field_named(name: &[u8]) -> Option<Field> {
-    Some(match name {
-        b"call" => Call,
-        b"seat" => Seat,
-        b"user" => User,
-        b"role" => Role,
-        b"entity" => Entity,
-        b"parent" => Parent,
-        b"kind" => Kind,
-        b"name" => Name,
-        b"level" => Level,
-        b"cats" => Cats,
-        b"rights" => Rights,
-        b"ceiling" => Ceiling,
-        _ => return None,
-    })
-}
+const FIELDS: &[(&[u8], Field)] = &[
+    (b"call", Call),
+    (b"seat", Seat),
+    (b"user", User),
+    (b"role", Role),
+    (b"entity", Entity),
+    (b"parent", Parent),
+    (b"kind", Kind),
+    (b"name", Name),
+    (b"level", Level),
+    (b"cats", Cats),
+    (b"rights", Rights),
+    (b"ceiling", Ceiling),
+    (b"shared", Shared),
+];
 
-/// The word `user`, numbered behind the sixteen requests.
-const SET_USER: u32 = 16;
+/// The most names that a names line can have, and the twelve that it has to have
+/// as a bit set.
+const NAMES: usize = FIELDS.len();
+const TWELVE: u16 = (1 << 12) - 1;
+
+/// The word `user`, numbered behind the seventeen requests.
+const SET_USER: u32 = 17;
 
 /// The fields that each word uses, as bit sets.
-const USES: [u16; 17] = {
+const USES: [u16; 18] = {
     const fn set(fields: &[Field]) -> u16 {
         let mut set = 1 << Call as u16;
         let mut i = 0;
@@ -75,7 +82,7 @@ const USES: [u16; 17] = {
     let with_entity = set(&[Seat, Entity]);
     let with_rights = set(&[Seat, Role, Entity, Rights]);
     let with_user = set(&[Seat, Role, User]);
-    let mut uses = [0; 17];
+    let mut uses = [0; 18];
     uses[call::LOGIN as usize] = set(&[Seat, User, Level, Cats]);
     uses[call::LOGOUT as usize] = set(&[Seat]);
     uses[call::TAKE as usize] = with_role;
@@ -92,6 +99,7 @@ const USES: [u16; 17] = {
     uses[call::UNLIST as usize] = with_user;
     uses[call::MAKE as usize] = with_role;
     uses[call::UNMAKE as usize] = with_role;
+    uses[call::SHARE as usize] = set(&[Seat, Entity, Shared]);
     uses[SET_USER as usize] = set(&[User, Level, Cats, Ceiling]);
     uses
 };
@@ -117,6 +125,7 @@ fn take_word(text: &[u8]) -> Option<(u32, &[u8])> {
         [b'u', b'n', b'l', b'i', b's', b't', rest @ ..] => (call::UNLIST, rest),
         [b'm', b'a', b'k', b'e', rest @ ..] => (call::MAKE, rest),
         [b'u', b'n', b'm', b'a', b'k', b'e', rest @ ..] => (call::UNMAKE, rest),
+        [b's', b'h', b'a', b'r', b'e', rest @ ..] => (call::SHARE, rest),
         [b'u', b's', b'e', b'r', rest @ ..] => (SET_USER, rest),
         _ => return None,
     })
@@ -140,28 +149,43 @@ fn take_number(text: &[u8]) -> Option<(u32, &[u8])> {
     Some((number, text))
 }
 
-/// The fields in the order of the names line, or nothing if it is bad.
-fn read_names(line: &[u8]) -> Option<[Field; 12]> {
-    let mut columns = [Call; 12];
-    let mut seen = 0;
-    let mut names = line.split(|&byte| byte == b' ');
-    for column in &mut columns {
-        *column = field_named(names.next()?)?;
-        seen |= 1 << *column as u16;
+/// The fields in the order of the names line.
+#[derive(Clone, Copy)]
+struct Columns {
+    fields: [Field; NAMES],
+    count: usize,
+}
+
+/// Nothing if the names line is bad: one of the twelve is missing, or a name
+/// stands twice.
+fn read_names(line: &[u8]) -> Option<Columns> {
+    let mut columns = Columns {
+        fields: [Call; NAMES],
+        count: 0,
+    };
+    let mut seen: u16 = 0;
+    for name in line.split(|&byte| byte == b' ') {
+        let &(_, field) = FIELDS.iter().find(|(known, _)| *known == name)?;
+        if seen >> field as u16 & 1 != 0 {
+            return None;
+        }
+        seen |= 1 << field as u16;
+        columns.fields[columns.count] = field;
+        columns.count += 1;
     }
-    (names.next().is_none() && seen == (1 << 12) - 1).then_some(columns)
+    (seen & TWELVE == TWELVE).then_some(columns)
 }
 
 /// Reads the line at the front of `text`, which holds the line's byte 10. The
 /// word's number goes into the place of `call` and each other value into that of
-/// its field; those of unused fields stay as they were. Hands back what stands
-/// behind the line, or for a line that can't be read its rest, from its byte 10
-/// or an earlier one on.
+/// its field; those of unused fields stay as they were. A field without a column
+/// is not given, as one with a dash. Hands back what stands behind the line, or
+/// for a line that can't be read its rest, from its byte 10 or an earlier one on.
 #[inline]
 fn read_line<'a>(
-    columns: &[Field; 12],
+    columns: &[Field],
     mut text: &'a [u8],
-    values: &mut [u32; 12],
+    values: &mut [u32; NAMES],
 ) -> Result<&'a [u8], &'a [u8]> {
     let mut given = 0;
     let mut column = 0;
@@ -185,7 +209,9 @@ fn read_line<'a>(
         }
         match text {
             [b' ', rest @ ..] => text = rest,
-            [b'\n', next @ ..] if column == 11 && given == USES[values[Call as usize] as usize] => {
+            [b'\n', next @ ..]
+                if column + 1 == columns.len() && given == USES[values[Call as usize] as usize] =>
+            {
                 return Ok(next)
             }
             _ => return Err(text),
@@ -288,8 +314,8 @@ struct Program {
     /// Whether the tables are tested before each request.
     test_each: bool,
     /// Nothing before the names line has been read.
-    columns: Option<[Field; 12]>,
-    values: [u32; 12],
+    columns: Option<Columns>,
+    values: [u32; NAMES],
     users: [UserRecord; USERS],
     /// Nothing as long as `user` lines are allowed.
     tables: Option<Tables>,
@@ -301,7 +327,7 @@ impl Program {
         Program {
             test_each,
             columns: None,
-            values: [0; 12],
+            values: [0; NAMES],
             users: [UserRecord::default(); USERS],
             tables: None,
             answers: Answers::new(),
@@ -326,8 +352,9 @@ impl Program {
                 *self.columns.insert(columns)
             }
         };
+        let columns = &columns.fields[..columns.count];
         while !input.is_empty() {
-            let answer = match read_line(&columns, input, &mut self.values) {
+            let answer = match read_line(columns, input, &mut self.values) {
                 Ok(rest) => {
                     input = rest;
                     self.answer()
@@ -352,7 +379,7 @@ impl Program {
         if self.values[Call as usize] == SET_USER {
             return self.set_user();
         }
-        let [call, seat, user, role, entity, parent, kind, name, level, cats, rights, _] =
+        let [call, seat, user, role, entity, parent, kind, name, level, cats, rights, _, shared] =
             self.values;
         let request = Request {
             call,
@@ -366,6 +393,7 @@ impl Program {
             level,
             cats,
             rights,
+            shared,
         };
         let tables = self
             .tables

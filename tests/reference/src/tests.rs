@@ -41,6 +41,7 @@ fn of(call: u32, seat: u32) -> Request {
         level: UNUSED,
         cats: UNUSED,
         rights: UNUSED,
+        shared: UNUSED,
     }
 }
 
@@ -167,6 +168,13 @@ fn unlist(seat: u32, role: u32, user: u32) -> Request {
     with_user(call::UNLIST, seat, role, user)
 }
 
+fn share(seat: u32, entity: u32, shared: u32) -> Request {
+    Request {
+        shared,
+        ..with_entity(call::SHARE, seat, entity)
+    }
+}
+
 /// Steps through the requests and asks for the answer of each; the tables stay
 /// sound, and a refusal leaves them as they were.
 #[track_caller]
@@ -272,7 +280,19 @@ fn edges() {
             (take(12, 16), 2),
             (list(12, 12, 15), 0),
             (list(12, 12, 16), 2),
-            (of(16, 12), 2),
+            (share(12, 63, 0), 9),
+            (share(12, 64, 0), 2),
+            (share(15, 48, 0), 5),
+            (share(16, 48, 0), 2),
+            (share(12, 48, 0), 16),
+            (share(12, 48, 1), 0),
+            (share(12, 48, 2), 2),
+            (share(12, 48, 256), 2),
+            (share(12, 48, 65_535), 2),
+            (share(12, 48, 65_536), 2),
+            (share(12, 48, 99_999), 2),
+            (share(12, 48, u32::MAX), 2),
+            (of(17, 12), 2),
             (of(u32::MAX, 12), 2),
             (logout(u32::MAX), 2),
             // A number out of range comes before a dead seat.
@@ -289,6 +309,7 @@ fn fresh_tables() {
     assert_eq!(tables.users[15].ceiling, 3);
     assert_eq!(tables.users[14].clearance.cats, 256);
     assert_eq!(tables.users[15].clearance.cats, 65_535);
+    assert!(tables.entities.iter().all(|entity| entity.shared == 0));
     for (r, role) in tables.roles.iter().enumerate() {
         assert_eq!(role.live, r % 4 == 0);
         assert_eq!(role.users, u16::from(r % 4 == 0));
@@ -634,6 +655,229 @@ fn a_level_can_lock_itself_out() {
     );
 }
 
+/// As `at_work`, with seat 13 (user 0, label 0/0) holding role 13, which may write
+/// and execute root 48, and having it open. Role 12 owns object 49 in it, with
+/// name 1, and role 13 object 50, with name 2.
+fn two_adjusters() -> Tables {
+    let mut tables = at_work();
+    run(
+        &mut tables,
+        &[
+            (make(12, 13), 0),
+            (list(12, 13, 0), 0),
+            (grant(12, 13, 48, 6), 0),
+            (login(13, 0, 0, 0), 0),
+            (take(13, 13), 0),
+            (openw(13, 48), 0),
+            (create(12, 49, OBJECT, 48, 1, 12), 0),
+            (create(13, 50, OBJECT, 48, 2, 13), 0),
+        ],
+    );
+    tables
+}
+
+#[test]
+fn a_mark_changes_nothing_else() {
+    let mut tables = two_adjusters();
+    for mark in [1, 0, 1] {
+        let mut wanted = tables.clone();
+        wanted.entities[48].shared = mark;
+        run(&mut tables, &[(share(12, 48, mark.into()), 0)]);
+        assert_eq!(tables, wanted);
+    }
+}
+
+#[test]
+fn a_shared_drawer() {
+    let mut tables = two_adjusters();
+    run(
+        &mut tables,
+        &[
+            // Each can change what is the other's.
+            (rename(12, 50, 4), 0),
+            (rename(13, 49, 3), 0),
+            (share(13, 48, 1), 13),
+            (share(12, 48, 1), 0),
+            (delete(12, 50), 13),
+            (delete(13, 49), 13),
+            (rename(12, 50, 5), 13),
+            (rename(13, 49, 5), 13),
+            // Before 14.
+            (rename(13, 49, 3), 13),
+            (rename(13, 49, 4), 13),
+            (rename(12, 49, 4), 14),
+            (rename(12, 49, 1), 0),
+            (rename(13, 50, 2), 0),
+            // Create asks nothing more.
+            (create(13, 51, CONTAINER, 48, 3, 13), 0),
+            (grant(13, 13, 51, 6), 0),
+            (openw(13, 51), 0),
+            (create(13, 52, OBJECT, 51, 1, 13), 0),
+            // Before 15.
+            (delete(12, 51), 13),
+            (delete(13, 51), 15),
+            // Own by any role held, and by it alone.
+            (take(12, 13), 0),
+            (rename(12, 50, 6), 0),
+            (drop(12, 13), 0),
+            (rename(12, 50, 7), 13),
+            (grant(13, 12, 50, 7), 0),
+            (rename(12, 50, 7), 13),
+            (grant(13, 12, 50, 8), 0),
+            (rename(12, 50, 7), 0),
+            // Own does not stand for the open or for execute.
+            (close(13, 48), 0),
+            (delete(13, 50), 13),
+            (openw(13, 48), 0),
+            (revoke(12, 13, 48, 4), 0),
+            (delete(13, 50), 13),
+            (grant(12, 13, 48, 4), 0),
+            (delete(13, 50), 0),
+            // Not shared any longer.
+            (delete(13, 49), 13),
+            (share(12, 48, 0), 0),
+            (delete(12, 51), 15),
+            (delete(13, 49), 0),
+        ],
+    );
+}
+
+#[test]
+fn refusals_of_share() {
+    let mut tables = two_adjusters();
+    run(
+        &mut tables,
+        &[
+            (create(12, 51, CONTAINER, 48, 3, 12), 0),
+            (login(8, 0, 0, 0), 0),
+            (take(8, 12), 0),
+            (login(9, 0, 0, 0), 0),
+            (share(0, 64, 1), 2),
+            (share(0, 52, 2), 2),
+            (share(0, 52, 1), 5),
+            (share(0, 49, 0), 5),
+            (share(0, 51, 0), 5),
+            (share(12, 52, 1), 7),
+            (share(9, 52, 0), 7),
+            // An object, whoever asks and for whatever mark.
+            (share(12, 49, 1), 9),
+            (share(12, 49, 0), 9),
+            (share(13, 49, 1), 9),
+            (share(8, 49, 1), 9),
+            (share(9, 49, 0), 9),
+            (share(8, 51, 1), 10),
+            (share(8, 51, 0), 10),
+            (share(9, 51, 1), 10),
+            (share(13, 51, 1), 13),
+            (share(13, 51, 0), 13),
+            (share(12, 51, 0), 16),
+            (share(12, 51, 1), 0),
+            (share(12, 51, 1), 16),
+            (share(13, 51, 1), 13),
+            (share(8, 51, 1), 10),
+            (share(12, 51, 0), 0),
+            (share(12, 51, 0), 16),
+            // A higher seat may, by a role of any level from the entity's on.
+            (share(12, 0, 1), 13),
+            (take(12, 0), 0),
+            (share(12, 0, 1), 0),
+            (grant(12, 13, 0, 8), 0),
+            (share(13, 0, 0), 0),
+            // Write and execute are not own.
+            (share(13, 48, 1), 13),
+            (grant(12, 13, 48, 15), 0),
+            (share(13, 48, 1), 0),
+        ],
+    );
+}
+
+#[test]
+fn share_asks_for_no_reach_no_open_and_no_label() {
+    let mut tables = at_work();
+    run(
+        &mut tables,
+        &[
+            (labelled(12, 49, 48, 1, 3), 0),
+            (revoke(12, 12, 48, 4), 0),
+            (close(12, 48), 0),
+            (login(13, 0, 3, 255), 0),
+            (take(13, 12), 0),
+            (share(12, 49, 1), 0),
+            (share(13, 49, 0), 0),
+            (share(13, 48, 1), 0),
+        ],
+    );
+}
+
+#[test]
+fn the_mark_of_the_parent_counts() {
+    let mut tables = at_work();
+    run(
+        &mut tables,
+        &[
+            (create(12, 49, CONTAINER, 48, 1, 12), 0),
+            (grant(12, 12, 49, 6), 0),
+            (openw(12, 49), 0),
+            (create(12, 50, CONTAINER, 49, 1, 12), 0),
+            (share(12, 48, 1), 0),
+            (share(12, 50, 1), 0),
+            (revoke(12, 12, 50, 8), 0),
+            (rename(12, 50, 2), 0),
+            (share(12, 49, 1), 0),
+            (rename(12, 50, 3), 13),
+            (delete(12, 50), 13),
+            (share(12, 49, 0), 0),
+            (delete(12, 50), 0),
+        ],
+    );
+}
+
+#[test]
+fn roots_can_be_shared() {
+    let mut tables = morning();
+    run(
+        &mut tables,
+        &[(login(15, 0, 0, 0), 0), (share(15, 0, 1), 13)],
+    );
+    for level in 0..4 {
+        run(
+            &mut tables,
+            &[
+                (take(15, 4 * level), 0),
+                (share(15, 16 * level, 0), 16),
+                (share(15, 16 * level, 1), 0),
+                (share(15, 16 * level, 1), 16),
+                (delete(15, 16 * level), 6),
+                (rename(15, 16 * level, 1), 6),
+            ],
+        );
+    }
+    assert!((0..64).all(|e| tables.entities[e].shared == u8::from(e % 16 == 0)));
+}
+
+#[test]
+fn a_number_made_again_is_not_shared() {
+    let mut tables = at_work();
+    run(
+        &mut tables,
+        &[
+            (create(12, 49, CONTAINER, 48, 1, 12), 0),
+            (share(12, 49, 1), 0),
+            (rename(12, 49, 2), 0),
+            (share(12, 49, 1), 16),
+            (delete(12, 49), 0),
+            (share(12, 49, 0), 7),
+            (create(12, 49, CONTAINER, 48, 1, 12), 0),
+            (share(12, 49, 0), 16),
+            (share(12, 49, 1), 0),
+            (delete(12, 49), 0),
+            (create(12, 49, OBJECT, 48, 1, 12), 0),
+            (share(12, 49, 1), 9),
+        ],
+    );
+    assert_eq!(tables.entities[49].shared, 0);
+}
+
 /// Tables in which each kind of record is there.
 fn full() -> Tables {
     let mut tables = at_work();
@@ -668,6 +912,8 @@ fn unsound_tables_give_1() {
         |t| t.entities[16].label.grade = 1,
         |t| t.entities[16].label.cats = 1,
         |t| t.entities[16].label.cats = 256,
+        |t| t.entities[16].shared = 2,
+        |t| t.entities[16].shared = 255,
         |t| t.roles[4] = Role::EMPTY,
         // Live entities.
         |t| t.entities[51].kind = 2,
@@ -683,6 +929,10 @@ fn unsound_tables_give_1() {
         |t| t.entities[49].label.cats = 256,
         |t| t.entities[49].parent = 50,
         |t| t.entities[50].parent = 50,
+        |t| t.entities[51].shared = 1,
+        |t| t.entities[51].shared = 2,
+        |t| t.entities[50].shared = 2,
+        |t| t.entities[50].shared = 3,
         // Records that are not live.
         |t| t.entities[1].kind = 1,
         |t| t.entities[1].name = 1,
@@ -690,6 +940,7 @@ fn unsound_tables_give_1() {
         |t| t.entities[1].label.cats = 1,
         |t| t.entities[1].label.cats = 256,
         |t| t.entities[1].label.grade = 1,
+        |t| t.entities[1].shared = 1,
         |t| t.roles[1].users = 1,
         |t| t.roles[1].rights[0] = 1,
         |t| t.seats[0].user = 1,
@@ -741,7 +992,7 @@ fn unsound_tables_give_1() {
         let mut changed = tables.clone();
         change(&mut changed);
         let before = changed.clone();
-        for request in [logout(12), logout(16), of(16, 0)] {
+        for request in [logout(12), logout(16), share(12, 48, 1), of(17, 0)] {
             assert_eq!(changed.step(&request), 1, "change {place}");
         }
         assert_eq!(changed, before);
@@ -761,6 +1012,8 @@ fn what_soundness_does_not_ask() {
             }
         },
         |t| t.users[0].clearance.cats = 65_535,
+        |t| t.entities[16].shared = 1,
+        |t| t.entities[50].shared = 1,
         |t| t.roles[12].rights[0] = 15,
         |t| t.seats[12].writing |= 1,
         |t| {

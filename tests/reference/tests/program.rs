@@ -6,6 +6,9 @@ use std::thread;
 
 const NAMES: &str = "call seat user role entity parent kind name level cats rights ceiling";
 
+const NAMES_SHARED: &str =
+    "call seat user role entity parent kind name level cats rights ceiling shared";
+
 fn run_with(words: &[&str], input: &[u8]) -> String {
     let mut program = Command::new(env!("CARGO_BIN_EXE_reference"))
         .args(words)
@@ -29,9 +32,9 @@ fn run(input: &[u8]) -> String {
     output
 }
 
-/// The answers to the lines below the usual names line.
-fn answers(lines: &[&str]) -> Vec<u8> {
-    let input = format!("{NAMES}\n{}\n", lines.join("\n"));
+/// The answers to the lines below this names line.
+fn answers(names: &str, lines: &[&str]) -> Vec<u8> {
+    let input = format!("{names}\n{}\n", lines.join("\n"));
     let output = run(input.as_bytes());
     let mut rows = output.strip_suffix('\n').unwrap().split('\n');
     assert_eq!(rows.next(), Some("line answer"));
@@ -45,9 +48,14 @@ fn answers(lines: &[&str]) -> Vec<u8> {
 }
 
 #[track_caller]
-fn check(lines: &[(&str, u8)]) {
+fn check_below(names: &str, lines: &[(&str, u8)]) {
     let (texts, expected): (Vec<&str>, Vec<u8>) = lines.iter().copied().unzip();
-    assert_eq!(answers(&texts), expected);
+    assert_eq!(answers(names, &texts), expected);
+}
+
+#[track_caller]
+fn check(lines: &[(&str, u8)]) {
+    check_below(NAMES, lines);
 }
 
 const BAD_START: &str = "line answer\n1 17\n";
@@ -255,6 +263,137 @@ fn categories() {
 }
 
 #[test]
+fn shared_drawers() {
+    let opening = [
+        ("user - 0 - - - - - 3 255 - 3 -", 0),
+        ("login 12 0 - - - - - 0 0 - - -", 0),
+        ("take 12 - 12 - - - - - - - - -", 0),
+        ("openw 12 - - 48 - - - - - - - -", 0),
+        ("create 12 - 12 49 48 0 1 0 0 - - -", 0),
+        ("revoke 12 - 12 49 - - - - - 8 - -", 0),
+    ];
+    let lines = [
+        ("share 12 - - 48 - - - - - - - 0", 16),
+        ("share 12 - - 48 - - - - - - - 1", 0),
+        ("share 12 - - 48 - - - - - - - 00001", 16),
+        ("share 12 - - 48 - - - - - - - 2", 2),
+        ("share 12 - - 48 - - - - - - - 256", 2),
+        ("share 12 - - 48 - - - - - - - 65535", 2),
+        ("share 12 - - 48 - - - - - - - 65536", 2),
+        ("share 12 - - 48 - - - - - - - 99999", 2),
+        ("share 12 - - 48 - - - - - - - 100000", 17),
+        ("share 12 - - 48 - - - - - - - 123456", 17),
+        ("share 12 - - 48 - - - - - - - 000000", 17),
+        ("share 12 - - 64 - - - - - - - 0", 2),
+        ("share 16 - - 48 - - - - - - - 0", 2),
+        ("share 13 - - 48 - - - - - - - 0", 5),
+        ("share 12 - - 50 - - - - - - - 0", 7),
+        ("share 12 - - 49 - - - - - - - 0", 9),
+        ("share 12 - - 0 - - - - - - - 1", 13),
+        ("rename 12 - - 49 - - 2 - - - - -", 13),
+        ("delete 12 - - 49 - - - - - - - -", 13),
+        ("share 12 - - 48 - - - - - - - 00000", 0),
+        ("rename 12 - - 49 - - 2 - - - - -", 0),
+        ("delete 12 - - 49 - - - - - - - -", 0),
+    ];
+    check_below(NAMES_SHARED, &[&opening[..], &lines].concat());
+}
+
+#[test]
+fn faults_with_shared() {
+    for line in [
+        // `share` uses its three fields and no other.
+        "share 12 - - 48 - - - - - - - -",
+        "share 12 - - - - - - - - - - 1",
+        "share - - - 48 - - - - - - - 1",
+        "share 12 0 - 48 - - - - - - - 1",
+        "share 12 - 12 48 - - - - - - - 1",
+        "share 12 - - 48 - - - - - - 0 1",
+        "share 12 - - 48 - - - - - - 1 -",
+        "share 12 - - 48 - - - - - - - -1",
+        "share 12 - - 48 - - - - - - - +1",
+        "share 12 - - 48 - - - - - - - 1 ",
+        "share 12 - - 48 - - - - - - - 1a",
+        "shared 12 - - 48 - - - - - - - 1",
+        "shar 12 - - 48 - - - - - - - 1",
+        "Share 12 - - 48 - - - - - - - 1",
+        "unshare 12 - - 48 - - - - - - - 1",
+        // The other words do not use it.
+        "logout 12 - - - - - - - - - - 0",
+        "logout 12 - - - - - - - - - - 1",
+        "logout 12 - - - - - - - - - - 99999",
+        "logout 12 - - - - - - - - - - 123456",
+        "login 12 0 - - - - - 0 0 - - 0",
+        "create 12 - 12 49 48 1 7 0 0 - - 0",
+        "delete 12 - - 49 - - - - - - - 1",
+        "user - 0 - - - - - 3 255 - 3 0",
+        "user - 0 - - - - - 3 255 - 3 1",
+        // As many values as names.
+        "logout 12 - - - - - - - - - -",
+        "user - 0 - - - - - 3 255 - 3",
+        "share 12 - - 48 - - - - - - 1",
+        "logout 12 - - - - - - - - - - - -",
+        "share 12 - - 48 - - - - - - - 1 -",
+    ] {
+        let readable = ("logout 12 - - - - - - - - - - -", 5);
+        check_below(NAMES_SHARED, &[(line, 17), readable]);
+    }
+    // Below the twelve names no line can give the mark.
+    for line in [
+        "share 12 - - 48 - - - - - - -",
+        "share 12 - - 48 - - - - - - 1",
+        "share 12 - - 48 - - - - - - - -",
+        "share 12 - - 48 - - - - - - - 0",
+        "share 12 - - 48 - - - - - - - 1",
+        "logout 12 - - - - - - - - - - -",
+        "user - 0 - - - - - 3 255 - 3 -",
+    ] {
+        check(&[
+            (line, 17),
+            ("user - 0 - - - - - 3 255 - 3", 0),
+            ("logout 12 - - - - - - - - - -", 5),
+        ]);
+    }
+}
+
+#[test]
+fn names_lines_with_shared() {
+    for good in [
+        NAMES_SHARED,
+        "shared call seat user role entity parent kind name level cats rights ceiling",
+        "call shared seat user role entity parent kind name level cats rights ceiling",
+    ] {
+        assert_eq!(run(good.as_bytes()), "line answer\n");
+        assert_eq!(run(format!("{good}\n").as_bytes()), "line answer\n");
+        let more = format!("{good}\n{}\n", [NAMES; 2].join("\n"));
+        assert_eq!(run(more.as_bytes()), "line answer\n2 17\n3 17\n");
+    }
+    for bad in [
+        "shared",
+        "call seat user role entity parent kind name level cats rights shared",
+        "shared seat user role entity parent kind name level cats rights ceiling",
+        "call seat user role entity parent kind name level cats rights ceiling shared shared",
+        "shared call seat user role entity parent kind name level cats rights ceiling shared",
+        "call seat user role entity parent kind name level cats rights shared shared",
+        "call seat user role entity parent kind name level cats rights rights shared",
+        "call seat user role entity parent kind name level cats rights ceiling ceiling shared",
+        "call seat user role entity parent kind name level cats rights ceiling share",
+        "call seat user role entity parent kind name level cats rights ceiling Shared",
+        "call seat user role entity parent kind name level cats rights ceiling shareds",
+        "call seat user role entity parent kind name level cats rights ceiling shared ",
+        "call seat user role entity parent kind name level cats rights ceiling  shared",
+        "call seat user role entity parent kind name level cats rights ceiling shared\r",
+        "call seat user role entity parent kind name level cats rights ceiling mark",
+        "call seat user role entity parent kind name level cats rights ceiling shared mark",
+        "call seat user role entity parent kind name level cats rights ceiling -",
+    ] {
+        assert_eq!(run(bad.as_bytes()), BAD_START);
+        let more = format!("{bad}\nlogout 12 - - - - - - - - - - -\n");
+        assert_eq!(run(more.as_bytes()), BAD_START);
+    }
+}
+
+#[test]
 fn names_lines() {
     assert_eq!(run(b""), BAD_START);
     assert_eq!(run(b"\n"), BAD_START);
@@ -283,9 +422,32 @@ fn names_lines() {
     );
 }
 
+/// Runs the lines with the columns in many orders.
+fn check_in_any_order(names: &str, lines: &[&str], output: &str) {
+    let count = names.split(' ').count();
+    // None has a divisor in common with 12 or 13.
+    for stride in [1, 5, 7, 11] {
+        for start in 0..count {
+            let turn = |line: &str| {
+                let values: Vec<&str> = line.split(' ').collect();
+                assert_eq!(values.len(), count);
+                let turned: Vec<&str> = (0..count)
+                    .map(|place| values[(start + stride * place) % count])
+                    .collect();
+                turned.join(" ")
+            };
+            let mut input = turn(names);
+            for line in lines {
+                input += "\n";
+                input += &turn(line);
+            }
+            assert_eq!(run(input.as_bytes()), output);
+        }
+    }
+}
+
 #[test]
 fn names_in_any_order() {
-    let names: Vec<&str> = NAMES.split(' ').collect();
     let lines = [
         "user - 0 - - - - - 3 255 - 3",
         "login 12 0 - - - - - 1 2 - -",
@@ -297,24 +459,22 @@ fn names_in_any_order() {
         "logout 12 - - - - - - - - - -",
     ];
     let output = "line answer\n2 0\n3 0\n4 17\n5 0\n6 11\n7 0\n8 5\n9 0\n";
-    // 5 and 7 have no divisor in common with 12.
-    for stride in [1, 5, 7, 11] {
-        for start in 0..12 {
-            let turn = |line: &str| {
-                let values: Vec<&str> = line.split(' ').collect();
-                let turned: Vec<&str> = (0..12)
-                    .map(|place| values[(start + stride * place) % 12])
-                    .collect();
-                turned.join(" ")
-            };
-            let mut input = turn(&names.join(" "));
-            for line in lines {
-                input += "\n";
-                input += &turn(line);
-            }
-            assert_eq!(run(input.as_bytes()), output);
-        }
-    }
+    check_in_any_order(NAMES, &lines, output);
+    let lines = [
+        "user - 0 - - - - - 3 255 - 3 1",
+        "user - 0 - - - - - 3 255 - 3 -",
+        "login 12 0 - - - - - 1 2 - - -",
+        "login 13 0 - - - - - 1 2 - - 0",
+        "take 12 - 12 - - - - - - - - -",
+        "share 12 - - 48 - - - - - - - 1",
+        "share 12 - - 48 - - - - - - - -",
+        "share 12 - - 48 - - - - - - - 1",
+        "share 12 - - 48 - - - - - - - 2",
+        "share 12 - - 0 - - - - - - - 1",
+        "logout 12 - - - - - - - - - - -",
+    ];
+    let output = "line answer\n2 17\n3 0\n4 0\n5 17\n6 0\n7 0\n8 17\n9 16\n10 2\n11 13\n12 0\n";
+    check_in_any_order(NAMES_SHARED, &lines, output);
 }
 
 #[test]

@@ -14,11 +14,11 @@ use lib.ListN.{set}
 use lib.Seq.{getD-set-same, getD-set-other}
 use native.Mathlib.Omega.{arith}
 use borrow.Author.Tests.{ltb-true, eqb-true, eq-eqb}
-use Rattle.bitset.specs.Tests.Laws.{decide, clash, is-false, of-not-false, every-i, every-at, either-no-l, either-no-r}
+use Rattle.bitset.specs.Tests.Laws.{decide, clash, of-not-false, every-i, every-at, implies-i, either-no-l, either-no-r}
 use Rattle.guard.specs.Level.{roleLevel, entityLevel, isRoot}
 use Rattle.guard.specs.Tables.{noEntity, entityAt}
 use Rattle.guard.specs.Chain.{climbs, parentOf}
-use Rattle.guard.specs.Sound.{entityInRangeIn, isRootRecord, soundIn}
+use Rattle.guard.specs.Sound.{entityInRangeIn, isRootRecord, isMarkAllowed, soundIn}
 use Rattle.guard.specs.Edits.{withEntities, atEntity, setRights, addRights}
 use Rattle.guard.specs.Conditions.{createOutOfLevel}
 use Rattle.guard.specs.Requests.{fieldInRangeIn, created, create}
@@ -68,19 +68,21 @@ module _ {width : ℕ} (t : Tables) (ok : Sound width t) (e : ℕ) (n : Entity) 
         go (inr other) = by (ends-somewhere (parentOf t) _ 16 (n .parent) (ok .entity (n .parent) below .placed live other .inside .chain))
 
 pub made-sound : (width : ℕ) (t : Tables) (e : ℕ) (n : Entity) → soundIn width t ≡ true → e < 64 → entityAt t e .live ≡ false → n .live ≡ true
-    → entityInRangeIn width n ≡ true → leb 1 (n .name) ≡ true → fitsIn e n (entityAt t (n .parent)) ≡ true → OwnName (t .entities) e n
+    → entityInRangeIn width n ≡ true → isMarkAllowed n ≡ true → leb 1 (n .name) ≡ true → fitsIn e n (entityAt t (n .parent)) ≡ true
+    → OwnName (t .entities) e n
     → soundIn width (withEntities t (set (t .entities) e n)) ≡ true
 unfolding entityInRangeIn isRootRecord
-made-sound width t e n h l dead live range name fits free =
+made-sound width t e n h l dead live range mark name fits free =
     let ok = sound-e t h in
     let alive = every-at _ fits 0 in
     entity-kept t e n h (inr (dead-unused t ok e l dead))
     (λ f k up s. others-stay t e n _ (not-new t ok e n l dead _ (parent-kin t ok f k up .live)))
     (record {
-      notRoot = is-false _ (λ root. clash _ (every-at _ (ok .entity e l .root root) 0) dead);
       range = range;
+      root = λ root. absurd (clash _ (every-at _ (ok .entity e l .root root) 0) dead);
+      mark = mark;
       empty = λ no. absurd (clash _ live no);
-      placed = λ _. (
+      placed = λ _ other. (
         name,
         record {
           parent = rw (getD-set-other (t .entities) e (n .parent) n noEntity (not-new t ok e n l dead _ alive)) fits;
@@ -91,7 +93,7 @@ made-sound width t e n h l dead live range name fits free =
     })
 
 pub keeps-create : {width : ℕ} → Keeps width create
-unfolding create created createOutOfLevel atEntity addRights setRights fieldInRangeIn entityInRangeIn
+unfolding create created createOutOfLevel atEntity addRights setRights fieldInRangeIn entityInRangeIn isMarkAllowed
 keeps-create t q d =
     let no = unmet _ refl (d .none) in
     let range = every-at _ (d .ranges) in
@@ -100,7 +102,7 @@ keeps-create t q d =
     let fits : fitsIn (q .entity) (created q) (entityAt t (q .parent)) ≡ true =
     every-i _ (of-not-false _ (either-no-l _ _ (no 7)), (of-not-false _ (no 9), (eq-eqb _ _ (sym level), (of-not-false _ (no 11), tt)))) in
     let made = made-sound _ t (q .entity) (created q) (d .isSound) l (no 8) refl
-    (every-i _ (range 2, (range 3, (every-at _ (range 4) 1, (range 5, tt))))) (every-at _ (range 4) 0) fits
+    (every-i _ (range 2, (range 3, (every-at _ (range 4) 1, (range 5, (refl, tt)))))) (implies-i _ _ (λ object. refl)) (every-at _ (range 4) 0) fits
     (λ f k ne. free-name t q _ (no 14) f k) in
     let can : grantable (q .role) (q .entity) (created q) ≡ true =
     every-i _ (refl, (not-below (roleLevel (q .role)) (entityLevel (q .entity)) (either-no-r _ _ (no 10)), tt)) in

@@ -11,14 +11,14 @@ use mathlib.Core.Logic.{_⊎_, inl, inr}
 use lib.ListN.{set}
 use borrow.Author.Tests.{ltb-true, eq-eqb}
 use Rattle.bitset.specs.Tests.{every}
-use Rattle.bitset.specs.Tests.Laws.{decide, clash, not-of-false, every-i, every-at, some-no-e}
+use Rattle.bitset.specs.Tests.Laws.{decide, clash, not-of-false, every-i, every-at, implies-i, some-no-e}
 use Rattle.bitset.specs.Sets.{has}
 use Rattle.bitset.specs.Sets.Laws.{has-without-same, contains-zero}
 use Rattle.guard.specs.Level.{isRoot}
 use Rattle.guard.specs.Label.{sameLabel}
 use Rattle.guard.specs.Tables.{noSession, noRole, noEntity, entityAt, rightsOf, isChild}
 use Rattle.guard.specs.Chain.{parentOf}
-use Rattle.guard.specs.Sound.{entityInRangeIn, isEmptyEntity, soundIn}
+use Rattle.guard.specs.Sound.{entityInRangeIn, isMarkAllowed, isEmptyEntity, soundIn}
 use Rattle.guard.specs.Edits.{withEntities, atEntity, eachSession, eachRole, closeBoth, setRights, clearRights}
 use Rattle.guard.specs.Conditions.{hasChildren}
 use Rattle.guard.specs.Requests.{fieldInRangeIn, delete}
@@ -35,7 +35,7 @@ use Rattle.guard.proofs.Kept.Entities.{others-stay, root-parent, Unused
 
 none-in-range : (width : ℕ) → entityInRangeIn width noEntity ≡ true
 unfolding entityInRangeIn
-none-in-range width = every-i _ (refl, (refl, (refl, (label-in-range width, tt))))
+none-in-range width = every-i _ (refl, (refl, (refl, (label-in-range width, (refl, tt)))))
 
 none-empty : isEmptyEntity noEntity ≡ true
 unfolding isEmptyEntity sameLabel every
@@ -55,9 +55,16 @@ barren t q ok other none f l live parent = go (decide (isRoot f))
 pub emptied-sound : (width : ℕ) (t : Tables) (e : ℕ) → soundIn width t ≡ true → isRoot e ≡ false → Unused t e
     → ((f : ℕ) → f < 64 → entityAt t f .live ≡ true → parentOf t f ≡ e → ⊥)
     → soundIn width (withEntities t (set (t .entities) e noEntity)) ≡ true
+unfolding isMarkAllowed
 emptied-sound width t e h other unused none =
     entity-kept t e noEntity h (inr unused) (λ f l live s. others-stay t e noEntity _ (none f l live))
-    (record { notRoot = other; range = none-in-range width; empty = λ dead. none-empty; placed = λ live. absurd (clash false live refl) })
+    (record {
+      range = none-in-range width;
+      root = λ root. absurd (clash _ root other);
+      mark = implies-i _ _ (λ object. refl);
+      empty = λ dead. none-empty;
+      placed = λ live _. absurd (clash false live refl);
+    })
 
 -- each session closes e, and each role has no rights on it
 module _ (width : ℕ) (t : Tables) (e : ℕ) (h : soundIn width t ≡ true) (l : e < 64) where

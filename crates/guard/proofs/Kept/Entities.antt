@@ -1,4 +1,4 @@
--- Soundness is kept where one entity is replaced, by what the edit leaves of it and of its line: either live mark, kind,
+-- Soundness is kept where one entity is replaced, by what the edit leaves of it and of its line: either its being live, its kind,
 -- parent and label are kept, or nobody has it open or rights on it; every live entity's parent stays as it was; and
 -- where the new record is live, no other child of its parent has its name.
 --     shape, Stays, others-stay       what an entity's place rests on
@@ -7,6 +7,7 @@
 --     inside-kept                     an entity that stays, and whose line stays, lies where it lay
 --     Unused, dead-unused             nobody has it open or rights on it
 --     New, entity-kept                the edit
+--     same-shape-kept                 .. where the shape stays: of the name and the mark alone
 -- Assumes nothing.
 use Prim.Native.Nat.{ℕ, zero, suc, _<_}
 use mathlib.Core.Path.{_≡_, refl, sym, ap, _∙_}
@@ -16,12 +17,12 @@ use lib.Dec.{leb, eqb}
 use lib.ListN.{set, length-set}
 use lib.Seq.{getD-set-other}
 use borrow.Author.Tests.{eqb-true, eqb-false, ltb-true, eq-eqb, ne-eqb}
-use Rattle.bitset.specs.Tests.Laws.{decide, clash, is-false, not-of-false, every-i, every-at}
+use Rattle.bitset.specs.Tests.Laws.{decide, clash, is-false, not-of-false, of-not-true, every-i, every-at}
 use Rattle.bitset.specs.Sets.{has}
 use Rattle.guard.specs.Level.{entityLevel, isRoot}
 use Rattle.guard.specs.Tables.{noEntity, sessionAt, roleAt, entityAt, rightsOn}
 use Rattle.guard.specs.Chain.{parentOf}
-use Rattle.guard.specs.Sound.{entityInRangeIn, isRootRecord, isEmptyEntity, soundIn}
+use Rattle.guard.specs.Sound.{entityInRangeIn, isRootRecord, isMarkAllowed, isEmptyEntity, soundIn}
 use Rattle.guard.specs.Edits.{withEntities}
 use Rattle.guard.specs.declared.Entity.{Entity}
 use Rattle.guard.specs.declared.Tables.{Tables}
@@ -30,9 +31,9 @@ use Rattle.guard.proofs.Laws.Rights.{rights-none, rights-zero}
 use Rattle.guard.proofs.Laws.Sound.{entityIn, readable, writable, grantable, childOf, fitsIn, SetOk, SessionOk, RoleOk, OwnName, Inside, EntityOk, Sound, sound-e, sound-i}
 use Rattle.guard.proofs.Kept.EachStays.{set-each, seen-ok}
 
--- all of an entity but its name
+-- all of an entity but its name and its mark
 abbrev pub shape : Entity → Entity
-shape n = record { live = n .live; kind = n .kind; parent = n .parent; name = 0; label = n .label }
+shape n = record { live = n .live; kind = n .kind; parent = n .parent; name = 0; label = n .label; shared = 0 }
 
 -- with n at e, f keeps its shape
 abbrev pub Stays : Tables → ℕ → Entity → ℕ → Type 0
@@ -78,10 +79,11 @@ module _ {width : ℕ} (t : Tables) (ok : Sound width t) where
 
 -- what is asked of n, to stand at e: all but its name's being free is asked in the new list
 pub record New (width : ℕ) (t : Tables) (e : ℕ) (n : Entity) : Type 0 where
-  pub notRoot : isRoot e ≡ false
   pub range : entityInRangeIn width n ≡ true
+  pub root : isRoot e ≡ true → isRootRecord e n ≡ true
+  pub mark : isMarkAllowed n ≡ true
   pub empty : n .live ≡ false → isEmptyEntity n ≡ true
-  pub placed : n .live ≡ true → (leb 1 (n .name) ≡ true) × Inside (set (t .entities) e n) e n × OwnName (t .entities) e n
+  pub placed : n .live ≡ true → isRoot e ≡ false → (leb 1 (n .name) ≡ true) × Inside (set (t .entities) e n) e n × OwnName (t .entities) e n
 
 -- ---- the entities, with n at e
 module _ {width : ℕ} (t : Tables) (ok : Sound width t) (e : ℕ) (n : Entity)
@@ -113,10 +115,11 @@ module _ {width : ℕ} (t : Tables) (ok : Sound width t) (e : ℕ) (n : Entity)
       itself =
           record {
             range = new .range;
-            root = λ root. absurd (clash _ root (new .notRoot));
+            root = new .root;
             placed = λ live other.
-                let (name, inside, free) = new .placed live in
+                let (name, inside, free) = new .placed live other in
                 record { named = name; inside = inside; ownName = named e n free (λ ne. absurd (ne refl)) };
+            mark = new .mark;
             empty = new .empty;
           }
 
@@ -124,7 +127,7 @@ module _ {width : ℕ} (t : Tables) (ok : Sound width t) (e : ℕ) (n : Entity)
       apart : (f : ℕ) → f < 64 → (f ≡ e → ⊥) → entityAt t f .live ≡ true → isRoot f ≡ false
           → childOf (entityAt t f .parent) e n ≡ true → eqb (n .name) (entityAt t f .name) ≡ false
       apart f l ne live notRoot child =
-          let (_, _, free) = new .placed (every-at _ child 0) in
+          let (_, _, free) = new .placed (every-at _ child 0) (of-not-true _ (every-at _ child 1)) in
           let parent = sym (eqb-true (n .parent) (parentOf t f) (every-at _ child 2)) in
           let taken = free f l ne (every-i _ (live, (not-of-false _ notRoot, (eq-eqb (parentOf t f) (n .parent) parent, tt)))) in
           ne-eqb (n .name) (entityAt t f .name) (λ same. eqb-false _ (n .name) taken (sym same))
@@ -142,6 +145,7 @@ module _ {width : ℕ} (t : Tables) (ok : Sound width t) (e : ℕ) (n : Entity)
                   inside = inside-kept f l live (others-stay t e n f ne) (place .inside) (entityAt t f) refl;
                   ownName = named f (entityAt t f) (place .ownName) (λ _. apart f l ne live notRoot);
                 };
+            mark = old .mark;
             empty = old .empty;
           }
 
@@ -220,3 +224,29 @@ entity-kept {width} t e n h way stay new =
           owns = seen-ok 64 _ (grantable r) _ (t .entities) noEntity e n (ok .manyEntities) (old .owns)
               (kept (grantable r e) _ (λ unused. rights-zero _ e (none unused) .3) way);
         }
+
+-- ---- the shape stays
+pub same-shape-kept : (width : ℕ) (t : Tables) (e : ℕ) (n : Entity) → soundIn width t ≡ true → e < 64 → shape n ≡ shape (entityAt t e)
+    → entityAt t e .live ≡ true → entityInRangeIn width n ≡ true → (isRoot e ≡ true → isRootRecord e n ≡ true) → isMarkAllowed n ≡ true
+    → (isRoot e ≡ false → (leb 1 (n .name) ≡ true) × OwnName (t .entities) e n)
+    → soundIn width (withEntities t (set (t .entities) e n)) ≡ true
+same-shape-kept width t e n h l same live range root mark named =
+    entity-kept t e n h (inl same) stay
+    (record {
+      range = range;
+      root = root;
+      mark = mark;
+      empty = λ dead. absurd (clash _ (ap (λ (a : Entity). a .live) same ∙ live) dead);
+      placed = λ alive other.
+          let old = ok .entity e l .placed live other .inside in
+          (named other .0, inside-kept t ok e n stay e l live (stays e l) old n same, named other .1);
+    })
+  where
+    ok : Sound width t
+    ok = sound-e t h
+
+    stays : (f : ℕ) → f < 64 → Stays t e n f
+    stays = set-each (λ f a. shape a ≡ shape (entityAt t f)) 64 (t .entities) noEntity (ok .manyEntities) e n (λ f k ne. refl) (λ k. same)
+
+    stay : (f : ℕ) → f < 64 → entityAt t f .live ≡ true → Stays t e n f → Stays t e n (parentOf t f)
+    stay f k alive s = stays (parentOf t f) (parent-kin t ok f k alive .below)

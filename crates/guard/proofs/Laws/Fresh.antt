@@ -11,7 +11,7 @@ use Rattle.bitset.specs.Tests.Laws.{Each, every-i}
 use Rattle.guard.proofs.Compute.{computing}
 use Rattle.guard.specs.Level.{userCount, sessionCount, roleCount, entityCount}
 use Rattle.guard.specs.Tables.{noUser, sessionAt, roleAt, entityAt}
-use Rattle.guard.specs.Sound.{roleInRange, usersInRange, fieldsInRangeIn, rootsAsSaid, keepersAsSaid, entitiesPlaced, deadAreEmpty, deadAreUnused, rightsWithin, readingWithin, writingWithin, sound, soundIn}
+use Rattle.guard.specs.Sound.{roleInRange, usersInRange, fieldsInRangeIn, rootsAsSaid, keepersAsSaid, entitiesPlaced, objectsUnshared, deadAreEmpty, deadAreUnused, rightsWithin, readingWithin, writingWithin, sound, soundIn}
 use Rattle.guard.specs.Fresh.{fresh, build}
 use Rattle.guard.specs.Private.InForce.{sessionInRange, entityInRange, fieldsInRange}
 use Rattle.guard.specs.declared.User.{User}
@@ -57,6 +57,7 @@ module _ (us : List User) where
       (rootsAsSaid (fresh us)
       ∷ keepersAsSaid (fresh us)
       ∷ entitiesPlaced (fresh us)
+      ∷ objectsUnshared (fresh us)
       ∷ deadAreEmpty (fresh us)
       ∷ deadAreUnused (fresh us)
       ∷ rightsWithin (fresh us)
@@ -64,7 +65,7 @@ module _ (us : List User) where
       ∷ writingWithin (fresh us)
       ∷ [])
   unfolding computing
-  others = (refl, (refl, (refl, (refl, (refl, (refl, (refl, (refl, tt))))))))
+  others = (refl, (refl, (refl, (refl, (refl, (refl, (refl, (refl, (refl, tt)))))))))
 
 pub fresh-sound : (us : List User) → usersInRange us ≡ true → sound (fresh us) ≡ true
 unfolding soundIn

@@ -1,10 +1,10 @@
--- The sixteen requests against the paper's lists of numbers.
---     applying        the numbers that apply to each request, in the order of the sixteen, as the paper's lines have them
+-- The seventeen requests against the papers' lists of numbers.
+--     applying        the numbers that apply to each request, in the order of the seventeen, as the papers' lines have them
 --     apart, rising   .. with 1 and 2 before them they are distinct and none is 0, and they rise
 --     answer-none, answer-leads   0 exactly when no condition is met, and n exactly when n's is met and none before it
 --     answer-lowest, answer-met   the answer is the lowest number that applies and whose condition is met
 --     numbered        the rule at each number that has a name (Kind) is the request of that name
---     unknown-answer  a request of none of the sixteen kinds: 2 on sound tables
+--     unknown-answer  a request of none of the seventeen kinds: 2 on sound tables
 --     unsound-answer  unsound tables: 1, whatever is asked
 -- Assumes nothing.
 use Prim.Native.Nat.{ℕ, _≤_}
@@ -18,7 +18,7 @@ use borrow.Author.Tests.{le-ltb}
 use Rattle.bitset.specs.Tests.{every}
 use Rattle.guard.specs.Sound.{sound}
 use Rattle.guard.specs.Refusals.{Refusal, _when_, first}
-use Rattle.guard.specs.Requests.{Rule, fieldInRangeIn, requestCount, login, logout, take, drop, openr, openw, close, create, delete, rename, grant, revoke, list, unlist, make, unmake, unknown, rules, ruleOf}
+use Rattle.guard.specs.Requests.{Rule, fieldInRangeIn, requestCount, login, logout, take, drop, openr, openw, close, create, delete, rename, grant, revoke, list, unlist, make, unmake, share, unknown, rules, ruleOf}
 use Rattle.guard.specs.Step.{inRangesIn, answer, answerIn}
 use Rattle.guard.specs.Kind as kind
 use Rattle.guard.specs.Private.InForce.{fieldInRange, inRanges}
@@ -30,7 +30,7 @@ use Rattle.guard.proofs.Laws.Step.{each-rule}
 abbrev numbers : Tables → Request → Rule → List ℕ
 numbers t q r = map (λ (c : Refusal). c .number) (r .refusals t q)
 
--- Refusals 1 and 2 apply to all sixteen, and 5 to all but login.
+-- Refusals 1 and 2 apply to all seventeen, and 5 to all but login.
 pub applying : (t : Tables) (q : Request) →
     map (numbers t q) rules ≡
     (3 ∷ 4 ∷ [])  -- login (seat, user, label): 3, 4.
@@ -49,8 +49,9 @@ pub applying : (t : Tables) (q : Request) →
     ∷ (5 ∷ 7 ∷ 10 ∷ 12 ∷ 16 ∷ [])  -- .. unlist (x, role, user): 7, 10, 12, 16.
     ∷ (5 ∷ 8 ∷ 10 ∷ 12 ∷ [])  -- make (x, role): 8, 10, 12.
     ∷ (5 ∷ 6 ∷ 7 ∷ 10 ∷ 12 ∷ [])  -- unmake (x, role): 6, 7, 10, 12.
+    ∷ (5 ∷ 7 ∷ 9 ∷ 10 ∷ 13 ∷ 16 ∷ [])  -- share (x, e, mark): 7, 9, 10, 13, 16.
     ∷ []
-unfolding rules login logout take drop openr openw close create delete rename grant revoke list unlist make unmake
+unfolding rules login logout take drop openr openw close create delete rename grant revoke list unlist make unmake share
 applying t q = refl
 
 -- the whole list of a request, from which its answer is taken
@@ -59,19 +60,19 @@ conditions r t q = 1 when not (sound t) ∷ 2 when not (inRanges q) ∷ r .refus
 
 -- the numbers of each list are distinct, and none is 0
 apart : (t : Tables) (q : Request) → distinct (conditions (ruleOf q) t q) ≡ true
-unfolding rules login logout take drop openr openw close create delete rename grant revoke list unlist make unmake unknown
+unfolding rules login logout take drop openr openw close create delete rename grant revoke list unlist make unmake share unknown
 apart t q =
     each-rule (λ r. distinct (conditions r t q) ≡ true)
-    (refl, (refl, (refl, (refl, (refl, (refl, (refl, (refl, (refl, (refl, (refl, (refl, (refl, (refl, (refl, (refl, tt))))))))))))))))
+    (refl, (refl, (refl, (refl, (refl, (refl, (refl, (refl, (refl, (refl, (refl, (refl, (refl, (refl, (refl, (refl, (refl, tt)))))))))))))))))
     refl
     q
 
 -- .. and they rise
 rising : (t : Tables) (q : Request) → risingFrom 0 (conditions (ruleOf q) t q) ≡ true
-unfolding rules login logout take drop openr openw close create delete rename grant revoke list unlist make unmake unknown
+unfolding rules login logout take drop openr openw close create delete rename grant revoke list unlist make unmake share unknown
 rising t q =
     each-rule (λ r. risingFrom 0 (conditions r t q) ≡ true)
-    (refl, (refl, (refl, (refl, (refl, (refl, (refl, (refl, (refl, (refl, (refl, (refl, (refl, (refl, (refl, (refl, tt))))))))))))))))
+    (refl, (refl, (refl, (refl, (refl, (refl, (refl, (refl, (refl, (refl, (refl, (refl, (refl, (refl, (refl, (refl, (refl, tt)))))))))))))))))
     refl
     q
 
@@ -113,10 +114,11 @@ pub numbered :
     × (getD rules kind.unlist unknown ≡ unlist)
     × (getD rules kind.make unknown ≡ make)
     × (getD rules kind.unmake unknown ≡ unmake)
+    × (getD rules kind.share unknown ≡ share)
 unfolding rules
-numbered = (refl, refl, refl, refl, refl, refl, refl, refl, refl, refl, refl, refl, refl, refl, refl, refl)
+numbered = (refl, refl, refl, refl, refl, refl, refl, refl, refl, refl, refl, refl, refl, refl, refl, refl, refl)
 
--- ---- a request of none of the sixteen kinds
+-- ---- a request of none of the seventeen kinds
 pub unknown-rule : (q : Request) → requestCount ≤ q .call → ruleOf q ≡ unknown
 unfolding ruleOf rules
 unknown-rule q h = List·getD-eq-default rules unknown h

@@ -14,8 +14,8 @@ use borrow.Author.Tests.{eqb-true, eq-eqb}
 use Rattle.bitset.specs.Tests.Laws as tests
 use Rattle.bitset.specs.Tests.Laws.{every-i, every-e, every-at}
 use Rattle.guard.specs.Label.{sameLabel}
-use Rattle.guard.specs.Conditions.{userTooLow, createOutOfLevel, grantBelow, cannotOpen, cannotChangeIn, notOpen, nameTaken, hasChildren}
-use Rattle.guard.specs.Requests.{Rule, Field, call, seat, user, role, entity, parent, kind, name, label, rights, fieldInRangeIn, loggedIn, created, login, logout, take, drop, openr, openw, close, create, delete, rename, grant, revoke, list, unlist, make, unmake, unknown, rules, ruleOf}
+use Rattle.guard.specs.Conditions.{userTooLow, createOutOfLevel, grantBelow, cannotOpen, cannotChangeIn, cannotChange, notOpen, nameTaken, hasChildren}
+use Rattle.guard.specs.Requests.{Rule, Field, call, seat, user, role, entity, parent, kind, name, label, rights, shared, fieldInRangeIn, loggedIn, created, login, logout, take, drop, openr, openw, close, create, delete, rename, grant, revoke, list, unlist, make, unmake, share, unknown, rules, ruleOf}
 use Rattle.guard.specs.Step.{inRangesIn, answer, answerIn, next, nextIn, step}
 use Rattle.guard.specs.SameRequest.{sameField, sameRequest, sameRequests}
 use Rattle.guard.specs.Private.InForce.{fieldInRange}
@@ -35,6 +35,7 @@ SameField p q kind = p .kind ≡ q .kind
 SameField p q name = p .name ≡ q .name
 SameField p q label = (p .grade ≡ q .grade) × (p .cats ≡ q .cats)
 SameField p q rights = p .rights ≡ q .rights
+SameField p q shared = p .shared ≡ q .shared
 
 abbrev pub SameFields : Request → Request → List Field → Type 0
 SameFields p q [] = Unit {0}
@@ -53,6 +54,7 @@ module _ (p q : Request) where
   field-e name h = eqb-true _ _ h
   field-e label h = (eqb-true _ _ (every-at _ h 0), eqb-true _ _ (every-at _ h 1))
   field-e rights h = eqb-true _ _ h
+  field-e shared h = eqb-true _ _ h
 
   fields-e : (fs : List Field) → tests.Each (map (sameField p q) fs) → SameFields p q fs
   fields-e [] h = tt
@@ -70,6 +72,7 @@ module _ (p q : Request) where
   range-same name e = rw e
   range-same label (g, c) = rw (g, c)
   range-same rights e = rw e
+  range-same shared e = rw e
 
   -- a test of each field
   pub map-same : (of-p of-q : Field → Bool) → ((f : Field) → SameField p q f → of-p f ≡ of-q f) → (fs : List Field) → SameFields p q fs
@@ -116,11 +119,11 @@ unfolding create created createOutOfLevel cannotChangeIn nameTaken
 reads-create p q (s, (e, (k, (m, (n, ((g, c), (r, more))))))) = (s, λ t. rw (s, e, m, n, g, c, r), λ t. rw (e, k, m, n, g, c, r))
 
 reads-delete : Reads delete
-unfolding delete cannotChangeIn hasChildren
+unfolding delete cannotChangeIn cannotChange hasChildren
 reads-delete p q (s, (e, more)) = (s, λ t. rw (s, e), λ t. rw e)
 
 reads-rename : Reads rename
-unfolding rename cannotChangeIn nameTaken
+unfolding rename cannotChangeIn cannotChange nameTaken
 reads-rename p q (s, (e, (n, more))) = (s, λ t. rw (s, e, n), λ t. rw (e, n))
 
 reads-grant : Reads grant
@@ -147,16 +150,20 @@ reads-unmake : Reads unmake
 unfolding unmake
 reads-unmake p q (s, (r, more)) = (s, λ t. rw (s, r), λ t. rw r)
 
+reads-share : Reads share
+unfolding share
+reads-share p q (s, (e, (m, more))) = (s, λ t. rw (s, e, m), λ t. rw (e, m))
+
 reads-unknown : Reads unknown
 unfolding unknown
 reads-unknown p q (s, more) = (s, λ t. refl, λ t. refl)
 
 each-reads : Each Reads rules
 unfolding rules
-each-reads = (reads-login, (reads-logout, (reads-take, (reads-drop, (reads-openr, (reads-openw, (reads-close, (reads-create, (reads-delete, (reads-rename, roles))))))))))
+each-reads = (reads-login, (reads-logout, (reads-take, (reads-drop, (reads-openr, (reads-openw, (reads-close, (reads-create, (reads-delete, (reads-rename, more))))))))))
   where
-    roles : Each Reads (grant ∷ revoke ∷ list ∷ unlist ∷ make ∷ unmake ∷ [])
-    roles = (reads-grant, (reads-revoke, (reads-list, (reads-unlist, (reads-make, (reads-unmake, tt))))))
+    more : Each Reads (grant ∷ revoke ∷ list ∷ unlist ∷ make ∷ unmake ∷ share ∷ [])
+    more = (reads-grant, (reads-revoke, (reads-list, (reads-unlist, (reads-make, (reads-unmake, (reads-share, tt)))))))
 
 reads : (q : Request) → Reads (ruleOf q)
 reads = each-rule Reads each-reads reads-unknown
@@ -205,6 +212,7 @@ module _ (q : Request) where
   field-refl name = itself (q .name)
   field-refl label = every-i _ (itself (q .grade), (itself (q .cats), tt))
   field-refl rights = itself (q .rights)
+  field-refl shared = itself (q .shared)
 
   fields-refl : (fs : List Field) → tests.Each (map (sameField q q) fs)
   fields-refl [] = tt

@@ -14,7 +14,7 @@ use Rattle.bitset.specs.Sets.{has}
 use Rattle.guard.specs.Level.{sessionLevel, entityLevel, isRoot}
 use Rattle.guard.specs.Tables.{sessionAt, roleAt, entityAt, isWriting, rightsOf, rightsOn, isChild}
 use Rattle.guard.specs.Chain.{endsAtRoot}
-use Rattle.guard.specs.Sound.{sessionInRangeIn, roleInRange, fieldsInRangeIn, rootsAsSaid, keepersAsSaid, hasOwnName, isPlaced, entitiesPlaced, isEmptySession, isEmptyRole, deadAreEmpty, deadAreUnused, rightsWithin, readingWithin, writingWithin, sound, soundIn}
+use Rattle.guard.specs.Sound.{sessionInRangeIn, roleInRange, fieldsInRangeIn, rootsAsSaid, keepersAsSaid, hasOwnName, isPlaced, entitiesPlaced, objectsUnshared, isEmptySession, isEmptyRole, deadAreEmpty, deadAreUnused, rightsWithin, readingWithin, writingWithin, sound, soundIn}
 use Rattle.guard.specs.declared.Session.{Session}
 use Rattle.guard.specs.declared.Role.{Role}
 use Rattle.guard.specs.declared.Entity.{Entity}
@@ -54,8 +54,8 @@ unfolding soundIn fieldsInRangeIn sessionInRangeIn isEmptySession deadAreEmpty d
 session-e t h s l =
     let r = sessionAt t s in
     let range = all-e 16 _ (every-at _ (every-at _ h 0) 2) s l in
-    let empty : r .live ≡ false → isEmptySession r ≡ true = λ d. dead _ _ (all-e 16 _ (every-at _ (every-at _ h 4) 0) s l) d in
-    let unused = every-at _ h 5 in
+    let empty : r .live ≡ false → isEmptySession r ≡ true = λ d. dead _ _ (all-e 16 _ (every-at _ (every-at _ h 5) 0) s l) d in
+    let unused = every-at _ h 6 in
     record {
       user = ltb-true _ _ (every-at _ range 0);
       label = every-at _ range 1;
@@ -63,9 +63,9 @@ session-e t h s l =
       held = set-e 16 _ _ _ (ltb-true _ _ (every-at _ range 2)) (λ d. every-at _ (empty d) 2)
           (λ p k m. used _ _ (all-e 16 _ (all-e 16 _ (every-at _ unused 3) s l) p k) (not-of-true _ m));
       reading = set-e 64 _ _ _ (ltb-true _ _ (every-at _ range 3)) (λ d. every-at _ (empty d) 3)
-          (opened _ _ _ _ (all-e 16 _ (every-at _ unused 1) s l) (all-e 16 _ (every-at _ h 7) s l));
+          (opened _ _ _ _ (all-e 16 _ (every-at _ unused 1) s l) (all-e 16 _ (every-at _ h 8) s l));
       writing = set-e 64 _ _ _ (ltb-true _ _ (every-at _ range 4)) (λ d. every-at _ (empty d) 4)
-          (opened _ _ _ _ (all-e 16 _ (every-at _ unused 2) s l) (all-e 16 _ (every-at _ h 8) s l));
+          (opened _ _ _ _ (all-e 16 _ (every-at _ unused 2) s l) (all-e 16 _ (every-at _ h 9) s l));
     }
 
 -- a role has rights only on what it may have rights on
@@ -73,15 +73,15 @@ rights-e : (width : ℕ) (t : Tables) → soundIn width t ≡ true → (r e : �
 unfolding soundIn deadAreUnused rightsWithin
 rights-e width t h r e l k ne =
     let some = ne-eqb (rightsOn t r e) 0 ne in
-    let live = used _ _ (all-e 64 _ (all-e 16 _ (every-at _ (every-at _ h 5) 0) r l) e k) some in
-    every-i _ (live, (implies-e _ _ (all-e 64 _ (all-e 16 _ (every-at _ h 6) r l) e k) (not-of-false _ some), tt))
+    let live = used _ _ (all-e 64 _ (all-e 16 _ (every-at _ (every-at _ h 6) 0) r l) e k) some in
+    every-i _ (live, (implies-e _ _ (all-e 64 _ (all-e 16 _ (every-at _ h 7) r l) e k) (not-of-false _ some), tt))
 
 role-e : (width : ℕ) (t : Tables) → soundIn width t ≡ true → (r : ℕ) → r < 16 → RoleOk (t .entities) r (roleAt t r)
 unfolding soundIn fieldsInRangeIn roleInRange keepersAsSaid isEmptyRole deadAreEmpty
 role-e width t h r l =
     let p = roleAt t r in
     let range = all-e 16 _ (every-at _ (every-at _ h 0) 4) r l in
-    let empty : p .live ≡ false → isEmptyRole p ≡ true = λ d. dead _ _ (all-e 16 _ (every-at _ (every-at _ h 4) 1) r l) d in
+    let empty : p .live ≡ false → isEmptyRole p ≡ true = λ d. dead _ _ (all-e 16 _ (every-at _ (every-at _ h 5) 1) r l) d in
     record {
       keeper = λ k. implies-e _ _ (all-e 16 _ (every-at _ h 2) r l) k;
       users = set-e 16 _ _ _ (ltb-true _ _ (every-at _ range 0)) (λ d. every-at _ (empty d) 0) (λ u k m. refl);
@@ -96,7 +96,7 @@ role-e width t h r l =
     }
 
 entity-e : {width : ℕ} (t : Tables) → soundIn width t ≡ true → (e : ℕ) → e < 64 → EntityOk width (t .entities) e (entityAt t e)
-unfolding soundIn fieldsInRangeIn rootsAsSaid entitiesPlaced isPlaced hasOwnName isChild endsAtRoot deadAreEmpty
+unfolding soundIn fieldsInRangeIn rootsAsSaid entitiesPlaced isPlaced hasOwnName isChild endsAtRoot objectsUnshared deadAreEmpty
 entity-e t h e l =
     let n = entityAt t e in
     record {
@@ -113,7 +113,8 @@ entity-e t h e l =
             ownName = λ f k ne child.
                 of-not-true _ (implies-e _ _ (all-e 64 _ (every-at _ placed 5) f k) (every-i _ (child, (not-of-false _ (ne-eqb f e ne), tt))));
           };
-      empty = λ d. dead _ _ (all-e 64 _ (every-at _ (every-at _ h 4) 2) e l) d;
+      mark = all-e 64 _ (every-at _ h 4) e l;
+      empty = λ d. dead _ _ (all-e 64 _ (every-at _ (every-at _ h 5) 2) e l) d;
     }
 
 pub sound-e : {width : ℕ} (t : Tables) → soundIn width t ≡ true → Sound width t
@@ -214,13 +215,14 @@ placed-i t e ok =
     own = all-i 64 _ (λ f l. implies-i _ _ (λ h. not-of-false _ (ok .ownName f l (eqb-false f e (of-not-true _ (every-at _ h 1))) (every-at _ h 0))))
 
 pub sound-i : {width : ℕ} (t : Tables) → Sound width t → soundIn width t ≡ true
-unfolding soundIn fieldsInRangeIn rootsAsSaid keepersAsSaid entitiesPlaced deadAreEmpty deadAreUnused rightsWithin readingWithin writingWithin
+unfolding soundIn fieldsInRangeIn rootsAsSaid keepersAsSaid entitiesPlaced objectsUnshared deadAreEmpty deadAreUnused rightsWithin readingWithin writingWithin
 sound-i {width} t ok =
     every-of _
     (fields
     also all-i 64 _ (λ e l. implies-i _ _ (ok .entity e l .root))
     also all-i 16 _ (λ r l. implies-i _ _ (ok .role r l .keeper))
     also all-i 64 _ (λ e l. implies-i _ _ (λ h. placed-i t e (ok .entity e l .placed (every-at _ h 0) (of-not-true _ (every-at _ h 1)))))
+    also all-i 64 _ (λ e l. ok .entity e l .mark)
     also empty
     also unused
     also all-i 16 _ (λ r l. all-i 64 _ (λ e k. implies-i _ _ (λ some. every-at _ (granted r e l k (of-not-true _ some)) 1)))

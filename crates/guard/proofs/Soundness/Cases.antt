@@ -1,22 +1,26 @@
 -- What the code tests of one record, in the cases that it tells apart.
+--     entity-fits                                                    an entity in its ranges, its mark as its kind allows
 --     entity-dead, entity-root, entity-other                         an entity n at e, where p is its parent's record
 --     rights-small, role-out, role-last                              a role p at r, by the entities on which it may have rights
 --     session-dead, session-out, session-away, session-last          a session s at a level, by the labels of the entities
 -- Assumes nothing.
-use Prim.Native.Nat.{ℕ, _^_, _<_}
+use Prim.Native.Nat.{ℕ, _^_, _≤_, _<_}
 use mathlib.Core.Bool.{Bool, true, false, not, _&&_, and-true, _||_, and-false, cond}
 use mathlib.Core.Path.{_≡_, refl, sym, _∙_}
 use mathlib.Core.List.{List, [], _∷_}
-use lib.Dec.{leb, eqb}
-use borrow.Author.Tests.{lt-ltb}
-use Rattle.bitset.specs.Tests.{every, either}
-use Rattle.bitset.specs.Tests.Laws.{both, clash, is-false, not-of-true, not-of-false, every-i, every-at, of-not-true, of-not-false}
+use native.Mathlib.Decide.{ℕ-discrete}
+use native.Mathlib.Omega.{arith}
+use lib.Dec.{leb, ltb, eqb}
+use borrow.Author.Tests.{eqb-true, leb-true, eq-eqb, le-leb, lt-ltb}
+use Rattle.bitset.specs.Tests.{every, either, implies}
+use Rattle.bitset.specs.Tests.Laws.{both, clash, is-false, not-of-true, not-of-false, every-i, every-at, implies-i, implies-e, of-not-true, of-not-false}
 use Rattle.bitset.specs.Sets.{has, contains}
 use Rattle.bitset.specs.Sets.Laws.{has-none, join-lt}
 use Rattle.guard.specs.Level.{isRoot, isKeeper}
-use Rattle.guard.specs.Sound.{isRootRecord, isEmptyEntity, isEmptySession}
-use Rattle.guard.specs.Private.Tested.{entityTest, rightsSet, roleTest, openLevels, openLabels, sessionTest}
-use Rattle.guard.specs.Private.InForce.{entityInRange, sessionInRange}
+use Rattle.guard.specs.Label.{labelInRange}
+use Rattle.guard.specs.Sound.{entityInRangeIn, isRootRecord, isMarkAllowed, isEmptyEntity, isEmptySession}
+use Rattle.guard.specs.Private.Tested.{entityFits, entityTest, rightsSet, roleTest, openLevels, openLabels, sessionTest}
+use Rattle.guard.specs.Private.InForce.{sessionInRange}
 use Rattle.guard.specs.declared.Entity.{Entity}
 use Rattle.guard.specs.declared.Role.{Role}
 use Rattle.guard.specs.declared.Session.{Session}
@@ -26,15 +30,54 @@ use Rattle.guard.proofs.Soundness.Members.{within-mask}
 
 -- ---- an entity
 
+four-tests : (a b c d : Bool) → (a && (b && (c && d))) ≡ every (a ∷ b ∷ c ∷ d ∷ [])
+unfolding every
+four-tests a b c d = simp and-true
+
+-- a mark of at most the kind: 0 for an object, at most 1 for a container
+mark-fits : (k m : ℕ) → k ≤ 1 → leb m k ≡ every (leb m 1 ∷ implies (eqb k 0) (eqb m 0) ∷ [])
+mark-fits k m h = both _ _ forth back
+  where
+    forth : leb m k ≡ true → every (leb m 1 ∷ implies (eqb k 0) (eqb m 0) ∷ []) ≡ true
+    forth t =
+        let le = leb-true m k t in
+        every-i _ (le-leb m 1 (omega arith), (implies-i _ _ (λ z. let k0 = eqb-true k 0 z in eq-eqb m 0 (omega arith)), tt))
+
+    back : every (leb m 1 ∷ implies (eqb k 0) (eqb m 0) ∷ []) ≡ true → leb m k ≡ true
+    back t = go (ℕ-discrete k 0)
+      where
+        go : Dec (k ≡ 0) → leb m k ≡ true
+        go (yes z) = let m0 = eqb-true m 0 (implies-e _ _ (every-at _ t 1) (eq-eqb k 0 z)) in le-leb m k (omega arith)
+        go (no z) = let m1 = leb-true m 1 (every-at _ t 0) in le-leb m k (omega (arith, z))
+
+pub entity-fits : (n : Entity) (r : Bool) → leb (n .name) 65535 ≡ true → r ≡ labelInRange (n .label)
+    → (leb (n .kind) 1 && (leb (n .shared) (n .kind) && (ltb (n .parent) 64 && r))) ≡ entityFits n
+unfolding entityInRangeIn isMarkAllowed
+entity-fits n r name label = both _ _ forth back
+  where
+    forth : (leb (n .kind) 1 && (leb (n .shared) (n .kind) && (ltb (n .parent) 64 && r))) ≡ true → entityFits n ≡ true
+    forth t =
+        let four = every-at (leb (n .kind) 1 ∷ leb (n .shared) (n .kind) ∷ ltb (n .parent) 64 ∷ r ∷ []) (sym (four-tests _ _ _ r) ∙ t) in
+        let marks = every-at _ (sym (mark-fits (n .kind) (n .shared) (leb-true _ _ (four 0))) ∙ four 1) in
+        every-i _ (every-i _ (four 0, (four 2, (name, (sym label ∙ four 3, (marks 0, tt))))), (marks 1, tt))
+
+    back : entityFits n ≡ true → (leb (n .kind) 1 && (leb (n .shared) (n .kind) && (ltb (n .parent) 64 && r))) ≡ true
+    back t =
+        let range = every-at _ (every-at _ t 0) in
+        let marks : every (leb (n .shared) 1 ∷ implies (eqb (n .kind) 0) (eqb (n .shared) 0) ∷ []) ≡ true = every-i _ (range 4, (every-at _ t 1, tt)) in
+        four-tests _ _ _ r
+        ∙ every-i _ (range 0, (mark-fits (n .kind) (n .shared) (leb-true _ _ (range 0)) ∙ marks, (range 1, (label ∙ range 3, tt))))
+
 module _ (e : ℕ) (n p : Entity) where
   pub entity-dead : (r : Bool) → n .live ≡ false → r ≡ isEmptyEntity n → (not (isRoot e) && r) ≡ entityTest e n p
   unfolding every
   entity-dead r dead h = cond-no (n .live) _ _ _ dead (rw h (simp and-true))
 
-  pub entity-root : (r : Bool) → n .live ≡ true → isRoot e ≡ true → r ≡ isRootRecord e n → r ≡ entityTest e n p
-  entity-root r live root h = cond-yes (n .live) _ _ _ live (cond-yes (isRoot e) _ _ _ root h)
+  pub entity-root : (r : Bool) → n .live ≡ true → isRoot e ≡ true → r ≡ isRootRecord e n → (r && leb (n .shared) 1) ≡ entityTest e n p
+  unfolding every
+  entity-root r live root h = cond-yes (n .live) _ _ _ live (cond-yes (isRoot e) _ _ _ root (rw h (simp and-true)))
 
-  pub entity-other : (r s : Bool) → n .live ≡ true → isRoot e ≡ false → r ≡ entityInRange n → s ≡ fitsIn e n p → (r && (leb 1 (n .name) && s)) ≡ entityTest e n p
+  pub entity-other : (r s : Bool) → n .live ≡ true → isRoot e ≡ false → r ≡ entityFits n → s ≡ fitsIn e n p → (r && (leb 1 (n .name) && s)) ≡ entityTest e n p
   unfolding every
   entity-other r s live other h k = cond-yes (n .live) _ _ _ live (cond-no (isRoot e) _ _ _ other (rw (h, k) (simp and-true)))
 

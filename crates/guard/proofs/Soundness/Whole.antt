@@ -68,6 +68,7 @@ settled-of : (t : Tables) (e : ℕ) → EntityOk allCategories (t .entities) e (
 settled-of t e ok = record {
   range = ok .range;
   root = ok .root;
+  mark = ok .mark;
   empty = ok .empty;
   named = λ live other. ok .placed live other .named;
   fits = λ live other. ok .placed live other .inside .parent;
@@ -135,6 +136,7 @@ passed t keys labels live roles size K L B R u e c n r s =
           record {
             range = set .range;
             root = set .root;
+            mark = set .mark;
             empty = set .empty;
             placed = λ live other.
                 record {

@@ -4,6 +4,7 @@ use Prim.Native.Nat.{ℕ, _≤_, _<_}
 use mathlib.Core.Path.{_≡_}
 use mathlib.Core.Bool.{Bool, true, false, not, cond}
 use mathlib.Core.List.{List, [], _∷_, map}
+use mathlib.Core.Logic.{_⊎_}
 use lib.Dec.{leb, eqb}
 use lib.ListN.{getD}
 use Rattle.bitset.specs.Tests.{every, either}
@@ -12,7 +13,7 @@ use Rattle.guard.specs.Level.{userCount, sessionCount, roleCount, entity
 use Rattle.guard.specs.Tables.{noSession, noRole, noEntity, userAt, sessionAt, roleAt, entityAt, hasRight, read, write, execute, own}
 use Rattle.guard.specs.Chain.{reaches}
 use Rattle.guard.specs.Sound.{topName}
-use Rattle.guard.specs.Edits.{takeRole, dropRole, openReading, openWriting, closeBoth, putIn, renameTo}
+use Rattle.guard.specs.Edits.{takeRole, dropRole, openReading, openWriting, closeBoth, putIn, renameTo, markAs}
 use Rattle.guard.specs.Refusals.{_when_, first}
 use Rattle.guard.specs.Conditions.{nameTaken, hasChildren, recordedParent}
 use Rattle.guard.specs.Requests.{Rule, loggedIn, created}
@@ -26,7 +27,7 @@ use Rattle.guard.specs.declared.Tables.{Tables}
 use Rattle.guard.specs.declared.Request.{Request}
 use Rattle.guard.specs.declared.look.Places.{Places}
 use Rattle.guard.specs.declared.change.Change.{Change}
-use Rattle.guard.specs.declared.change.Change.the-variants.{Session as OfSession, Entity as OfEntity, Role as OfRole}
+use Rattle.guard.specs.declared.change.Change.the-variants.{Session as ASession, Entity as AnEntity, Role as ARole}
 use Rattle.guard.specs.declared.scan.Rights.{Rights}
 use Rattle.guard.specs.declared.scan.Found.{Found}
 use Rattle.guard.specs.declared.view.View.{View}
@@ -58,11 +59,12 @@ asksWay call = either (eqb call kind.openr) (eqb call kind.openw)
 unfoldable pub asksName : ℕ → Bool
 asksName call = either (eqb call kind.create) (eqb call kind.rename)
 
--- these, grant and revoke ask for rights
+-- these, grant, revoke and share ask for rights
 unfoldable pub asksRights : ℕ → Bool
 asksRights call =
     either (asksWay call)
-    (either (asksName call) (either (eqb call kind.delete) (either (eqb call kind.grant) (eqb call kind.revoke))))
+    (either (asksName call)
+    (either (eqb call kind.delete) (either (eqb call kind.grant) (either (eqb call kind.revoke) (eqb call kind.share)))))
 
 -- ---- the view, from the records and what the scans tell
 abbrev pub viewOf : Places → Session → User → Role → Entity → Entity → Found → View
@@ -94,6 +96,7 @@ pub record Seen (t : Tables) (q : Request) (v : View) : Type 0 where
   pub entity : q .entity < entityCount → v .entity ≡ entityAt t (q .entity)
   pub inside : q .entity < entityCount → entityAt t (q .entity) .parent < entityCount
   pub parent : q .call ≡ kind.create → q .parent < entityCount → v .parent ≡ entityAt t (q .parent)
+  pub outer : eqb (q .call) kind.create ≡ false → q .entity < entityCount → v .parent ≡ entityAt t (recordedParent t q)
   pub rights : asksRights (q .call) ≡ true → q .seat < sessionCount → RightsOf t (q .seat) (v .found .rights)
   pub reached : asksWay (q .call) ≡ true → q .seat < sessionCount → q .entity < entityCount → v .found .reached ≡ reaches t (q .seat) (q .entity)
   pub created : q .call ≡ kind.create → q .parent < entityCount → 1 ≤ q .name → q .name ≤ topName → v .found .child ≡ nameTaken t q (q .parent)
@@ -105,7 +108,12 @@ pub record Seen (t : Tables) (q : Request) (v : View) : Type 0 where
 -- which records a kind changes: a session; an entity, with a role (create) or every role and session (delete); a role, with
 -- every session (unmake)
 unfoldable pub changeOf : ℕ → Change
-changeOf call = cond (leb call kind.close) OfSession (cond (leb call kind.rename) OfEntity OfRole)
+changeOf call =
+    cond (leb call kind.close) ASession (cond (either (leb call kind.rename) (eqb call kind.share)) AnEntity ARole)
+
+-- the kinds that change an entity
+abbrev pub OfEntity : ℕ → Type 0
+OfEntity call = ((kind.create ≤ call) × (call ≤ kind.rename)) ⊎ (call ≡ kind.share)
 
 -- the acting session s after a request of the first seven kinds
 unfoldable pub sessionAfter : Request → Session → Session
@@ -120,10 +128,11 @@ sessionAfter q s =
     ∷ [])
     (q .call) (closeBoth (q .entity) s)
 
--- the entity f after create, delete or rename
+-- the entity f after create, delete, share or rename
 unfoldable pub entityAfter : Request → Entity → Entity
 entityAfter q f =
-    cond (eqb (q .call) kind.create) (created q) (cond (eqb (q .call) kind.delete) noEntity (renameTo (q .name) f))
+    cond (eqb (q .call) kind.create) (created q)
+    (cond (eqb (q .call) kind.delete) noEntity (cond (eqb (q .call) kind.share) (markAs (q .shared) f) (renameTo (q .name) f)))
 
 -- the entities of one right after grant or revoke, where it is named
 unfoldable pub setAfter : Bool → Bool → ℕ → ℕ → ℕ
@@ -169,4 +178,4 @@ owning e p =
 -- ---- a request as a row
 abbrev pub rowOf : Request → List ℕ
 rowOf q =
-    q .call ∷ q .seat ∷ q .user ∷ q .role ∷ q .entity ∷ q .parent ∷ q .kind ∷ q .name ∷ q .grade ∷ q .cats ∷ q .rights ∷ []
+    q .call ∷ q .seat ∷ q .user ∷ q .role ∷ q .entity ∷ q .parent ∷ q .kind ∷ q .name ∷ q .grade ∷ q .cats ∷ q .rights ∷ q .shared ∷ []

@@ -9,9 +9,9 @@ use Rattle.bitset.specs.Tests.{every, either, implies, all}
 use Rattle.bitset.specs.Sets.{has, contains, join}
 use Rattle.guard.specs.Level.{roleLevel, entityLevel, isRoot, isKeeper}
 use Rattle.guard.specs.Label.{dominates}
-use Rattle.guard.specs.Tables.{container}
+use Rattle.guard.specs.Tables.{container, sharedMark}
 use Rattle.guard.specs.Chain.{climbs}
-use Rattle.guard.specs.Sound.{isRootRecord, isEmptyEntity, isEmptySession}
+use Rattle.guard.specs.Sound.{isRootRecord, isMarkAllowed, isEmptyEntity, isEmptySession}
 use Rattle.guard.specs.Private.InForce.{sessionInRange, entityInRange}
 use Rattle.guard.specs.declared.Label.{Label}
 use Rattle.guard.specs.declared.Session.{Session}
@@ -29,10 +29,15 @@ fits e n p =
     ∷ dominates (n .label) (p .label)
     ∷ [])
 
+-- in its ranges, and its mark as its kind allows
+abbrev pub entityFits : Entity → Bool
+entityFits n = every (entityInRange n ∷ isMarkAllowed n ∷ [])
+
 abbrev pub entityTest : ℕ → Entity → Entity → Bool
 entityTest e n p =
     cond (n .live)
-    (cond (isRoot e) (isRootRecord e n) (every (entityInRange n ∷ leb 1 (n .name) ∷ fits e n p ∷ [])))
+    (cond (isRoot e) (every (isRootRecord e n ∷ leb (n .shared) sharedMark ∷ []))
+    (every (entityFits n ∷ leb 1 (n .name) ∷ fits e n p ∷ [])))
     (every (not (isRoot e) ∷ isEmptyEntity n ∷ []))
 
 -- ---- the tree, by a key for each entity: its parent above its name; 256 stands for the parent of what is not live

@@ -8,8 +8,8 @@ ghost use Rattle.guard.specs.Level.{userCount, entityCount};
 ghost use Rattle.guard.specs.Tables.{noUser, noEntity};
 ghost use Rattle.guard.specs.Label.{sameLabel, noLabel};
 ghost use Rattle.guard.specs.Sound.{isRootRecord, isEmptyEntity, isEmptySession};
-ghost use Rattle.guard.specs.Private.Tested.{fits, entityTest};
-ghost use Rattle.guard.specs.Private.InForce.{userInRange, sessionInRange, entityInRange};
+ghost use Rattle.guard.specs.Private.Tested.{fits, entityFits, entityTest};
+ghost use Rattle.guard.specs.Private.InForce.{userInRange, sessionInRange};
 use crate::Entity;
 use crate::Label;
 use crate::Session;
@@ -18,6 +18,7 @@ use crate::labels;
 use crate::sizes::CONTAINER;
 use crate::sizes::ENTITIES;
 use crate::sizes::LEVEL_ENTITIES;
+use crate::sizes::SHARED;
 use crate::sizes::TOP_LEVEL;
 use crate::sizes::USERS;
 
@@ -66,10 +67,12 @@ pub fn is_empty_session(s: Session) -> bool
         & (is_no_label(s.label) & ((s.roles == 0) & ((s.reading == 0) & (s.writing == 0))))
 }
 
-fn entity_in_range(n: Entity) -> bool
-    ensures { λ r. ⌜ r ≡ entityInRange n ⌝ }
+// In its ranges, and with the mark 0 if it is an object: a mark is at most the kind, which is at most 1.
+fn entity_fits(n: Entity) -> bool
+    ensures { λ r. ⌜ r ≡ entityFits n ⌝ }
 {
-    (n.kind <= CONTAINER) & ((n.parent < ENTITY_COUNT) & labels::in_range(n.label))
+    (n.kind <= CONTAINER)
+        & ((n.shared <= n.kind) & ((n.parent < ENTITY_COUNT) & labels::in_range(n.label)))
 }
 
 fn is_root_record(e: u8, n: Entity) -> bool
@@ -81,7 +84,7 @@ fn is_root_record(e: u8, n: Entity) -> bool
 fn is_empty_entity(n: Entity) -> bool
     ensures { λ r. ⌜ r ≡ isEmptyEntity n ⌝ }
 {
-    (n.kind == 0) & ((n.parent == 0) & ((n.name == 0) & is_no_label(n.label)))
+    (n.kind == 0) & ((n.parent == 0) & ((n.name == 0) & (is_no_label(n.label) & (n.shared == 0))))
 }
 
 // Whether `n`, at `e`, may lie in `p`, its parent's record.
@@ -103,9 +106,9 @@ fn entity_ok(e: u8, n: Entity, p: Entity) -> bool
         return (e % LEVEL != 0) & is_empty_entity(n);
     }
     if e % LEVEL == 0 {
-        return is_root_record(e, n);
+        return is_root_record(e, n) & (n.shared <= SHARED);
     }
-    entity_in_range(n) & ((1 <= n.name) & fits_in(e, n, p))
+    entity_fits(n) & ((1 <= n.name) & fits_in(e, n, p))
 }
 
 pub fn entities_ok(entities: [Entity; ENTITIES]) -> bool

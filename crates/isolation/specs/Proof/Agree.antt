@@ -14,11 +14,11 @@ use Rattle.bitset.specs.Tests.Laws.{every-at, some-cong, of-not-false}
 use Rattle.bitset.specs.Sets.{has}
 use Rattle.guard.specs.Level.{entityCount, sessionLevel, roleLevel, entityLevel, isRoot, keeperOf}
 use Rattle.guard.specs.Label.{dominates, sameLabel}
-use Rattle.guard.specs.Tables.{sessionAt, entityAt, hasRight, execute, read, write, own, container, lists, isChild}
+use Rattle.guard.specs.Tables.{sessionAt, entityAt, hasRight, execute, read, write, own, object, container, sharedMark, lists, isShared, isChild}
 use Rattle.guard.specs.Sound.{sound}
 use Rattle.guard.specs.Refusals.{_when_}
-use Rattle.guard.specs.Conditions.{labelAsked, seatLive, userTooLow, seatDead, createOutOfLevel, grantBelow, userUnlisted, keeperNotHeld, cannotOpen, cannotChangeIn, roleHeld, openForReading, openForWriting, notOpen, entityDead, roleDead, roleLive, nameTaken, hasChildren, recordedParent}
-use Rattle.guard.specs.Requests.{Rule, fieldInRangeIn, login, logout, take, drop, openr, openw, close, create, delete, rename, grant, revoke, list, unlist, make, unmake, unknown, rules, ruleOf}
+use Rattle.guard.specs.Conditions.{labelAsked, seatLive, userTooLow, seatDead, createOutOfLevel, grantBelow, userUnlisted, keeperNotHeld, cannotOpen, cannotChangeIn, cannotChange, notOwned, roleHeld, openForReading, openForWriting, notOpen, entityDead, roleDead, roleLive, nameTaken, hasChildren, recordedParent}
+use Rattle.guard.specs.Requests.{Rule, fieldInRangeIn, login, logout, take, drop, openr, openw, close, create, delete, rename, grant, revoke, list, unlist, make, unmake, share, unknown, rules, ruleOf}
 use Rattle.guard.specs.Private.InForce.{fieldInRange}
 use Rattle.isolation.specs.Upper.{firstEntity, fieldUpper}
 use Rattle.guard.specs.declared.Label.{Label}
@@ -105,6 +105,9 @@ module _ (L : ℕ) (q : Request) (t u : Tables) (same : Same L t u) (st : sound 
   right-same : (right e : ℕ) → Seat → firstEntity L ≤ e → hasRight t (q .seat) right e ≡ hasRight u (q .seat) right e
   right-same right e s = hasRight-same L t u same (q .seat) right e (upper-seat L (q .seat) s)
 
+  notOwned-same : Seat → Inside (q .entity) → notOwned t q ≡ notOwned u q
+  notOwned-same s e = ap not (right-same own (q .entity) s (upper-entity L (q .entity) e))
+
   cannotOpen-same : (right : ℕ) → Seat → Inside (q .entity) → ltb (q .entity) entityCount ≡ true → entityDead t q ≡ false → cannotOpen t q right ≡ cannotOpen u q right
   unfolding cannotOpen
   cannotOpen-same right s e l live =
@@ -114,6 +117,15 @@ module _ (L : ℕ) (q : Request) (t u : Tables) (same : Same L t u) (st : sound 
   cannotChangeIn-same : (p : ℕ) → Seat → firstEntity L ≤ p → cannotChangeIn t q p ≡ cannotChangeIn u q p
   unfolding cannotChangeIn
   cannotChangeIn-same p s up = rw (writing-same L t u same (q .seat) p (upper-seat L (q .seat) s) up, right-same execute p s up)
+
+  -- delete and rename: the parent in the record is one, and upper
+  cannotChange-same : Seat → Inside (q .entity) → recordedParent t q ≡ recordedParent u q → firstEntity L ≤ recordedParent t q → cannotChange t q ≡ cannotChange u q
+  unfolding cannotChange
+  cannotChange-same s e parent up =
+      ap₂ either (cannotChangeIn-same (recordedParent t q) s up ∙ ap (cannotChangeIn u q) parent)
+      (ap₂ (λ a b. every (a ∷ b ∷ []))
+      (ap (λ (n : Entity). eqb (n .shared) sharedMark) (entity-same L t u same (recordedParent t q) up) ∙ ap (isShared u) parent)
+      (notOwned-same s e))
 
   nameTaken-same : (p : ℕ) → firstEntity L ≤ p → nameTaken t q p ≡ nameTaken u q p
   unfolding nameTaken every
@@ -136,11 +148,11 @@ module _ (L : ℕ) (q : Request) (t u : Tables) (same : Same L t u) (st : sound 
   -- delete and rename, by their last condition: the parent in the record is one, and upper
   change-agrees : (n : ℕ) (a b : Bool) → Seat → Inside (q .entity) → ltb (q .entity) entityCount ≡ true
       → (recordedParent t q ≡ recordedParent u q → firstEntity L ≤ recordedParent t q → a ≡ b)
-      → Alike (5 when seatDead t q ∷ 6 when isRoot (q .entity) ∷ 7 when entityDead t q ∷ 13 when cannotChangeIn t q (recordedParent t q) ∷ n when a ∷ [])
-      (5 when seatDead u q ∷ 6 when isRoot (q .entity) ∷ 7 when entityDead u q ∷ 13 when cannotChangeIn u q (recordedParent u q) ∷ n when b ∷ [])
+      → Alike (5 when seatDead t q ∷ 6 when isRoot (q .entity) ∷ 7 when entityDead t q ∷ 13 when cannotChange t q ∷ n when a ∷ [])
+      (5 when seatDead u q ∷ 6 when isRoot (q .entity) ∷ 7 when entityDead u q ∷ 13 when cannotChange u q ∷ n when b ∷ [])
   change-agrees n a b s e l last =
       seatDead-same s also refl then (λ inner. entityDead-same e then (λ live.
-      cannotChangeIn-same (recordedParent t q) s (up inner live) ∙ ap (cannotChangeIn u q) parent also last parent (up inner live) also tt))
+      cannotChange-same s e parent (up inner live) also last parent (up inner live) also tt))
     where
       parent : recordedParent t q ≡ recordedParent u q
       parent = ap (λ (r : Entity). r .parent) (at-same (q .entity) e)
@@ -188,7 +200,21 @@ module _ (L : ℕ) (q : Request) (t u : Tables) (same : Same L t u) (st : sound 
       seatDead-same s
       also ap₂ either (entityDead-same e) (roleDead-same o)
       also refl
-      also ap not (right-same own (q .entity) s (upper-entity L (q .entity) e))
+      also notOwned-same s e
+      also tt
+
+  share-agrees : Agrees share
+  unfolding share fieldUpper
+  share-agrees r n =
+      let s = every-at _ n 0 in
+      let e = every-at _ n 1 in
+      let here = at-same (q .entity) e in
+      seatDead-same s
+      also entityDead-same e
+      also ap (λ (f : Entity). eqb (f .kind) object) here
+      also refl
+      also notOwned-same s e
+      also ap (λ (f : Entity). eqb (f .shared) (q .shared)) here
       also tt
 
   -- the rules, in their order
@@ -212,5 +238,6 @@ module _ (L : ℕ) (q : Request) (t u : Tables) (same : Same L t u) (st : sound 
       and (λ r n. let s = every-at _ n 0 in let o = every-at _ n 1 in seatDead-same s also roleDead-same o also refl also keeperNotHeld-same s o also ap not (userListed-same (q .user) o) also tt)  -- unlist
       and (λ r n. seatDead-same (every-at _ n 0) also role-live-same (every-at _ n 1) also refl also keeperNotHeld-same (every-at _ n 0) (every-at _ n 1) also tt)  -- make
       and (λ r n. seatDead-same (every-at _ n 0) also refl also roleDead-same (every-at _ n 1) also refl also keeperNotHeld-same (every-at _ n 0) (every-at _ n 1) also tt)  -- unmake
+      and share-agrees  -- share
       and tt)
       (λ r n. tt) q

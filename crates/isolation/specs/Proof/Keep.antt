@@ -14,8 +14,8 @@ use Rattle.bitset.specs.Tests.Laws.{Each, every-i, every-at, either-no-l, eithe
 use Rattle.guard.specs.Level.{sessionCount, entityCount, sessionLevel, roleLevel, entityLevel, isRoot}
 use Rattle.guard.specs.Sound.{sound}
 use Rattle.guard.specs.Edits.{atSession, atRole, atEntity, eachSession, eachRole, dropRole, closeBoth, addRights, removeRights, clearRights, setRights}
-use Rattle.guard.specs.Conditions.{entityDead, createOutOfLevel, grantBelow, cannotChangeIn, seatBelowRole, recordedParent}
-use Rattle.guard.specs.Requests.{Rule, fieldInRangeIn, login, logout, take, drop, openr, openw, close, create, delete, rename, grant, revoke, list, unlist, make, unmake, unknown, rules, ruleOf}
+use Rattle.guard.specs.Conditions.{entityDead, createOutOfLevel, grantBelow, cannotChangeIn, cannotChange, seatBelowRole, recordedParent}
+use Rattle.guard.specs.Requests.{Rule, fieldInRangeIn, login, logout, take, drop, openr, openw, close, create, delete, rename, grant, revoke, list, unlist, make, unmake, share, unknown, rules, ruleOf}
 use Rattle.isolation.specs.Upper.{firstRole, firstEntity, upperSession, fieldUpper}
 use Rattle.guard.specs.declared.Session.{Session}
 use Rattle.guard.specs.declared.Role.{Role}
@@ -98,11 +98,12 @@ module _ (L : ℕ) (t : Tables) (q : Request) where
   -- delete and rename: the entity is of its parent's level
   change-lower : (rest : List Bool) → Each rest → every (leb L (sessionLevel (q .seat)) ∷ leb L (entityLevel (q .entity)) ∷ rest) ≡ false
       → sound t ≡ true → ltb (q .seat) sessionCount ≡ true → ltb (q .entity) entityCount ≡ true
-      → isRoot (q .entity) ≡ false → entityDead t q ≡ false → cannotChangeIn t q (recordedParent t q) ≡ false → q .entity < firstEntity L
+      → isRoot (q .entity) ≡ false → entityDead t q ≡ false → cannotChange t q ≡ false → q .entity < firstEntity L
+  unfolding cannotChange
   change-lower rest others low st hs he inner live change =
       let entity-in = ltb-true (q .entity) entityCount he in
       let level = parent-level t st (q .entity) entity-in (of-not-false _ live) inner .0 in
-      let seat-over = parent-not-above (recordedParent t q) st hs (omega arith) change in
+      let seat-over = parent-not-above (recordedParent t q) st hs (omega arith) (either-no-l _ _ change) in
       lower-if (q .entity) (firstEntity L) _ low (λ up. seat-up (omega arith) and entity-up (q .entity) (omega arith) and others)
 
   delete-lower : Done delete t q → every (map (fieldUpper L q) (delete .uses)) ≡ false → q .entity < firstEntity L
@@ -127,6 +128,13 @@ module _ (L : ℕ) (t : Tables) (q : Request) where
       lower-if (q .entity) (firstEntity L) _ low
       (λ up. seat-up (omega arith) and role-up (omega arith) and entity-up (q .entity) (omega arith) and refl and tt)
 
+  -- share: the seat is not below the entity
+  share-lower : Done share t q → every (map (fieldUpper L q) (share .uses)) ≡ false → q .entity < firstEntity L
+  unfolding share fieldUpper
+  share-lower d low =
+      let seat-over = ltb-false (sessionLevel (q .seat)) (entityLevel (q .entity)) (unmet (share .refusals t q) refl (d .none) 10) in
+      lower-if (q .entity) (firstEntity L) _ low (λ up. seat-up (omega arith) and entity-up (q .entity) (omega arith) and refl and tt)
+
   -- ---- a role: the seat is not below it, so the role is lower
   role-lower : (rest : List Bool) → Each rest → seatBelowRole t q ≡ false
       → every (leb L (sessionLevel (q .seat)) ∷ leb L (roleLevel (q .role)) ∷ rest) ≡ false → q .role < firstRole L
@@ -143,7 +151,7 @@ module _ (L : ℕ) (t : Tables) (q : Request) where
   Keeps rule = Done rule t q → every (map (fieldUpper L q) (rule .uses)) ≡ false → Same L (rule .effect q t) t
 
   pub keeps : Keeps (ruleOf q)
-  unfolding rules login logout take drop openr openw close create delete rename grant revoke list unlist make unmake unknown fieldUpper eachSession eachRole addRights removeRights clearRights
+  unfolding rules login logout take drop openr openw close create delete rename grant revoke list unlist make unmake share unknown fieldUpper eachSession eachRole addRights removeRights clearRights
   keeps =
       each-rule Keeps
       ((λ d. seat-alone _ (true ∷ true ∷ []) (refl, (refl, tt)))  -- login
@@ -162,6 +170,7 @@ module _ (L : ℕ) (t : Tables) (q : Request) where
       and (λ d low. at-role _ (role-lower (true ∷ []) (refl, tt) (unmet (unlist .refusals t q) refl (d .none) 10) low))  -- unlist
       and (λ d low. at-role _ (role-lower [] tt (unmet (make .refusals t q) refl (d .none) 10) low))  -- make
       and unmake-keeps  -- unmake
+      and (λ d low. at-entity _ (share-lower d low))  -- share
       and tt)
       (λ d low. same-refl L t) q
     where

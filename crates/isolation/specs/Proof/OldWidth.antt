@@ -4,20 +4,22 @@
 --     same-sound                    sound in the old width or in force
 --     same-ranges, same-answer, same-next      one request
 --     same-log                      a log
---     givenBack, old-ones           tables as old ones, every number the same
+--     givenBack, old-ones           tables without marks as old ones, every number the same
 -- Assumes nothing.
-use Prim.Native.Nat.{ℕ, _≤_, _<_}
+use Prim.Native.Nat.{ℕ, suc, _≤_, _<_}
 use mathlib.Core.Path.{_≡_, refl, sym, ap, ap₂}
 use mathlib.Core.Bool.{true, _&&_}
 use mathlib.Core.List.{List, [], _∷_, map}
 use native.Mathlib.Omega.{arith}
+use lib.ListN.{length, getD}
 use borrow.Author.Tests.{leb-true, le-leb}
 use Rattle.bitset.specs.Tests.{every}
 use Rattle.bitset.specs.Tests.Laws.{both, every-i, every-e, every-at, all-i, all-e}
 use Rattle.guard.specs.Label.{allCategories, oldWidth, labelInRangeIn}
-use Rattle.guard.specs.Tables.{sessionAt, entityAt}
+use Rattle.guard.specs.Level.{entityCount}
+use Rattle.guard.specs.Tables.{noUser, noSession, noEntity, sessionAt, entityAt}
 use Rattle.guard.specs.Sound.{userInRangeIn, entityInRangeIn, usersInRangeIn, soundIn, sound}
-use Rattle.guard.specs.Requests.{Field, call, seat, user, role, entity, parent, kind, name, label, rights, fieldInRangeIn, ruleOf}
+use Rattle.guard.specs.Requests.{Field, call, seat, user, role, entity, parent, kind, name, label, rights, shared, fieldInRangeIn, ruleOf}
 use Rattle.guard.specs.Step.{inRangesIn, answerIn, nextIn, answersIn, runIn, answer, next, answers, run}
 use Rattle.guard.specs.Old.{userTaken, sessionTaken, entityTaken, takenOver}
 use Rattle.guard.specs.Private.InForce.{fieldInRange, inRanges}
@@ -36,7 +38,7 @@ use Rattle.guard.proofs.Laws.Label.{grade-in, cats-in, in-range}
 use Rattle.guard.proofs.Laws.Sound.Facts.{Sound, SessionOk, EntityOk}
 use Rattle.guard.proofs.Laws.Sound.{sound-e, sound-i}
 use Rattle.guard.proofs.Kept.{sound-nextIn}
-use Rattle.isolation.specs.Within.{fieldWithin, categoriesWithin, Fits}
+use Rattle.isolation.specs.Within.{fieldWithin, categoriesWithin, Fits, Unshared}
 
 -- ---- a label
 label-within : (v w : ℕ) (a : Label) → labelInRangeIn v a ≡ true → a .cats ≤ w → labelInRangeIn w a ≡ true
@@ -98,12 +100,12 @@ fits-sound v w t h fits =
     range : (e : ℕ) → e < 64 → entityInRangeIn w (entityAt t e) ≡ true
     range e l =
         let old = every-at _ (ok .entity e l .range) in
-        every-i _ (old 0, (old 1, (old 2, (label-within v w _ (old 3) (fits .entities e l), tt))))
+        every-i _ (old 0, (old 1, (old 2, (label-within v w _ (old 3) (fits .entities e l), (old 4, tt)))))
 
     entity : (e : ℕ) → e < 64 → EntityOk w (t .entities) e (entityAt t e)
     entity e l =
         let old = ok .entity e l in
-        record { range = range e l; root = old .root; placed = old .placed; empty = old .empty }
+        record { range = range e l; root = old .root; placed = old .placed; mark = old .mark; empty = old .empty }
 
 more-fits : (v w : ℕ) (t : Tables) → v ≤ w → Fits v t → Fits w t
 more-fits v w t h fits =
@@ -135,6 +137,7 @@ same-field q label h =
     let now = le-leb (q .cats) allCategories (omega arith) in
     rw (h, now)
 same-field q rights h = refl
+same-field q shared h = refl
 
 same-fields : (q : Request) (fs : List Field) → every (map (fieldWithin oldWidth q) fs) ≡ true
     → every (map (fieldInRangeIn oldWidth q) fs) ≡ every (map (fieldInRange q) fs)
@@ -169,7 +172,7 @@ same-log t ok (q ∷ log) within =
     let answer-is = same-answer t ok q here in
     (rw (sym answer-is, sym next-is) (ap (λ (l : List ℕ). answerIn oldWidth t q ∷ l) told), rw (sym next-is) left, rw (sym next-is) sound)
 
--- ---- tables as old ones, every number the same
+-- ---- tables as old ones, every number the same; old ones have no marks
 abbrev labelGiven : Label → OldLabel
 labelGiven a = record { cats = a .cats; grade = a .grade }
 
@@ -192,18 +195,23 @@ givenBack t =
       entities = map entityGiven (t .entities);
     }
 
-there-and-back : {A B : Type 0} (f : B → A) (g : A → B) → ((a : A) → f (g a) ≡ a) → (l : List A) → map f (map g l) ≡ l
-there-and-back f g same [] = refl
-there-and-back f g same (a ∷ l) = ap₂ _∷_ (same a) (there-and-back f g same l)
+there-and-back : {A B : Type 0} (f : B → A) (g : A → B) (l : List A) (d : A)
+    → ((i : ℕ) → i < length l → f (g (getD l i d)) ≡ getD l i d) → map f (map g l) ≡ l
+there-and-back f g [] d same = refl
+there-and-back f g (a ∷ l) d same = ap₂ _∷_ (same 0 (omega arith)) (there-and-back f g l d (λ i h. same (suc i) (omega arith)))
 
-taken-given : (t : Tables) → takenOver (givenBack t) ≡ t
+-- an entity that is not marked
+entity-back : (n : Entity) → n .shared ≡ 0 → entityTaken (entityGiven n) ≡ n
+entity-back n none = λ i. record { live = n .live; kind = n .kind; parent = n .parent; name = n .name; label = n .label; shared = sym none i }
+
+taken-given : (t : Tables) → length (t .entities) ≡ entityCount → Unshared t → takenOver (givenBack t) ≡ t
 unfolding takenOver givenBack
-taken-given t =
+taken-given t long none =
     rw (
-      there-and-back userTaken userGiven (λ u. refl) (t .users),
-      there-and-back sessionTaken sessionGiven (λ x. refl) (t .sessions),
-      there-and-back entityTaken entityGiven (λ n. refl) (t .entities),
+      there-and-back userTaken userGiven (t .users) noUser (λ i h. refl),
+      there-and-back sessionTaken sessionGiven (t .sessions) noSession (λ i h. refl),
+      there-and-back entityTaken entityGiven (t .entities) noEntity (λ i h. entity-back _ (none i (omega (arith, long)))),
     )
 
-pub old-ones : (t : Tables) → soundIn oldWidth t ≡ true → (old : OldTables) × (takenOver old ≡ t) × Fits oldWidth (takenOver old)
-old-ones t ok = let same = taken-given t in (givenBack t, same, rw same (sound-fits oldWidth t ok))
+pub old-ones : (t : Tables) → soundIn oldWidth t ≡ true → Unshared t → (old : OldTables) × (takenOver old ≡ t) × Fits oldWidth (takenOver old)
+old-ones t ok none = let same = taken-given t (sound-e t ok .manyEntities) none in (givenBack t, same, rw same (sound-fits oldWidth t ok))

@@ -12,7 +12,7 @@ use Rattle.bitset.specs.Tests.Laws.{every-at}
 use Rattle.guard.specs.Level.{sessionLevel, roleLevel, entityLevel}
 use Rattle.guard.specs.Tables.{noSession, noRole}
 use Rattle.guard.specs.Edits.{atSession, atRole, atEntity, eachSession, eachRole, dropRole, closeBoth, addRights, removeRights, clearRights, madeRole}
-use Rattle.guard.specs.Requests.{Rule, loggedIn, login, logout, take, drop, openr, openw, close, create, delete, rename, grant, revoke, list, unlist, make, unmake, unknown, rules, ruleOf}
+use Rattle.guard.specs.Requests.{Rule, loggedIn, login, logout, take, drop, openr, openw, close, create, delete, rename, grant, revoke, list, unlist, make, unmake, share, unknown, rules, ruleOf}
 use Rattle.isolation.specs.Upper.{upperSession, upperRole, fieldUpper}
 use Rattle.guard.specs.declared.Session.{Session}
 use Rattle.guard.specs.declared.Role.{Role}
@@ -47,7 +47,7 @@ module _ (L : ℕ) (q : Request) where
   Respects rule = every (map (fieldUpper L q) (rule .uses)) ≡ true → (t u : Tables) → Same L t u → Same L (rule .effect q t) (rule .effect q u)
 
   pub respects : Respects (ruleOf q)
-  unfolding rules login logout take drop openr openw close create delete rename grant revoke list unlist make unmake unknown fieldUpper eachSession eachRole addRights removeRights clearRights
+  unfolding rules login logout take drop openr openw close create delete rename grant revoke list unlist make unmake share unknown fieldUpper eachSession eachRole addRights removeRights clearRights
   respects =
       each-rule Respects
       ((λ n. at-seat _ (every-at _ n 0) (const-image (upperSession L) (loggedIn q)))  -- login
@@ -66,6 +66,7 @@ module _ (L : ℕ) (q : Request) where
       and (λ n. at-role _ (every-at _ n 1) (unlisting-image L (q .user)))  -- unlist
       and (λ n. at-role _ (every-at _ n 1) (const-image (upperRole L) madeRole))  -- make
       and unmake-respects  -- unmake
+      and (λ n. at-entity _ (every-at _ n 1))  -- share
       and tt)
       (λ n t u same. same) q
     where

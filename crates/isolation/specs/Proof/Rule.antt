@@ -11,7 +11,7 @@ use lib.Dec.{eqb}
 use Rattle.bitset.specs.Tests.{every}
 use Rattle.bitset.specs.Tests.Laws.{every-i, every-e, every-at, is-false, clash, of-not-false}
 use Rattle.guard.specs.Sound.{sound}
-use Rattle.guard.specs.Requests.{Rule, Field, seat, fieldInRangeIn, login, logout, take, drop, openr, openw, close, create, delete, rename, grant, revoke, list, unlist, make, unmake, unknown, rules, ruleOf}
+use Rattle.guard.specs.Requests.{Rule, Field, seat, fieldInRangeIn, login, logout, take, drop, openr, openw, close, create, delete, rename, grant, revoke, list, unlist, make, unmake, share, unknown, rules, ruleOf}
 use Rattle.guard.specs.Step.{inRangesIn, answer, answerIn, next, nextIn, run, runIn}
 use Rattle.guard.specs.Private.InForce.{fieldInRange, inRanges}
 use Rattle.isolation.specs.Upper.{upper, isUpper, fieldUpper, namesUpper, upperRequests, upperAnswers}
@@ -33,10 +33,10 @@ SeatFirst [] = ⊥
 SeatFirst (f ∷ fs) = f ≡ seat
 
 seat-first : (q : Request) → SeatFirst (ruleOf q .uses)
-unfolding rules login logout take drop openr openw close create delete rename grant revoke list unlist make unmake unknown
+unfolding rules login logout take drop openr openw close create delete rename grant revoke list unlist make unmake share unknown
 seat-first =
     each-rule (λ (r : Rule). SeatFirst (r .uses))
-    (refl and refl and refl and refl and refl and refl and refl and refl and refl and refl and refl and refl and refl and refl and refl and refl and tt) refl
+    (refl and refl and refl and refl and refl and refl and refl and refl and refl and refl and refl and refl and refl and refl and refl and refl and refl and tt) refl
 
 module _ (L : ℕ) where
   -- a request in range that names only upper things is upper

@@ -8,7 +8,7 @@ use lib.Dec.{eqb, leb, ltb}
 use lib.ListN.{length, getD, set, drop, replicate}
 use Rattle.bitset.specs.Sets.{has, with}
 use Rattle.script.specs.Text.{bytes, same, values}
-use Rattle.script.specs.Names.{nameCount, column}
+use Rattle.script.specs.Names.{placeCount, column}
 use Rattle.script.specs.Line.{valueOf, words, Numbers, unreadable, joined}
 use Rattle.script.specs.Private.Slices.{leading}
 use Rattle.script.specs.declared.line.Value.{Value}
@@ -52,11 +52,11 @@ codeIn at vs j = codeAt (nameAt at j) (getD vs j [])
 
 -- what is no word has the place behind the last: how many words there are
 abbrev pub noWord : ℕ
-noWord = 17
+noWord = 18
 
 -- the row of no values: no word, and 0 under each other name
 unfoldable pub blank : List ℕ
-blank = set (replicate 16 0) 0 noWord
+blank = set (replicate placeCount 0) 0 noWord
 
 -- of the first j values the numbers, each under its name; the set of their names; and whether each has a form
 unfoldable pub gathered : List ℕ → List (List ℕ) → ℕ → List ℕ
@@ -71,12 +71,21 @@ unfoldable pub fine : List ℕ → List (List ℕ) → ℕ → Bool
 fine at vs zero = true
 fine at vs (suc j) = fine at vs j && leb (codeIn at vs j) 100000
 
--- the row of a line l: good where it has twelve values, each of a form
+-- what is none of the names has the place behind the last: how many names there are
+abbrev pub nameCount : ℕ
+nameCount = 13
+
+-- so many values are as many as there are names: a name stands at the last place, and none at the next
+unfoldable pub fills : List ℕ → ℕ → Bool
+fills at zero = false
+fills at (suc j) = ltb (suc j) placeCount && (ltb (nameAt at j) nameCount && eqb (nameAt at (suc j)) nameCount)
+
+-- the row of a line l: good where it has as many values as there are names, each of a form
 pub record IsRow (at l vals : List ℕ) (r : Row) : Type 0 where
   pub long : r .len ≡ length l
-  pub twelve : r .good ≡ (eqb (length (values l)) nameCount && fine at (values l) nameCount)
-  pub holds : r .good ≡ true → vals ≡ gathered at (values l) nameCount
-  pub marks : r .good ≡ true → r .given ≡ marked at (values l) nameCount
+  pub whole : r .good ≡ (fills at (length (values l)) && fine at (values l) (length (values l)))
+  pub holds : r .good ≡ true → vals ≡ gathered at (values l) (length (values l))
+  pub marks : r .good ≡ true → r .given ≡ marked at (values l) (length (values l))
 
 -- ---- fields
 -- what a field is taken as, by whether the word uses it and whether its value is a number

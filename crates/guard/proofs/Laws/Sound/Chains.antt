@@ -16,7 +16,7 @@ use Rattle.guard.specs.Level.{entityCount, entityLevel, isRoot}
 use Rattle.guard.specs.Label.{dominates}
 use Rattle.guard.specs.Tables.{noEntity, entityAt, container, execute, hasRight}
 use Rattle.guard.specs.Chain.{parentOf, endsAtRoot, reaches}
-use Rattle.guard.specs.Sound.{fieldsInRangeIn, isRootRecord, rootsAsSaid, keepersAsSaid, hasOwnName, isPlaced, entitiesPlaced, deadAreEmpty, deadAreUnused, rightsWithin, readingWithin, writingWithin, sound, soundIn}
+use Rattle.guard.specs.Sound.{fieldsInRangeIn, isRootRecord, rootsAsSaid, keepersAsSaid, hasOwnName, isPlaced, entitiesPlaced, objectsUnshared, deadAreEmpty, deadAreUnused, rightsWithin, readingWithin, writingWithin, sound, soundIn}
 use Rattle.guard.specs.Private.InForce.{fieldsInRange}
 use Rattle.guard.specs.declared.Entity.{Entity}
 use Rattle.guard.specs.declared.Tables.{Tables}
@@ -44,6 +44,7 @@ pub record SoundInWords (t : Tables) : Type 0 where
   pub roots : rootsAsSaid t ≡ true
   pub keepers : keepersAsSaid t ≡ true
   pub placed : (e : ℕ) → e < entityCount → entityAt t e .live ≡ true → isRoot e ≡ false → PlacedInWords t e
+  pub marks : objectsUnshared t ≡ true
   pub empty : deadAreEmpty t ≡ true
   pub unused : deadAreUnused t ≡ true
   pub rights : rightsWithin t ≡ true
@@ -107,6 +108,7 @@ module _ (t : Tables) (words : SoundInWords t) where
       also words .roots
       also words .keepers
       also all-i 64 _ (λ e l. implies-i _ _ (λ h. placed-i e l (every-at _ h 0) (of-not-true _ (every-at _ h 1))))
+      also words .marks
       also words .empty
       also words .unused
       also words .rights
@@ -125,11 +127,12 @@ sound-iff t = (forth, sound-of t)
           roots = every-at _ h 1;
           keepers = every-at _ h 2;
           placed = λ e l live other. in-words t e (placed-of t h e l live other);
-          empty = every-at _ h 4;
-          unused = every-at _ h 5;
-          rights = every-at _ h 6;
-          reading = every-at _ h 7;
-          writing = every-at _ h 8;
+          marks = every-at _ h 4;
+          empty = every-at _ h 5;
+          unused = every-at _ h 6;
+          rights = every-at _ h 7;
+          reading = every-at _ h 8;
+          writing = every-at _ h 9;
         }
 
 -- ---- "x reaches e" means that x has execute on every container above e, up to and with the root; for a root there is none

@@ -16,7 +16,7 @@ use Rattle.guard.specs.Level.{sessionLevel, roleLevel, entityLevel, isRo
 use Rattle.guard.specs.Label.{labelInRangeIn, dominates, sameLabel, noLabel}
 use Rattle.guard.specs.Tables.{noRole, noEntity, sessionAt, roleAt, entityAt, container}
 use Rattle.guard.specs.Chain.{climbs}
-use Rattle.guard.specs.Sound.{entityInRangeIn, usersInRangeIn, isRootRecord, isEmptyEntity}
+use Rattle.guard.specs.Sound.{entityInRangeIn, usersInRangeIn, isRootRecord, isMarkAllowed, isEmptyEntity}
 use Rattle.guard.specs.declared.Label.{Label}
 use Rattle.guard.specs.declared.Session.{Session}
 use Rattle.guard.specs.declared.Role.{Role}
@@ -96,6 +96,7 @@ pub record EntityOk (width : ℕ) (entities : List Entity) (e : ℕ) (n : Entity
   pub range : entityInRangeIn width n ≡ true
   pub root : isRoot e ≡ true → isRootRecord e n ≡ true
   pub placed : n .live ≡ true → isRoot e ≡ false → Placed entities e n
+  pub mark : isMarkAllowed n ≡ true
   pub empty : n .live ≡ false → isEmptyEntity n ≡ true
 
 pub record Sound (width : ℕ) (t : Tables) : Type 0 where

@@ -11,19 +11,19 @@ use Rattle.guard.specs.Label.{allCategories}
 use Rattle.guard.specs.Sound.{sound}
 use Rattle.guard.specs.Requests.{ruleOf}
 use Rattle.guard.specs.Batch.{batchLength}
-use Rattle.guard.specs.Private.Inside.{number, Placed}
+use Rattle.guard.specs.Private.Inside.{number, Placed, OfEntity}
 use Rattle.guard.specs.Private.Scan.{Keys, Grants}
 use Rattle.guard.specs.Private.InForce.{inRanges}
 use Rattle.guard.specs.declared.Tables.{Tables}
 use Rattle.guard.specs.declared.Request.{Request}
-use Rattle.guard.specs.declared.change.Change.the-variants.{Session as OfSession, Entity as OfEntity, Role as OfRole}
+use Rattle.guard.specs.declared.change.Change.the-variants.{Session as ASession, Entity as AnEntity, Role as ARole}
 use Rattle.guard.proofs.Laws.Sound.{Sound, sound-e}
-use Rattle.guard.proofs.Ranges.{is-nine, in-create, in-delete}
+use Rattle.guard.proofs.Ranges.{in-create, in-delete}
 use Rattle.guard.proofs.Logs.{batch-room, batch-rows}
 use Rattle.guard.proofs.Columns.{keys-set, keys-other, grants-other, grants-role, grants-each}
 use Rattle.guard.proofs.Seen.{parent-in, seen-of}
 use Rattle.guard.proofs.Answers.{done-in-range}
-use Rattle.guard.proofs.Stored.{told, session-stored, create-stored, delete-stored, rename-stored, role-stored, unmake-stored}
+use Rattle.guard.proofs.Stored.{told, session-stored, create-stored, delete-stored, kept-stored, role-stored, unmake-stored}
 use Rattle.guard.proofs.Turns.{Held, held-none, held-more, held-length, held-all, no-batch, unsound-batch, Stepped, refuses, does}
 use Rattle.guard.proofs.Tables.run.Statement.{statement}
 use Rattle.guard.proofs.Tables.run.Tie as tie
@@ -145,17 +145,17 @@ created c = c .before .before
 abbrev deleted : At tie.Then5 → At tie.After-key
 deleted c = c .before .before .before .before
 
-abbrev renamed : At tie.Else5 → At tie.After-key
-renamed c = c .before .before .before .before
+abbrev kept : At tie.Else5 → At tie.After-key
+kept c = c .before .before .before .before
 
 told-session : (c : At tie.After-enum-told) → asked (c .before .before .before .before .before) .call ≤ 6
-told-session c = told OfSession _ _ (c .before .before .change-of .ensures) (c .enum-told .given .1)
+told-session c = told ASession _ _ (c .before .before .change-of .ensures) (c .enum-told .given .1)
 
-told-entity : (c : At tie.After-enum-told2) → (7 ≤ asked (c .before .before .before .before .before) .call) × (asked (c .before .before .before .before .before) .call ≤ 9)
-told-entity c = told OfEntity _ _ (c .before .before .change-of .ensures) (c .enum-told2 .given .1)
+told-entity : (c : At tie.After-enum-told2) → OfEntity (asked (c .before .before .before .before .before) .call)
+told-entity c = told AnEntity _ _ (c .before .before .change-of .ensures) (c .enum-told2 .given .1)
 
-told-role : (c : At tie.After-enum-told3) → 10 ≤ asked (c .before .before .before .before .before) .call
-told-role c = told OfRole _ _ (c .before .before .change-of .ensures) (c .enum-told3 .given .1)
+told-role : (c : At tie.After-enum-told3) → (10 ≤ asked (c .before .before .before .before .before) .call) × (asked (c .before .before .before .before .before) .call ≡ 16 → ⊥)
+told-role c = told ARole _ _ (c .before .before .change-of .ensures) (c .enum-told3 .given .1)
 
 count-requires : tie.Need-count-requires Inv-loop μ-loop
 count-requires c κs = search needs
@@ -272,7 +272,7 @@ enum-told-2 : tie.Need-enum-told-2 Inv-loop μ-loop
 enum-told-2 c = search needs
 
 after-requires-2 : tie.Need-after-requires-2 Inv-loop μ-loop
-after-requires-2 c κs = (told-entity c .0, told-entity c .1, fits (c .before .before .before))
+after-requires-2 c κs = (told-entity c, fits (c .before .before .before))
 
 mul-f2 : tie.Need-mul-f2 Inv-loop μ-loop
 mul-f2 c = omega (arith, near (c .before .before .before .before) .entity .small)
@@ -341,15 +341,14 @@ loop-again-3 c =
     (grants-each _ _ (grants-at (d .before .before)) _ _ _ (rw (near d .entity .same (in-delete _ (fits d) (is .if5 .taken) .1)) at (clear .clear .ensures)) refl))
 
 loop-less-4 : tie.Need-loop-less-4 Inv-loop μ-loop
-loop-less-4 c = let d = entity-done (renamed c) in omega (arith, turn (d .before) .loop-test .taken)
+loop-less-4 c = let d = entity-done (kept c) in omega (arith, turn (d .before) .loop-test .taken)
 
 loop-again-4 : tie.Need-loop-again-4 Inv-loop μ-loop
 loop-again-4 c =
-    let key = renamed c in
+    let key = kept c in
     let f = key .before in
     let d = entity-done key in
-    let told = told-entity (f .before) in
-    turned (d .before) _ (does-so d _ (rename-stored _ _ (zero d) _ (near d) (is-nine _ (told .0) (told .1) (c .before .before .if4 .left) (c .if5 .left)) _ (f .after2 .ensures))) _ _
+    turned (d .before) _ (does-so d _ (kept-stored _ _ (zero d) _ (near d) (told-entity (f .before)) (c .before .before .if4 .left) (c .if5 .left) _ (f .after2 .ensures))) _ _
     (keys-set _ _ (keys-at (d .before .before)) _ (many d .manyEntities) _ (near d .entity .small) _ _ (key .key .ensures) refl)
     (grants-other _ _ (grants-at (d .before .before)) _ refl)
 

@@ -23,17 +23,20 @@ has64-requires c κs = search needs
 has64-requires-2 : tie.Need-has64-requires-2
 has64-requires-2 c κs = search needs
 
+lacks-own-requires : tie.Need-lacks-own-requires
+lacks-own-requires c κs = search needs
+
 returns-4 : tie.Need-returns-4
 unfolding either
-returns-4 c = rw (← c .before .before .has64 .ensures, ← c .before .has642 .ensures) (search refusing depth 14 fits 4000)
+returns-4 c = rw (← c .before .before .before .has64 .ensures, ← c .before .before .has642 .ensures, ← c .before .lacks-own .ensures) (search refusing depth 14 fits 4000)
 
 returns-5 : tie.Need-returns-5
 unfolding either
-returns-5 c = rw (← c .before .before .before .has64 .ensures, ← c .before .before .has642 .ensures) (search refusing depth 14 fits 4000)
+returns-5 c = rw (← c .before .before .before .before .has64 .ensures, ← c .before .before .before .has642 .ensures, ← c .before .before .lacks-own .ensures) (search refusing depth 14 fits 4000)
 
 returns-6 : tie.Need-returns-6
 unfolding either
-returns-6 c = rw (← c .before .before .before .has64 .ensures, ← c .before .before .has642 .ensures) (search refusing depth 14 fits 4000)
+returns-6 c = rw (← c .before .before .before .before .has64 .ensures, ← c .before .before .before .has642 .ensures, ← c .before .before .lacks-own .ensures) (search refusing depth 14 fits 4000)
 
 pub change-refusal-spec : {M : Type 1} → statement M
 change-refusal-spec =
@@ -45,6 +48,7 @@ change-refusal-spec =
     returns-3
     has64-requires
     has64-requires-2
+    lacks-own-requires
     returns-4
     returns-5
     returns-6)

@@ -1,17 +1,20 @@
 -- `judge` answers every request by the rule of its number: each arm of the match by what its function ensures, the closing one
--- since the number is none of the sixteen. Assumes nothing.
+-- since the number is none of the seventeen. Assumes nothing.
 use borrow.Author.Needs.{needs}
+use Prim.Native.Nat.{ℕ}
 use mathlib.Core.Path.{_≡_, refl, sym, ap, _∙_}
 use mathlib.Core.Bool.{true}
+use lib.Dec.{eqb}
 use borrow.Author.Tests.{not-true, not-false}
 use Rattle.bitset.specs.Tests.{either}
-use Rattle.guard.specs.Conditions.{userTooLow, createOutOfLevel, grantBelow, cannotOpen, cannotChangeIn, notOpen}
-use Rattle.guard.specs.Requests.{rules, login, logout, take, drop, openr, openw, close, create, delete, rename, grant, revoke, list, unlist, make, unmake}
+use Rattle.guard.specs.Conditions.{userTooLow, createOutOfLevel, grantBelow, cannotOpen, cannotChangeIn, cannotChange, notOpen}
+use Rattle.guard.specs.Requests.{rules, login, logout, take, drop, openr, openw, close, create, delete, rename, grant, revoke, list, unlist, make, unmake, share}
+use Rattle.guard.specs.Kind as kind
 use Rattle.guard.specs.Private.Inside.{asksWay, asksName, asksRights}
 use Rattle.guard.specs.Private.InForce.{inRanges}
 use Rattle.guard.proofs.Laws.Refusals.{alike-first}
-use Rattle.guard.proofs.Ranges.{in-login, in-logout, in-take, in-drop, in-openr, in-openw, in-close, in-create, in-delete, in-rename, in-grant, in-revoke, in-list, in-unlist, in-make, in-unmake}
-use Rattle.guard.proofs.Answers.{out-of-range, by-rule, none-of-sixteen}
+use Rattle.guard.proofs.Ranges.{in-login, in-logout, in-take, in-drop, in-openr, in-openw, in-close, in-create, in-delete, in-rename, in-grant, in-revoke, in-list, in-unlist, in-make, in-unmake, in-share}
+use Rattle.guard.proofs.Answers.{out-of-range, by-rule, none-of-them}
 use Rattle.guard.proofs.judge.judge.Statement.{statement}
 use Rattle.guard.proofs.judge.judge.Tie as tie
 
@@ -76,6 +79,9 @@ make-refusal-requires c κs = search needs
 unmake-refusal-requires : tie.Need-unmake-refusal-requires
 unmake-refusal-requires c κs = search needs
 
+share-refusal-requires : tie.Need-share-refusal-requires
+share-refusal-requires c κs = search needs
+
 returns-2 : tie.Need-returns-2
 unfolding rules login userTooLow
 returns-2 c = λ t seen.
@@ -125,17 +131,17 @@ returns-9 c = λ t seen.
     by-rule t _ _ 7 (c .before .match .keys8) (fits (c .before .before)) (c .create-refusal .ensures ∙ rw (seen .session (r .seat), seen .entity (r .entity), seen .live (r .role), seen .parent (c .before .match .keys8) (r .parent), seen .rights (ap asksRights (c .before .match .keys8)) (r .seat) .executes _ (r .parent), seen .created (c .before .match .keys8) (r .parent) (r .named) (r .name)))
 
 returns-10 : tie.Need-returns-10
-unfolding rules delete cannotChangeIn asksRights asksWay asksName either
+unfolding rules delete cannotChangeIn cannotChange asksRights asksWay asksName either
 returns-10 c = λ t seen.
     let r = in-delete _ (fits (c .before .before)) (c .before .match .keys9) in
-    by-rule t _ _ 8 (c .before .match .keys9) (fits (c .before .before)) (c .change-refusal .ensures ∙ rw (seen .session (r .0), seen .entity (r .1), seen .rights (ap asksRights (c .before .match .keys9)) (r .0) .executes _ (seen .inside (r .1)))
+    by-rule t _ _ 8 (c .before .match .keys9) (fits (c .before .before)) (c .change-refusal .ensures ∙ rw (seen .session (r .0), seen .entity (r .1), seen .outer (ap (λ (n : ℕ). eqb n kind.create) (c .before .match .keys9)) (r .1), seen .rights (ap asksRights (c .before .match .keys9)) (r .0) .executes _ (seen .inside (r .1)), seen .rights (ap asksRights (c .before .match .keys9)) (r .0) .owns _ (r .1))
     (alike-first _ _ (refl, refl, λ _ _. (refl, refl, λ other _. (refl, refl, λ _ _. (refl, refl, λ _ _. (refl, seen .deleted (c .before .match .keys9) (r .1) other, λ _ _. tt)))))))
 
 returns-11 : tie.Need-returns-11
-unfolding rules rename cannotChangeIn asksRights asksWay asksName either
+unfolding rules rename cannotChangeIn cannotChange asksRights asksWay asksName either
 returns-11 c = λ t seen.
     let r = in-rename _ (fits (c .before .before)) (c .before .match .keys10) in
-    by-rule t _ _ 9 (c .before .match .keys10) (fits (c .before .before)) (c .change-refusal2 .ensures ∙ rw (seen .session (r .0), seen .entity (r .1), seen .rights (ap asksRights (c .before .match .keys10)) (r .0) .executes _ (seen .inside (r .1)), seen .renamed (c .before .match .keys10) (r .1) (r .2) (r .3)))
+    by-rule t _ _ 9 (c .before .match .keys10) (fits (c .before .before)) (c .change-refusal2 .ensures ∙ rw (seen .session (r .0), seen .entity (r .1), seen .outer (ap (λ (n : ℕ). eqb n kind.create) (c .before .match .keys10)) (r .1), seen .rights (ap asksRights (c .before .match .keys10)) (r .0) .executes _ (seen .inside (r .1)), seen .rights (ap asksRights (c .before .match .keys10)) (r .0) .owns _ (r .1), seen .renamed (c .before .match .keys10) (r .1) (r .2) (r .3)))
 
 returns-12 : tie.Need-returns-12
 unfolding rules grant grantBelow asksRights asksWay asksName either
@@ -174,7 +180,13 @@ returns-17 c = λ t seen.
     by-rule t _ _ 15 (c .before .match .keys16) (fits (c .before .before)) (c .unmake-refusal .ensures ∙ rw (seen .session (r .0), seen .live (r .1)))
 
 returns-18 : tie.Need-returns-18
-returns-18 c = λ t seen. none-of-sixteen t _ (c .match .rest)
+unfolding rules share asksRights asksWay asksName either
+returns-18 c = λ t seen.
+    let r = in-share _ (fits (c .before .before)) (c .before .match .keys17) in
+    by-rule t _ _ 16 (c .before .match .keys17) (fits (c .before .before)) (c .share-refusal .ensures ∙ rw (seen .session (r .0), seen .entity (r .1), seen .rights (ap asksRights (c .before .match .keys17)) (r .0) .owns _ (r .1)))
+
+returns-19 : tie.Need-returns-19
+returns-19 c = λ t seen. none-of-them t _ (c .match .rest)
 
 pub judge-spec : {M : Type 1} → statement M
 judge-spec =
@@ -199,6 +211,7 @@ judge-spec =
     list-refusal-requires-2
     make-refusal-requires
     unmake-refusal-requires
+    share-refusal-requires
     returns-2
     returns-3
     returns-4
@@ -215,4 +228,5 @@ judge-spec =
     returns-15
     returns-16
     returns-17
-    returns-18)
+    returns-18
+    returns-19)

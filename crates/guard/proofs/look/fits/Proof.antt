@@ -5,7 +5,7 @@ use native.Mathlib.Omega.{arith}
 use Rattle.bitset.specs.Tests.{every}
 use Rattle.guard.specs.Label.{labelInRangeIn}
 use Rattle.guard.specs.Requests.{fieldInRangeIn, rules, login, logout, create, delete, rename}
-use Rattle.guard.proofs.Ranges.{past-nine, ranges-at, fits-take, fits-open, fits-grant, fits-list, fits-make, fits-none}
+use Rattle.guard.proofs.Ranges.{past-nine, ranges-at, fits-take, fits-open, fits-grant, fits-list, fits-make, fits-share, fits-none}
 use Rattle.guard.proofs.look.fits.Statement.{statement}
 use Rattle.guard.proofs.look.fits.Tie as tie
 
@@ -30,25 +30,28 @@ unfolding rules rename fieldInRangeIn labelInRangeIn every
 returns-5 c = sym (ranges-at _ 9 (c .match .keys5) ∙ simp and-true)
 
 returns-6 : tie.Need-returns-6
-returns-6 c = fits-take _ (omega (arith, c .before .match .rest .0 .0 .0 .0 .1, c .before .match .rest .0 .0 .0 .1)) (c .if1 .taken)
+returns-6 c = fits-share _ (c .before .match .keys6)
 
 returns-7 : tie.Need-returns-7
-returns-7 c = fits-open _ (c .before .if1 .left) (c .if2 .taken)
+returns-7 c = fits-take _ (omega (arith, c .before .match .rest .0 .0 .0 .0 .0 .1, c .before .match .rest .0 .0 .0 .0 .1)) (c .if1 .taken)
 
 returns-8 : tie.Need-returns-8
-returns-8 c =
-    let past = c .before .before .before in
-    let rest = past .before .before .match .rest in
-    fits-grant _ (past-nine _ (past .if2 .left) (rest .0 .0 .1) (rest .0 .1) (rest .1)) (c .before .before .if3 .taken)
+returns-8 c = fits-open _ (c .before .if1 .left) (c .if2 .taken)
 
 returns-9 : tie.Need-returns-9
-returns-9 c = fits-list _ (c .before .if3 .left) (c .if4 .taken)
+returns-9 c =
+    let past = c .before .before .before in
+    let rest = past .before .before .match .rest in
+    fits-grant _ (past-nine _ (past .if2 .left) (rest .0 .0 .0 .1) (rest .0 .0 .1) (rest .0 .1)) (c .before .before .if3 .taken)
 
 returns-10 : tie.Need-returns-10
-returns-10 c = fits-make _ (c .before .if4 .left) (c .if5 .taken)
+returns-10 c = fits-list _ (c .before .if3 .left) (c .if4 .taken)
 
 returns-11 : tie.Need-returns-11
-returns-11 c = fits-none _ (c .if5 .left)
+returns-11 c = fits-make _ (c .before .if4 .left) (c .if5 .taken)
+
+returns-12 : tie.Need-returns-12
+returns-12 c = fits-none _ (omega (arith, c .if5 .left, c .before .before .before .before .before .match .rest .1))
 
 pub fits-spec : {M : Type 1} → statement M
 fits-spec =
@@ -64,4 +67,5 @@ fits-spec =
     returns-8
     returns-9
     returns-10
-    returns-11)
+    returns-11
+    returns-12)

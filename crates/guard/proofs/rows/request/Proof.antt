@@ -104,6 +104,15 @@ mul-t44 c = search needs
 shared-slice-read-t46 : tie.Need-shared-slice-read-t46
 shared-slice-read-t46 c = search needs
 
+add-t47 : tie.Need-add-t47
+add-t47 c = search needs
+
+mul-t48 : tie.Need-mul-t48
+mul-t48 c = search needs
+
+shared-slice-read-t50 : tie.Need-shared-slice-read-t50
+shared-slice-read-t50 c = search needs
+
 returns : tie.Need-returns
 unfolding requestAt
 returns c = simp add-zero
@@ -145,4 +154,7 @@ request-spec =
     add-t43
     mul-t44
     shared-slice-read-t46
+    add-t47
+    mul-t48
+    shared-slice-read-t50
     returns)

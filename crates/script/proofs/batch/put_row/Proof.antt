@@ -1,4 +1,4 @@
--- `put_row` stores eleven numbers one behind the other. Assumes nothing.
+-- `put_row` stores twelve numbers one behind the other. Assumes nothing.
 use native.Mathlib.Omega.{arith}
 use lib.ListN.{length-set}
 use mathlib.Core.Path.{refl}
@@ -103,6 +103,15 @@ mul-rows-11 c = search needs
 slice-write-rows-11 : tie.Need-slice-write-rows-11
 slice-write-rows-11 c = simp length-set (omega arith)
 
+add-rows-11 : tie.Need-add-rows-11
+add-rows-11 c = search needs
+
+mul-rows-12 : tie.Need-mul-rows-12
+mul-rows-12 c = search needs
+
+slice-write-rows-12 : tie.Need-slice-write-rows-12
+slice-write-rows-12 c = simp length-set (omega arith)
+
 add-result : tie.Need-add-result
 add-result c = search needs
 
@@ -110,7 +119,7 @@ same-length : tie.Need-same-length
 same-length c = simp length-set
 
 returns : tie.Need-returns
-returns c = put-cons refl (put-cons (omega arith) (put-cons (omega arith) (put-cons (omega arith) (put-cons (omega arith) (put-cons (omega arith) (put-cons (omega arith) (put-cons (omega arith) (put-cons (omega arith) (put-cons (omega arith) (put-cons (omega arith) put-nil))))))))))
+returns c = put-cons refl (put-cons (omega arith) (put-cons (omega arith) (put-cons (omega arith) (put-cons (omega arith) (put-cons (omega arith) (put-cons (omega arith) (put-cons (omega arith) (put-cons (omega arith) (put-cons (omega arith) (put-cons (omega arith) (put-cons (omega arith) put-nil)))))))))))
 
 pub put-row-spec : {M : Type 1} → statement M
 put-row-spec =
@@ -148,6 +157,9 @@ put-row-spec =
     add-rows-10
     mul-rows-11
     slice-write-rows-11
+    add-rows-11
+    mul-rows-12
+    slice-write-rows-12
     add-result
     same-length
     returns)

@@ -55,9 +55,6 @@ cast-i c = search needs
 code-at-requires : tie.Need-code-at-requires Inv-loop μ-loop
 code-at-requires c κs = omega (arith, filled-slice (c .before .before .before .loop .inv), c .before .before .before .loop .inv .less)
 
-add-j-2 : tie.Need-add-j-2 Inv-loop μ-loop
-add-j-2 c = omega arith
-
 cast-vals : tie.Need-cast-vals Inv-loop μ-loop
 cast-vals c = search needs
 
@@ -70,19 +67,26 @@ element-write-vals c = search needs
 with16-requires : tie.Need-with16-requires Inv-loop μ-loop
 with16-requires c κs = search needs
 
+is-last-requires : tie.Need-is-last-requires Inv-loop μ-loop
+is-last-requires c κs = omega arith
+
 returns-2 : tie.Need-returns-2 Inv-loop μ-loop
 returns-2 c =
-    let at-with16 = c .before .before in
+    let at-if5 = c .before in
+    let at-with16 = at-if5 .before .before in
     let at-if4 = at-with16 .before in
     let at-code-at = at-if4 .before .before in
     let at-loop = at-code-at .before .before .before .before in
-    row-number (at-loop .loop .inv) (at-code-at .code-at .ensures) (at-if4 .if4 .taken) (at-with16 .with16 .ensures ∙ ap (with _) (mod-eq-of-lt (omega arith))) (not-true _ (c .if5 .taken)) (omega arith)
+    row-number (at-loop .loop .inv) (at-code-at .code-at .ensures) (at-if4 .if4 .taken) (at-with16 .with16 .ensures ∙ ap (with _) (mod-eq-of-lt (omega arith))) (not-true _ (at-if5 .if5 .taken)) (omega arith) (c .is-last .ensures)
 
 add-from-2 : tie.Need-add-from-2 Inv-loop μ-loop
 add-from-2 c =
     let at-code-at = c .before .before .before .before .before in
     let at-loop = at-code-at .before .before .before .before in
     omega (arith, found-less (at-loop .loop .inv) (at-code-at .code-at .ensures) (not-false _ (c .if5 .left)))
+
+add-j-2 : tie.Need-add-j-2 Inv-loop μ-loop
+add-j-2 c = omega arith
 
 loop-less-2 : tie.Need-loop-less-2 Inv-loop μ-loop
 loop-less-2 c =
@@ -109,21 +113,28 @@ returns-3 c =
     let at-if6 = c .before in
     let at-code-at = at-if6 .before .before .before .before in
     let at-loop = at-code-at .before .before .before .before in
-    row-other (at-loop .loop .inv) (at-code-at .code-at .ensures) (omega arith) (at-if6 .if6 .taken) (c .end-of2 .ensures)
+    row-other (at-loop .loop .inv) (at-code-at .code-at .ensures) (at-if6 .if6 .taken) (c .end-of2 .ensures)
+
+is-last-requires-2 : tie.Need-is-last-requires-2 Inv-loop μ-loop
+is-last-requires-2 c κs = omega arith
 
 returns-4 : tie.Need-returns-4 Inv-loop μ-loop
 returns-4 c =
-    let at-if6 = c .before .before in
+    let at-if7 = c .before in
+    let at-if6 = at-if7 .before .before in
     let at-if4 = at-if6 .before .before in
     let at-code-at = at-if4 .before .before in
     let at-loop = at-code-at .before .before .before .before in
-    row-dash (at-loop .loop .inv) (at-code-at .code-at .ensures) (at-if4 .if4 .left) (at-if6 .if6 .left) (not-true _ (c .if7 .taken)) (omega arith)
+    row-dash (at-loop .loop .inv) (at-code-at .code-at .ensures) (at-if4 .if4 .left) (at-if6 .if6 .left) (not-true _ (at-if7 .if7 .taken)) (omega arith) (c .is-last2 .ensures)
 
 add-from-3 : tie.Need-add-from-3 Inv-loop μ-loop
 add-from-3 c =
     let at-code-at = c .before .before .before .before .before .before in
     let at-loop = at-code-at .before .before .before .before in
     omega (arith, found-less (at-loop .loop .inv) (at-code-at .code-at .ensures) (not-false _ (c .if7 .left)))
+
+add-j-3 : tie.Need-add-j-3 Inv-loop μ-loop
+add-j-3 c = omega arith
 
 loop-less-3 : tie.Need-loop-less-3 Inv-loop μ-loop
 loop-less-3 c =
@@ -157,18 +168,21 @@ read-row-spec =
     element-copy-out-i
     cast-i
     code-at-requires
-    add-j-2
     cast-vals
     mul-vals
     element-write-vals
     with16-requires
+    is-last-requires
     returns-2
     add-from-2
+    add-j-2
     loop-less-2
     loop-again-2
     end-of-requires-2
     returns-3
+    is-last-requires-2
     returns-4
     add-from-3
+    add-j-3
     loop-less-3
     loop-again-3)

@@ -55,7 +55,10 @@ returns-17 : tie.Need-returns-17
 returns-17 c = word-at-key (c .match .keys17)
 
 returns-18 : tie.Need-returns-18
-returns-18 c = word-none (c .match .rest)
+returns-18 c = word-at-key (c .match .keys18)
+
+returns-19 : tie.Need-returns-19
+returns-19 c = word-none (c .match .rest)
 
 pub word-of-spec : {M : Type 1} → statement M
 word-of-spec =
@@ -78,4 +81,5 @@ word-of-spec =
     returns-15
     returns-16
     returns-17
-    returns-18)
+    returns-18
+    returns-19)

@@ -19,11 +19,11 @@ is-root-record-requires c κs = search needs
 
 returns-2 : tie.Need-returns-2
 returns-2 c =
-    let a = c .before .before .before .before .args in
-    entity-root (a .e) (a .n) (a .p) _ (of-not-false (a .n .live) (c .before .before .if1 .left)) (eq-eqb _ _ (c .before .if2 .taken)) (c .is-root-record .ensures)
+    let a = c .before .before .before .before .before .args in
+    entity-root (a .e) (a .n) (a .p) _ (of-not-false (a .n .live) (c .before .before .before .if1 .left)) (eq-eqb _ _ (c .before .before .if2 .taken)) (c .before .is-root-record .ensures)
 
-entity-in-range-requires : tie.Need-entity-in-range-requires
-entity-in-range-requires c κs = search needs
+entity-fits-requires : tie.Need-entity-fits-requires
+entity-fits-requires c κs = search needs
 
 fits-in-requires : tie.Need-fits-in-requires
 fits-in-requires c κs = search needs
@@ -31,7 +31,7 @@ fits-in-requires c κs = search needs
 returns-3 : tie.Need-returns-3
 returns-3 c =
     let a = c .before .before .before .before .before .before .args in
-    entity-other (a .e) (a .n) (a .p) _ _ (of-not-false (a .n .live) (c .before .before .before .before .if1 .left)) (ne-eqb _ _ (c .before .before .before .if2 .left)) (c .before .before .entity-in-range .ensures) (c .fits-in .ensures)
+    entity-other (a .e) (a .n) (a .p) _ _ (of-not-false (a .n .live) (c .before .before .before .before .if1 .left)) (ne-eqb _ _ (c .before .before .before .if2 .left)) (c .before .before .entity-fits .ensures) (c .fits-in .ensures)
 
 pub entity-ok-spec : {M : Type 1} → statement M
 entity-ok-spec =
@@ -41,6 +41,6 @@ entity-ok-spec =
     returns
     is-root-record-requires
     returns-2
-    entity-in-range-requires
+    entity-fits-requires
     fits-in-requires
     returns-3)

@@ -11,7 +11,7 @@ is-no-label-requires c κs = search needs
 
 returns : tie.Need-returns
 unfolding isEmptyEntity every
-returns c = simp (c .is-no-label .ensures, and-true)
+returns c = simp (c .before .is-no-label .ensures, and-true)
 
 pub is-empty-entity-spec : {M : Type 1} → statement M
 is-empty-entity-spec = tie.close (tie.spec is-no-label-requires returns)
