@@ -62,15 +62,15 @@ pub struct Role {
     pub owns: u64,
 }
 
-// Entity: an object (kind 0) or a container (kind 1), with the number of its parent, its name, its label, and the mark of a
-// shared container (1, else 0).
+// Entity: an object (kind 0) or a container (kind 1), with the number of its parent, its mark (1 for a shared container, else 0),
+// its name and its label. Records are laid out in the order of their fields: in front of the name the mark takes no room.
 pub struct Entity {
     pub live: bool,
     pub kind: u8,
     pub parent: u8,
+    pub shared: u8,
     pub name: u16,
     pub label: Label,
-    pub shared: u8,
 }
 
 pub struct Tables {
