@@ -63,7 +63,7 @@ pub fn print(input: &Path, output: &Path, name: &str) -> Result<(), String> {
         Some(kind) if 100 * counts[kind] < LEAST * all => {
             Err(format!("less than {LEAST} % of {name} are {name}"))
         }
-        // The sixteen requests and `user`.
+        // `user`, and all requests but `share`, which needs a name that these inputs do not have.
         Some(0) if by_word.len() < 17 => Err(format!("a request is never done in {name}")),
         _ => Ok(()),
     }

@@ -1,6 +1,6 @@
 -- The number that a rule answers on sound tables, as `judge` decides it.
 --     out-of-range, by-rule         2 where a number is out of range, else the first refusal of the rule at the request's number
---     none-of-them                  2 for a number that is none of the seventeen
+--     unknown-number                2 for a number that is none of the seventeen
 --     done-in-range, done-allowed   0 is answered where all numbers are in range and no refusal applies
 --     keeper-met, keeper-unmet      10 and 12 before other refusals
 -- Assumes nothing.
@@ -46,8 +46,8 @@ module _ (t : Tables) (q : Request) where
   past n zero h = omega arith
   past n (suc k) h = omega (arith, past n k (h .0), h .1)
 
-  pub none-of-them : NoneOf (q .call) requestCount → 2 ≡ number (ruleOf q) t q
-  none-of-them h = out-of-range (sym (fits-none q (past (q .call) requestCount h)))
+  pub unknown-number : NoneOf (q .call) requestCount → 2 ≡ number (ruleOf q) t q
+  unknown-number h = out-of-range (sym (fits-none q (past (q .call) requestCount h)))
 
   module _ (z : 0 ≡ number (ruleOf q) t q) where
     pub done-in-range : inRanges q ≡ true

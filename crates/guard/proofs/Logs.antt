@@ -5,19 +5,19 @@
 --     batch-room, batch-rows        a batch has room for its answers, and each of its rows is whole
 --     all-refused                   on unsound tables every answer is 1, and the tables stay
 -- Assumes nothing.
-use Prim.Native.Nat.{ℕ, zero, suc, _+_, _*_, _/_, _≤_, _<_}
+use Prim.Native.Nat.{ℕ, suc, _+_, _*_, _/_, _≤_, _<_}
 use mathlib.Core.Path.{_≡_, refl, sym, ap, _∙_}
 use mathlib.Core.Bool.{Bool, true, false, cond}
 use mathlib.Core.List.{List, [], _∷_, _++_}
 use native.Mathlib.Numerals.{add-one}
 use native.Mathlib.Omega.{arith}
 use lib.Dec.{leb}
-use lib.ListN.{length, getD, set, drop, replicate, length-replicate, length-append, replicate-append-replicate}
+use lib.ListN.{length, getD, set, drop, replicate, length-replicate, replicate-append-replicate}
 use lib.Seq.{drop-cons, set-at, append-snoc}
 use borrow.Author.Tests.{leb-true, leb-false}
 use Rattle.guard.specs.Sound.{sound}
 use Rattle.guard.specs.Step.{answer, next, nextIn, run, runIn, answers, answersIn}
-use Rattle.guard.specs.Batch.{requests, batchLength}
+use Rattle.guard.specs.Batch.{rowLength, batchLength}
 use Rattle.guard.specs.declared.Tables.{Tables}
 use Rattle.guard.specs.declared.Request.{Request}
 use Rattle.guard.proofs.Laws.Requests.{unsound-answer}
@@ -61,19 +61,19 @@ ones-store old new i h low = rw h (ones-more old i low)
 -- ---- how many requests a batch has
 pub batch-room : (numbers room : ℕ) → batchLength numbers room ≤ room
 unfolding batchLength
-batch-room numbers room = go (leb (numbers / 12) room) refl
+batch-room numbers room = go (leb (numbers / rowLength) room) refl
   where
-    go : (b : Bool) → leb (numbers / 12) room ≡ b → cond (leb (numbers / 12) room) (numbers / 12) room ≤ room
+    go : (b : Bool) → leb (numbers / rowLength) room ≡ b → cond (leb (numbers / rowLength) room) (numbers / rowLength) room ≤ room
     go true h = rw h (leb-true _ _ h)
     go false h = rw h (omega arith)
 
-pub batch-rows : (numbers room i : ℕ) → i < batchLength numbers room → 12 * i + 12 ≤ numbers
+pub batch-rows : (numbers room i : ℕ) → i < batchLength numbers room → rowLength * i + rowLength ≤ numbers
 unfolding batchLength
-batch-rows numbers room i = go (leb (numbers / 12) room) refl
+batch-rows numbers room i = go (leb (numbers / rowLength) room) refl
   where
-    go : (b : Bool) → leb (numbers / 12) room ≡ b → i < cond (leb (numbers / 12) room) (numbers / 12) room → 12 * i + 12 ≤ numbers
-    go true h l = let k : i < numbers / 12 = rw h at l in omega arith
-    go false h l = let k : i < room = rw h at l in let m = leb-false (numbers / 12) room h in omega arith
+    go : (b : Bool) → leb (numbers / rowLength) room ≡ b → i < cond (leb (numbers / rowLength) room) (numbers / rowLength) room → rowLength * i + rowLength ≤ numbers
+    go true h l = let k : i < numbers / rowLength = rw h at l in omega arith
+    go false h l = let k : i < room = rw h at l in let m = leb-false (numbers / rowLength) room h in omega arith
 
 -- ---- on unsound tables
 pub all-refused : (t : Tables) (log : List Request) → sound t ≡ false → (run t log ≡ t) × (answers t log ≡ replicate (length log) 1)

@@ -1,10 +1,10 @@
 -- The numbers that a request's kind uses, where all of them are in range.
 --     span                    a property of each number from one on, so many of them
 --     past-nine, past-five    none of some numbers
---     is-nine                 of the kinds that change an entity none but rename
+--     is-nine                 a kind that changes an entity and is none of create, delete and share is rename
 --     asks-past               of the kinds past revoke share alone asks for rights
 --     ranges-at, of-ranges    the ranges of the rule at the request's number
---     fits-take, fits-open, fits-grant, fits-list, fits-make, fits-share, fits-none      the ranges as the code tests them, where several kinds are alike
+--     fits-take, fits-open, fits-grant, fits-list, fits-make, fits-share, fits-none      the ranges as the code tests them
 --     in-login .. in-share    .. each, by the kind
 --     InCreate, in-create     those of create
 -- Assumes nothing.
@@ -12,7 +12,7 @@ use Prim.Native.Nat.{ℕ, zero, suc, _+_, _≤_, _<_}
 use mathlib.Core.Path.{_≡_, refl, sym, ap, _∙_}
 use mathlib.Core.Bool.{Bool, true, false, _&&_, and-true, and-false}
 use mathlib.Core.List.{List, map}
-use mathlib.Core.Logic.{_⊎_, inl, inr}
+use mathlib.Core.Logic.{inl, inr}
 use native.Mathlib.Decide.{ℕ-discrete}
 use native.Mathlib.Omega.{arith}
 use lib.Dec.{leb, ltb, eqb}

@@ -1,6 +1,6 @@
 -- What a run stores where the answer is 0 is what the rule does.
 --     Told, told              which kinds a change stands for
---     session-stored, create-stored, delete-stored, kept-stored, role-stored, unmake-stored
+--     session-stored, create-stored, delete-stored, alone-stored, role-stored, unmake-stored
 -- Assumes nothing.
 use Prim.Native.Nat.{ℕ, _≤_, _<_}
 use mathlib.Core.Path.{_≡_, refl, sym, subst, _∙_}
@@ -135,9 +135,9 @@ module _ (t : Tables) (q : Request) (z : 0 ≡ number (ruleOf q) t q) where
     share-done c = rw (rule-at q 16 c, c, P .entity .same (in-share q ok c .1))
 
     -- rename and share change no other record
-    pub kept-stored : OfEntity (q .call) → (q .call ≡ kind.create → ⊥) → (q .call ≡ kind.delete → ⊥) → (f : Entity)
+    pub alone-stored : OfEntity (q .call) → (q .call ≡ kind.create → ⊥) → (q .call ≡ kind.delete → ⊥) → (f : Entity)
         → f ≡ entityAfter q (entityAt t (p .entity)) → Done (withEntities t (set (t .entities) (p .entity) f))
-    kept-stored of a b f hf = rw hf (go (ℕ-discrete (q .call) 16))
+    alone-stored of a b f hf = rw hf (go (ℕ-discrete (q .call) 16))
       where
         go : Dec (q .call ≡ 16) → Done (withEntities t (set (t .entities) (p .entity) (entityAfter q (entityAt t (p .entity)))))
         go (yes c) = share-done c

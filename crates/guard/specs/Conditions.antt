@@ -92,7 +92,7 @@ module _ (t : Tables) (q : Request) where
   unfoldable pub cannotOpen : ℕ → Bool
   cannotOpen right = either (not (hasRight t (q .seat) right (q .entity))) (not (reaches t (q .seat) (q .entity)))
 
-  -- create, delete, rename: x has not the parent open for writing, or lacks execute on it. (delete, rename: see below)
+  -- create, delete, rename: x has not the parent open for writing, or lacks execute on it.
   unfoldable pub cannotChangeIn : ℕ → Bool
   cannotChangeIn parent = either (not (isWriting t (q .seat) parent)) (not (hasRight t (q .seat) execute parent))
 
@@ -104,7 +104,7 @@ module _ (t : Tables) (q : Request) where
   abbrev pub recordedParent : ℕ
   recordedParent = parentOf t (q .entity)
 
-  -- In a shared container delete and rename also need own on the entity.
+  -- delete, rename: the parent is the one in the record, and in a shared container delete and rename also need own on the entity.
   unfoldable pub cannotChange : Bool
   cannotChange = either (cannotChangeIn recordedParent) (every (isShared t recordedParent ∷ notOwned ∷ []))
 
@@ -121,6 +121,7 @@ module _ (t : Tables) (q : Request) where
   abbrev pub userListed : Bool
   userListed = lists t (q .role) (q .user)
 
+  -- share: the mark is so.
   abbrev pub markedSo : Bool
   markedSo = eqb (entityAt t (q .entity) .shared) (q .shared)
 

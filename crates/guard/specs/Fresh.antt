@@ -25,6 +25,7 @@ unfoldable pub freshRole : ℕ → Role
 freshRole r =
     cond (isKeeper r) (granting (rootOf (roleLevel r)) allRights (listing (with 0 0) madeRole)) noRole
 
+-- "Entities and roots start with 0": the mark
 unfoldable pub freshEntity : ℕ → Entity
 freshEntity e =
     cond (isRoot e) (record { live = true; kind = container; parent = e; name = 0; label = noLabel; shared = 0 }) noEntity

@@ -42,7 +42,7 @@ fieldInRangeIn width q label = labelInRangeIn width (labelAsked q)
 fieldInRangeIn width q rights = every (leb 1 (q .rights) ∷ leb (q .rights) allRights ∷ [])
 fieldInRangeIn width q shared = leb (q .shared) sharedMark
 
--- What the paper says of one request: the fields that it uses, the refusals that apply after 1 and 2, and what it does.
+-- What the papers say of one request: the fields that it uses, the refusals that apply after 1 and 2, and what it does.
 -- Refusals read the tables; what is done is a matter of the request alone.
 pub record Rule : Type 0 where
   pub uses : List Field
@@ -129,7 +129,7 @@ close =
     }
 
 -- create (x, e, kind, parent, name, label, role): 7, 8, 9, 10, 11, 12, 13, 14. The role gains own on e and nobody gains
--- anything else.
+-- anything else. "Entities and roots start with 0": the mark.
 unfoldable pub created : Request → Entity
 created q =
     record { live = true; kind = q .kind; parent = q .parent; name = q .name; label = labelAsked q; shared = 0 }
@@ -255,7 +255,7 @@ unmake =
       effect = λ q t. eachSession (dropRole (q .role)) (atRole (q .role) (λ old. noRole) t);
     }
 
--- share (x, e, mark): 7, 9, 10, 13, 16. e's mark becomes the one named.
+-- share (x, e, mark) sets the mark: 7, 9 (it is an object), 10 (the seat is below it), 13 (no own on it), 16.
 unfoldable pub share : Rule
 share =
     record {

@@ -106,7 +106,7 @@ unfoldable pub entitiesPlaced : Tables → Bool
 entitiesPlaced t =
     all entityCount (λ e. implies (every (entityAt t e .live ∷ not (isRoot e) ∷ [])) (isPlaced t e))
 
--- ---- The mark of an object is 0.
+-- ---- The entity record carries the shared-container mark, 0 or 1; soundness asks 0 for an object.
 unfoldable pub isMarkAllowed : Entity → Bool
 isMarkAllowed e = implies (eqb (e .kind) object) (eqb (e .shared) 0)
 

@@ -1,6 +1,6 @@
 // The access guard of a shared timing bench: its tables, by value.
 //
-// The records below hold document 01's tables, and a request as a host hands it in. What they mean, which tables are
+// The records below hold the papers' tables, and a request as a host hands it in. What they mean, which tables are
 // sound, what each request answers and how it changes the tables is said by the definitions in specs/, in the paper's
 // order. Sets are bit sets: member `i` is bit `i` (crate `bitset`). No record holds an enum or a reference. Tables of the old width,
 // with a set of eight categories, have records of their own (`old`).

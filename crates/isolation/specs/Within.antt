@@ -1,4 +1,4 @@
--- Category numbers within a width: of a request, and of tables. Tables without marks.
+-- What binds old tables and their logs: category numbers within a width, of a request and of tables; and tables without marks.
 use Prim.Native.Nat.{ℕ, _≤_, _<_}
 use mathlib.Core.Path.{_≡_}
 use mathlib.Core.Bool.{Bool, true}

@@ -18,7 +18,7 @@ use Rattle.bitset.specs.Tests.{all}
 use Rattle.bitset.specs.Tests.Laws.{all-e}
 use Rattle.guard.proofs.Compute.{computing}
 use Rattle.script.specs.Line.{userWord, callOf, Numbers, these, unreadable, joined, asks, used, isUsed, ordinal, fields, optionalFields}
-use Rattle.script.specs.Private.Rows.{noWord, takenAs, joins, takeFrom, front, ahead, members}
+use Rattle.script.specs.Private.Rows.{noWord, fieldCount, takenAs, joins, takeFrom, front, ahead, members}
 use Rattle.script.specs.declared.line.Line.the-variants.{Ask, SetUser, Bad}
 use Rattle.script.specs.declared.fields.Taken.{Taken}
 use Rattle.script.specs.declared.fields.Taken.the-variants.{Number, Fault}
@@ -154,9 +154,9 @@ alike-same (a ∷ more) (b ∷ bs) h =
     go true b p e = rw (p, e)
     go false b p e = rw (not-true b p, e)
 
-table-right : all noWord (λ k. alike (members (getD table k 0) 1 12) (used k)) ≡ true
+table-right : all noWord (λ k. alike (members (getD table k 0) 1 fieldCount) (used k)) ≡ true
 unfolding computing table alike members used isUsed ordinal fields optionalFields
 table-right = refl
 
-pub table-used : (w : ℕ) → w < noWord → members (getD table w 0) 1 12 ≡ used w
-table-used w h = alike-same _ _ (all-e noWord (λ k. alike (members (getD table k 0) 1 12) (used k)) table-right w h)
+pub table-used : (w : ℕ) → w < noWord → members (getD table w 0) 1 fieldCount ≡ used w
+table-used w h = alike-same _ _ (all-e noWord (λ k. alike (members (getD table k 0) 1 fieldCount) (used k)) table-right w h)

@@ -11,7 +11,7 @@ use mathlib.Core.List.{List, [], _∷_, map}
 use native.Mathlib.Decide.{decLt, ℕ-discrete}
 use native.Mathlib.Omega.{arith}
 use lib.Dec.{eqb}
-use lib.ListN.{length, getD, set, take, drop, replicate, length-set, List·getD-eq-default}
+use lib.ListN.{length, getD, set, take, drop, replicate, length-set, getD-replicate, List·getD-eq-default}
 use lib.Seq.{getD-set-same, getD-set-other}
 use borrow.Author.Tests.{eqb-true, eqb-false, eq-eqb}
 use Rattle.bitset.specs.Sets.{has, with, contains}
@@ -21,8 +21,9 @@ use Rattle.bitset.specs.Tests.Laws.{all-e, both, clash, is-false, every-i, some
 use Rattle.script.specs.Text.{values}
 use Rattle.script.specs.Names.{names, allNames, column, among, isNames, Ordered}
 use Rattle.script.specs.Private.Slices.{before}
+use Rattle.script.specs.Private.Rows.{nameCount}
 use Rattle.script.proofs.ValuesInTurn.{Reached, reached-start, reached-some, reached-here, reached-end, reached-next}
-use Rattle.script.proofs.NamePlaces.{column-most, column-found, among-found, among-i, twice-i, names-length, no-name, twelve, twelve-at, named-alike, Fresh, fresh-few, name-among, name-known, name-apart}
+use Rattle.script.proofs.NamePlaces.{column-most, column-found, among-found, among-i, twice-i, names-length, no-name, twelve, twelve-at, named-alike, Different, different-few, name-among, name-known, name-apart}
 
 -- the name i stands at one of the first n places
 unfoldable pub stands : List (List ℕ) → ℕ → ℕ → Bool
@@ -32,17 +33,17 @@ stands-more : (h : List (List ℕ)) (n i : ℕ) → stands h (n + 1) i ≡ (stan
 unfolding stands
 stands-more h n i = some-more n (λ k. eqb (column (getD h k []) allNames) i)
 
-pub every-map : {A : Type 0} (f : A → Bool) (l : List A) (d : A) → ((i : ℕ) → i < length l → f (getD l i d) ≡ true) → every (map f l) ≡ true
+every-map : {A : Type 0} (f : A → Bool) (l : List A) (d : A) → ((i : ℕ) → i < length l → f (getD l i d) ≡ true) → every (map f l) ≡ true
 unfolding every
 every-map f [] d h = refl
 every-map f (x ∷ l) d h = and-eq-true-iff (f x) (every (map f l)) .1 (h 0 (omega arith), every-map f l d (λ i m. h (suc i) (omega arith)))
 
--- ---- the twelve
+-- the set of the twelve
 full : all 12 (λ i. has 4095 i) ≡ true
 unfolding all has
 full = refl
 
-module _ (h : List (List ℕ)) (n seen : ℕ) (long : length h ≡ n) (fresh : Fresh h n) (is : (i : ℕ) → i < 13 → has seen i ≡ stands h n i) where
+module _ (h : List (List ℕ)) (n seen : ℕ) (long : length h ≡ n) (different : Different h n) (is : (i : ℕ) → i < nameCount → has seen i ≡ stands h n i) where
   stands-among : (i : ℕ) → i < 12 → stands h n i ≡ true → among h (getD names i []) ≡ true
   unfolding stands
   stands-among i l t =
@@ -64,12 +65,12 @@ module _ (h : List (List ℕ)) (n seen : ℕ) (long : length h ≡ n) (fresh : F
         every-map (among h) names [] (λ i m. let l : i < 12 = rw twelve at m in stands-among i l (sym (is i (omega arith)) ∙ contains-has seen 4095 t i (all-e 12 (λ k. has 4095 k) full i l))),
         (
           every-map (among allNames) h [] (λ k m. among-i (getD h k []) allNames (column (getD h k []) allNames) (there k m) (column-found (getD h k []) allNames (there k m))),
-          (twice-i h (λ a b l m e. fresh .apart a b l (rw (← long) m) (ap (λ (p : List ℕ). column p allNames) e)), tt),
+          (twice-i h (λ a b l m e. different .apart a b l (rw (← long) m) (ap (λ (p : List ℕ). column p allNames) e)), tt),
         ),
       )
     where
       there : (k : ℕ) → k < length h → column (getD h k []) allNames < length allNames
-      there k m = omega (arith, fresh .known k (rw (← long) m), names-length)
+      there k m = omega (arith, different .known k (rw (← long) m), names-length)
 
   names-back : isNames h ≡ true → contains seen 4095 ≡ true
   names-back g = has-contains seen 4095 (λ i m. let l : i < 12 = has-below 12 4095 i (omega arith) m in is i (omega arith) ∙ among-stands g i l)
@@ -85,30 +86,26 @@ pub record Seen (s at : List ℕ) (seen from j : ℕ) : Type 0 where
   pub reached : Reached s from j
   pub long : length at ≡ 16
   pub place : (k : ℕ) → k < j → getD at k 0 ≡ column (getD (values s) k []) allNames
-  pub none : (k : ℕ) → j ≤ k → k < 16 → getD at k 0 ≡ 13
-  pub is : (i : ℕ) → i < 13 → has seen i ≡ stands (values s) j i
-  pub shut : has seen 13 ≡ true
-  pub fresh : Fresh (values s) j
+  pub none : (k : ℕ) → j ≤ k → k < 16 → getD at k 0 ≡ nameCount
+  pub is : (i : ℕ) → i < nameCount → has seen i ≡ stands (values s) j i
+  pub shut : has seen nameCount ≡ true
+  pub different : Different (values s) j
 
-blank-all : all 16 (λ k. eqb (getD (replicate 16 13) k 0) 13) ≡ true
-unfolding all
-blank-all = refl
-
-pub seen-start : (s : List ℕ) {m : ℕ} → m ≡ with 0 13 → Seen s (replicate 16 13) m 0 0
+pub seen-start : (s : List ℕ) {m : ℕ} → m ≡ with 0 nameCount → Seen s (replicate 16 nameCount) m 0 0
 unfolding stands
 seen-start s {m} w =
     record {
       reached = reached-start s;
       long = refl;
       place = λ k l. absurd (none-below k l);
-      none = λ k l h. eqb-true _ _ (all-e 16 (λ k. eqb (getD (replicate 16 13) k 0) 13) blank-all k h);
-      is = λ i l. rw w (has-with-other 0 13 i (λ e. omega arith) ∙ has-none i) ∙ sym (some-none _);
-      shut = rw w (has-with-same 0 13);
-      fresh = record { known = λ k l. absurd (none-below k l); apart = λ a b l m. absurd (none-below b m) };
+      none = λ k l h. getD-replicate 16 k nameCount 0 h;
+      is = λ i l. rw w (has-with-other 0 nameCount i (λ e. omega arith) ∙ has-none i) ∙ sym (some-none _);
+      shut = rw w (has-with-same 0 nameCount);
+      different = record { known = λ k l. absurd (none-below k l); apart = λ a b l m. absurd (none-below b m) };
     }
 
-pub seen-few : {s at : List ℕ} {seen from j : ℕ} → Seen s at seen from j → j ≤ 13
-seen-few {s} {at} {seen} {from} {j} p = fresh-few (values s) j (p .fresh)
+pub seen-few : {s at : List ℕ} {seen from j : ℕ} → Seen s at seen from j → j ≤ nameCount
+seen-few {s} {at} {seen} {from} {j} p = different-few (values s) j (p .different)
 
 module _ {s at : List ℕ} {seen from j e n : ℕ} (p : Seen s at seen from j) (f : e ≡ length (before 32 (take (length s - from) (drop from s))))
     (c : n ≡ column (take e (take (length s - from) (drop from s))) allNames) where
@@ -122,15 +119,15 @@ module _ {s at : List ℕ} {seen from j e n : ℕ} (p : Seen s at seen from j) (
     where
       twice : isNames (values s) ≡ true → ⊥
       twice g =
-          let l : n < 13 = rw (← name-here) at (name-known (values s) g j (reached-some (p .reached))) in
+          let l : n < nameCount = rw (← name-here) at (name-known (values s) g j (reached-some (p .reached))) in
           let (k, m, q) = some-e j (λ k. eqb (column (getD (values s) k []) allNames) n) (sym (p .is n l) ∙ h) in
           name-apart (values s) g k j m (reached-some (p .reached)) (named-alike _ _ (eqb-true _ _ q ∙ name-here) (rw (← name-here) l))
 
   module _ {m : ℕ} (w : m ≡ with seen n) (new : has seen n ≡ false) where
-    known-here : n < 13
-    known-here = go (ℕ-discrete n 13)
+    known-here : n < nameCount
+    known-here = go (ℕ-discrete n nameCount)
       where
-        go : Dec (n ≡ 13) → n < 13
+        go : Dec (n ≡ nameCount) → n < nameCount
         go (yes q) = absurd (clash (has seen n) (ap (has seen) q ∙ p .shut) new)
         go (no q) = omega (arith, q, c, column-most (take e (take (length s - from) (drop from s))) allNames, names-length)
 
@@ -146,38 +143,38 @@ module _ {s at : List ℕ} {seen from j e n : ℕ} (p : Seen s at seen from j) (
             let q : k ≡ j = omega arith in
             rw q (getD-set-same at j n 0 (omega (arith, p .long, seen-few p)) ∙ name-here)
 
-    none-more : (k : ℕ) → j + 1 ≤ k → k < 16 → getD (set at j n) k 0 ≡ 13
+    none-more : (k : ℕ) → j + 1 ≤ k → k < 16 → getD (set at j n) k 0 ≡ nameCount
     none-more k l h = getD-set-other at j k n 0 (behind l) ∙ p .none k (omega arith) h
       where
         behind : j + 1 ≤ k → k ≡ j → ⊥
         behind l q = omega arith
 
-    is-more : (i : ℕ) → i < 13 → has m i ≡ stands (values s) (j + 1) i
+    is-more : (i : ℕ) → i < nameCount → has m i ≡ stands (values s) (j + 1) i
     is-more i l = ap (λ (x : ℕ). has x i) w ∙ go (eqb n i) refl ∙ sym (stands-more (values s) j i ∙ ap (λ (x : ℕ). stands (values s) j i || eqb x i) (sym name-here))
       where
         go : (b : Bool) → eqb n i ≡ b → has (with seen n) i ≡ (stands (values s) j i || b)
         go true q = ap (λ (x : ℕ). has (with seen x) i) (eqb-true n i q) ∙ has-with-same seen i ∙ sym (or-true (stands (values s) j i))
         go false q = has-with-other seen n i (λ z. eqb-false n i q (sym z)) ∙ p .is i l ∙ sym (or-false (stands (values s) j i))
 
-    shut-more : has m 13 ≡ true
-    shut-more = rw w (has-with-other seen n 13 (λ z. omega (arith, known-here)) ∙ p .shut)
+    shut-more : has m nameCount ≡ true
+    shut-more = rw w (has-with-other seen n nameCount (λ z. omega (arith, known-here)) ∙ p .shut)
 
-    fresh-more : Fresh (values s) (j + 1)
+    different-more : Different (values s) (j + 1)
     unfolding stands
-    fresh-more = record { known = known; apart = apart }
+    different-more = record { known = known; apart = apart }
       where
-        known : (k : ℕ) → k < j + 1 → column (getD (values s) k []) allNames < 13
+        known : (k : ℕ) → k < j + 1 → column (getD (values s) k []) allNames < nameCount
         known k l = go (decLt k j)
           where
-            go : Dec (k < j) → column (getD (values s) k []) allNames < 13
-            go (yes b) = p .fresh .known k b
+            go : Dec (k < j) → column (getD (values s) k []) allNames < nameCount
+            go (yes b) = p .different .known k b
             go (no b) = let q : k ≡ j = omega arith in rw (q, ← name-here) known-here
 
         apart : (a b : ℕ) → a < b → b < j + 1 → column (getD (values s) a []) allNames ≡ column (getD (values s) b []) allNames → ⊥
         apart a b l k same = go (decLt b j)
           where
             go : Dec (b < j) → ⊥
-            go (yes d) = p .fresh .apart a b l d same
+            go (yes d) = p .different .apart a b l d same
             go (no d) =
                 let q : b ≡ j = omega arith in
                 let is-n : column (getD (values s) a []) allNames ≡ n = same ∙ ap (λ (x : ℕ). column (getD (values s) x []) allNames) q ∙ sym name-here in
@@ -192,14 +189,14 @@ module _ {s at : List ℕ} {seen from j e n : ℕ} (p : Seen s at seen from j) (
           none = none-more;
           is = is-more;
           shut = shut-more;
-          fresh = fresh-more;
+          different = different-more;
         }
 
     pub seen-end : length (take (length s - from) (drop from s)) ≤ e → (g : Bool) → g ≡ contains m 4095
         → (g ≡ isNames (values s)) × (g ≡ true → Ordered (values s) (set at j n))
     seen-end h g k =
         let many : length (values s) ≡ j + 1 = reached-end (p .reached) f h in
-        let names-so : g ≡ isNames (values s) = k ∙ seen-names (values s) (j + 1) m many fresh-more is-more in
+        let names-so : g ≡ isNames (values s) = k ∙ seen-names (values s) (j + 1) m many different-more is-more in
         (names-so, λ t. record { good = sym names-so ∙ t; place = λ i l. go i l many (decLt i (j + 1)) })
       where
         go : (i : ℕ) → i < 16 → length (values s) ≡ j + 1 → Dec (i < j + 1) → getD (set at j n) i 0 ≡ column (getD (values s) i []) allNames

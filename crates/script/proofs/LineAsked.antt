@@ -14,7 +14,7 @@ use Rattle.bitset.specs.Tests.Laws.{none-below}
 use Rattle.script.specs.Text.{values}
 use Rattle.script.specs.Names.{allNames, under, Ordered}
 use Rattle.script.specs.Line.{used, Numbers, these, asks, lineOf, readLine}
-use Rattle.script.specs.Private.Rows.{noWord, fine, fills, IsRow, takeFrom, ahead, members}
+use Rattle.script.specs.Private.Rows.{noWord, nameCount, fieldCount, fine, fills, IsRow, takeFrom, ahead, members}
 use Rattle.script.specs.declared.line.Line.{Line}
 use Rattle.script.specs.declared.line.Line.the-variants.{Bad}
 use Rattle.script.specs.declared.fields.Half.{Half}
@@ -40,7 +40,7 @@ unfolding readLine every
 read-long h l k = rw (lt-leb (length l) 255 k)
 
 module _ {h : List (List ℕ)} {at l vals : List ℕ} {r : Row} (o : Ordered h at) (d : IsRow at l vals r) where
-  count : length (under h (values l)) ≡ 13
+  count : length (under h (values l)) ≡ nameCount
   unfolding under
   count = length-map allNames _ ∙ names-length
 
@@ -107,11 +107,11 @@ module _ {h : List (List ℕ)} {at l vals : List ℕ} {r : Row} (o : Ordered h a
     pub read-unknown : noWord ≤ getD vals 0 0 → Bad ≡ readLine h l
     read-unknown m = line-unknown _ _ _ held m ∙ read-good
 
-    read-known : (u : ℕ) → getD vals 0 0 < noWord → members u 1 12 ≡ used (getD vals 0 0)
-        → asks (getD vals 0 0) (takeFrom u (r .given) vals 1 12 (these [])) ≡ readLine h l
+    read-known : (u : ℕ) → getD vals 0 0 < noWord → members u 1 fieldCount ≡ used (getD vals 0 0)
+        → asks (getD vals 0 0) (takeFrom u (r .given) vals 1 fieldCount (these [])) ≡ readLine h l
     read-known u m e = line-known _ _ _ u held m e ∙ read-good
 
-    pub read-halves : (u : ℕ) (x : Half) → getD vals 0 0 < noWord → members u 1 12 ≡ used (getD vals 0 0)
+    pub read-halves : (u : ℕ) (x : Half) → getD vals 0 0 < noWord → members u 1 fieldCount ≡ used (getD vals 0 0)
         → ((rest : Numbers) → takeFrom u (r .given) vals 1 6 rest ≡ ahead x rest)
         → asks (getD vals 0 0) (ahead x (takeFrom u (r .given) vals 7 6 (these []))) ≡ readLine h l
     read-halves u x m e f = ap (asks (getD vals 0 0)) (sym (f _) ∙ sym (take-split u (r .given) vals 1 6 6 (these []))) ∙ read-known u m e

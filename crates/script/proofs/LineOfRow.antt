@@ -19,7 +19,7 @@ use Rattle.bitset.specs.Tests.Laws.{all-e}
 use Rattle.script.specs.Text.{bytes, same}
 use Rattle.script.specs.Names.{column}
 use Rattle.script.specs.Line.{valueOf, requestWords, words, used, Numbers, these, taken, takeAll, asks, lineOf}
-use Rattle.script.specs.Private.Rows.{coded, codeAt, noWord, blank, takenAs, joins, takeFrom, members}
+use Rattle.script.specs.Private.Rows.{coded, codeAt, noWord, nameCount, fieldCount, blank, takenAs, joins, takeFrom, members}
 use Rattle.script.specs.declared.line.Value.{Value}
 use Rattle.script.specs.declared.line.Value.the-variants.{Digits, Dash, Other}
 use Rattle.script.specs.declared.line.Line.the-variants.{Bad}
@@ -58,12 +58,12 @@ takeAll-from u g v i (suc n) (w ∷ ws) h f =
 
 -- ---- the values in the sample's order
 pub record Held (us : List (List ℕ)) (vals : List ℕ) (given : ℕ) : Type 0 where
-  pub whole : length us ≡ 13
-  pub number : (i : ℕ) → i < 13 → getD vals i 0 ≡ cond (ltb (codeAt i (getD us i [])) 100000) (codeAt i (getD us i [])) (getD blank i 0)
-  pub mark : (i : ℕ) → i < 13 → has given i ≡ ltb (codeAt i (getD us i [])) 100000
-  pub form : (i : ℕ) → i < 13 → codeAt i (getD us i []) ≤ 100000
+  pub whole : length us ≡ nameCount
+  pub number : (i : ℕ) → i < nameCount → getD vals i 0 ≡ cond (ltb (codeAt i (getD us i [])) 100000) (codeAt i (getD us i [])) (getD blank i 0)
+  pub mark : (i : ℕ) → i < nameCount → has given i ≡ ltb (codeAt i (getD us i [])) 100000
+  pub form : (i : ℕ) → i < nameCount → codeAt i (getD us i []) ≤ 100000
 
-pub no-values : _≡_ {A = ℕ} 0 13 → ⊥
+pub no-values : _≡_ {A = ℕ} 0 nameCount → ⊥
 no-values e = omega arith
 
 -- the code of a value that is no word
@@ -82,7 +82,7 @@ blank-zeros : all 15 (λ k. eqb (getD blank (suc k) 0) 0) ≡ true
 unfolding all blank
 blank-zeros = refl
 
-blank-later : (k : ℕ) → k < 12 → getD blank (suc k) 0 ≡ 0
+blank-later : (k : ℕ) → k < fieldCount → getD blank (suc k) 0 ≡ 0
 blank-later k l = eqb-true _ _ (all-e 15 (λ k. eqb (getD blank (suc k) 0) 0) blank-zeros k (omega arith))
 
 fits : (v : List ℕ) (y : Value) (g : Bool) (n z : ℕ) → valueOf v ≡ y → g ≡ ltb (coded y) 100000 → n ≡ cond (ltb (coded y) 100000) (coded y) z → z ≡ 0
@@ -95,7 +95,7 @@ fits v Dash g n z e a b c l = rw (a, b, c) dash
 fits v Other g n z e a b c l = absurd (omega arith)
 
 module _ {us : List (List ℕ)} {vals : List ℕ} {given : ℕ} (c : Held us vals given) where
-  later : (k : ℕ) → k < 12 → Fit (valueOf (getD us (suc k) [])) (has given (suc k)) (getD vals (suc k) 0)
+  later : (k : ℕ) → k < fieldCount → Fit (valueOf (getD us (suc k) [])) (has given (suc k)) (getD vals (suc k) 0)
   later k l =
       fits (getD us (suc k) []) (valueOf (getD us (suc k) [])) _ _ (getD blank (suc k) 0) refl
       (c .mark (suc k) (omega arith) ∙ ap (λ (n : ℕ). ltb n 100000) (code-later k (getD us (suc k) [])))
@@ -126,11 +126,11 @@ line-unknown (w ∷ ws) vals g c h =
 one-more : (k : ℕ) → 1 + k ≡ suc k
 one-more k = omega arith
 
-pub line-known : (us : List (List ℕ)) (vals : List ℕ) (g u : ℕ) → Held us vals g → getD vals 0 0 < noWord → members u 1 12 ≡ used (getD vals 0 0)
-    → asks (getD vals 0 0) (takeFrom u g vals 1 12 (these [])) ≡ lineOf us
+pub line-known : (us : List (List ℕ)) (vals : List ℕ) (g u : ℕ) → Held us vals g → getD vals 0 0 < noWord → members u 1 fieldCount ≡ used (getD vals 0 0)
+    → asks (getD vals 0 0) (takeFrom u g vals 1 fieldCount (these [])) ≡ lineOf us
 unfolding lineOf
 line-known [] vals g u c h m = absurd (no-values (c .whole))
 line-known (w ∷ ws) vals g u c h m =
     let e : getD vals 0 0 ≡ column w words = first-word w (c .number 0 (omega arith)) in
-    let f : takeAll (members u 1 12) ws ≡ takeFrom u g vals 1 12 (these []) = takeAll-from u g vals 1 12 ws (omega (arith, c .whole)) (λ k l. rw one-more (later c k l)) in
+    let f : takeAll (members u 1 fieldCount) ws ≡ takeFrom u g vals 1 fieldCount (these []) = takeAll-from u g vals 1 fieldCount ws (omega (arith, c .whole)) (λ k l. rw one-more (later c k l)) in
     rw (words-length, ← e, lt-ltb (getD vals 0 0) noWord h, ← m, f)

@@ -1,15 +1,14 @@
 -- A good names line is short: its values are different names, so that it is no longer than all names together.
---     names-short     a line whose values are the names has at most 255 bytes
+--     names-short     a good names line has at most 255 bytes
 -- Assumes nothing.
 use Prim.Native.Nat.{ℕ, suc, _+_, _≤_, _<_}
 use mathlib.Core.Path.{_≡_, refl, ap, sym, _∙_}
-use mathlib.Core.Bool.{Bool, true, false, cond, _&&_, _||_, true≢false}
+use mathlib.Core.Bool.{Bool, true, false, cond, _||_, true≢false}
 use mathlib.Core.List.{List, [], _∷_, map}
 use lib.Dec.{eqb}
 use lib.ListN.{length}
 use native.Mathlib.Omega.{arith}
-use Rattle.bitset.specs.Tests.{every}
-use Rattle.bitset.specs.Tests.Laws.{is-false, of-not-true, every-at}
+use Rattle.bitset.specs.Tests.Laws.{Each, is-false, of-not-true, every-e, every-at}
 use Rattle.script.specs.Text.{bytes, same, onto, values}
 use Rattle.script.specs.Names.{names, optionalNames, allNames, among, noneTwice, isNames}
 use Rattle.script.proofs.ByKey.{same-eq, same-self}
@@ -67,8 +66,7 @@ without-other p m (q ∷ qs) d h = go (same p q) refl (same m q) refl h (without
 
 -- ---- texts of which none stands twice, each among some others, span no more than the others
 abbrev Among : List (List ℕ) → List (List ℕ) → Type 0
-Among hs [] = Unit {0}
-Among hs (n ∷ ns) = (among hs n ≡ true) × Among hs ns
+Among hs ns = Each (map (among hs) ns)
 
 -- n, which is not p, is still among the others without p
 still : (p : List ℕ) (hs ns : List (List ℕ)) → among ns p ≡ false → Among hs ns → Among (without p hs) ns
@@ -88,16 +86,6 @@ bounded (n ∷ ns) hs d (here, a) =
     let s : span hs ≡ length n + 1 + span (without n hs) = without-span n hs here in
     omega (arith, bounded ns (without n hs) (every-at _ d 1) (still n hs ns (of-not-true _ (every-at _ d 0)) a))
 
-each-among : (hs ns : List (List ℕ)) → every (map (among hs) ns) ≡ true → Among hs ns
-unfolding every
-each-among hs [] h = tt
-each-among hs (n ∷ ns) h = go (among hs n) refl h (each-among hs ns)
-  where
-    go : (t : Bool) → among hs n ≡ t → (t && every (map (among hs) ns)) ≡ true → (every (map (among hs) ns) ≡ true → Among hs ns)
-        → (among hs n ≡ true) × Among hs ns
-    go true e h more = (e, more h)
-    go false e h more = absurd (true≢false (sym h))
-
 names-span : span allNames ≤ 256
 unfolding allNames names optionalNames bytes
 names-span = omega arith
@@ -105,5 +93,5 @@ names-span = omega arith
 pub names-short : (l : List ℕ) → isNames (values l) ≡ true → length l ≤ 255
 unfolding isNames
 names-short l h =
-    let b : span (values l) ≤ span allNames = bounded (values l) allNames (every-at _ h 2) (each-among allNames (values l) (every-at _ h 1)) in
+    let b : span (values l) ≤ span allNames = bounded (values l) allNames (every-at _ h 2) (every-e _ (every-at _ h 1)) in
     omega (arith, values-span l, names-span)

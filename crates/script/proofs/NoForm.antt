@@ -12,7 +12,7 @@ use borrow.Author.Tests.{ltb-true}
 use Rattle.script.specs.Text.{bytes, same}
 use Rattle.script.specs.Names.{column}
 use Rattle.script.specs.Line.{valueOf, words, used, Numbers, unreadable, joined, taken, takeAll, asks, lineOf}
-use Rattle.script.specs.Private.Rows.{coded, codeAt, members}
+use Rattle.script.specs.Private.Rows.{coded, codeAt, nameCount, fieldCount, members}
 use Rattle.script.specs.declared.line.Value.{Value}
 use Rattle.script.specs.declared.line.Value.the-variants.{Digits, Dash, Other}
 use Rattle.script.specs.declared.line.Line.the-variants.{Bad}
@@ -69,7 +69,7 @@ code-word-small w h = go (same w (bytes "-")) h
     go true h = omega arith
     go false h = omega (arith, column-most w words, words-length)
 
-pub line-none : (us : List (List ℕ)) (i : ℕ) → length us ≡ 13 → i < 13 → 100000 < codeAt i (getD us i []) → Bad ≡ lineOf us
+pub line-none : (us : List (List ℕ)) (i : ℕ) → length us ≡ nameCount → i < nameCount → 100000 < codeAt i (getD us i []) → Bad ≡ lineOf us
 unfolding lineOf asks
 line-none [] i t l h = absurd (no-values t)
 line-none (w ∷ ws) zero t l h = absurd (code-word-small w h)
@@ -80,7 +80,7 @@ line-none (w ∷ ws) (suc k) t l h = go (ltb (column w words) (length words)) re
 
     go : (b : Bool) → ltb (column w words) (length words) ≡ b → Bad ≡ cond b (asks (column w words) (takeAll (used (column w words)) ws)) Bad
     go true e =
-        let n : length (used (column w words)) ≡ 12 = sym (ap length (table-used (column w words) (omega (arith, ltb-true (column w words) (length words) e, words-length)))) ∙ members-length _ 1 12 in
+        let n : length (used (column w words)) ≡ fieldCount = sym (ap length (table-used (column w words) (omega (arith, ltb-true (column w words) (length words) e, words-length)))) ∙ members-length _ 1 fieldCount in
         bad (takeAll-other (used (column w words)) ws k (omega arith) (omega arith) none)
       where
         bad : {x : Numbers} → x ≡ unreadable → Bad ≡ asks (column w words) x

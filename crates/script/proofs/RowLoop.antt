@@ -7,12 +7,12 @@
 -- Assumes nothing.
 use Prim.Native.Nat.{ℕ, zero, suc, _+_, _≤_, _<_}
 use mathlib.Core.Path.{_≡_, refl, ap, sym, _∙_}
-use mathlib.Core.Bool.{Bool, true, false, _&&_}
+use mathlib.Core.Bool.{true, false, _&&_, and-false}
 use mathlib.Core.List.{List, [], _∷_}
 use native.Mathlib.Decide.{decLt}
 use native.Mathlib.Nat.{add-zero}
 use native.Mathlib.Omega.{arith}
-use lib.Dec.{eqb, leb}
+use lib.Dec.{leb}
 use lib.ListN.{length, getD, drop, length-drop}
 use lib.Seq.{getD-drop, drop-drop}
 use borrow.Author.Tests.{eqb-true, eqb-false, lt-leb, le-ltb}
@@ -33,13 +33,9 @@ fine-not at vs j zero l h = absurd (none l)
     none k = omega arith
 fine-not at vs j (suc n) l h = go (decLt j n) (λ k. fine-not at vs j n k h)
   where
-    last : (b : Bool) → (b && false) ≡ false
-    last true = refl
-    last false = refl
-
     go : Dec (j < n) → (j < n → fine at vs n ≡ false) → (fine at vs n && leb (codeIn at vs n) 100000) ≡ false
     go (yes k) ih = rw (ih k)
-    go (no k) ih = let e : n ≡ j = omega arith in rw (e, lt-leb (codeIn at vs j) 100000 h) (last (fine at vs j))
+    go (no k) ih = let e : n ≡ j = omega arith in rw (e, lt-leb (codeIn at vs j) 100000 h) (and-false (fine at vs j))
 
 -- ---- more values than there are places
 fills-over : (at : List ℕ) (n : ℕ) → 16 ≤ n → fills at n ≡ false
@@ -113,14 +109,10 @@ module _ {s at vals : List ℕ} {given from j : ℕ} (p : Filled s at vals given
     row-other {n} {g} o e =
         record {
           long = e ∙ before-rest 10 (f .end) s end-most;
-          whole = rw (fine-not at vs j (length vs) some (rw code-here (other-form (f .code) (sym (q .form) ∙ o)))) (last (fills at (length vs)));
+          whole = rw (fine-not at vs j (length vs) some (rw code-here (other-form (f .code) (sym (q .form) ∙ o)))) (sym (and-false (fills at (length vs))));
           holds = λ z. cc;
           marks = λ z. cc;
         }
-      where
-        last : (b : Bool) → false ≡ (b && false)
-        last true = refl
-        last false = refl
 
     -- a space behind it
     module _ (m : f .more ≡ true) where

@@ -6,7 +6,7 @@
 use Prim.Native.Nat.{ℕ, zero, suc, _%_, _≤_, _<_}
 use mathlib.Core.Path.{_≡_, refl, ap, sym, _∙_}
 use mathlib.Core.Bool.{Bool, true, false, cond, _&&_, and-eq-true-iff}
-use mathlib.Core.List.{List, [], _∷_}
+use mathlib.Core.List.{List, []}
 use native.Mathlib.Decide.{decLt}
 use native.Mathlib.Nat.{mod-eq-of-lt}
 use native.Mathlib.Omega.{arith}
@@ -19,8 +19,8 @@ use Rattle.bitset.specs.Sets.Laws.{has-none, has-with-same, has-with-other}
 use Rattle.bitset.specs.Tests.Laws.{none-below}
 use Rattle.script.specs.Text.{bytes, same}
 use Rattle.script.specs.Names.{under, Ordered}
-use Rattle.script.specs.Private.Rows.{codeAt, nameAt, codeIn, blank, gathered, marked, fine}
-use Rattle.script.proofs.NamePlaces.{placeOf, place-at, at-lt, at-place, under-at}
+use Rattle.script.specs.Private.Rows.{codeAt, nameAt, codeIn, nameCount, blank, gathered, marked, fine}
+use Rattle.script.proofs.NamePlaces.{there, placeOf, place-at, at-lt, at-place, under-at}
 
 -- ---- each value has a form
 module _ (at : List ℕ) (vs : List (List ℕ)) where
@@ -64,12 +64,6 @@ module _ (at : List ℕ) (vs : List (List ℕ)) where
 apart : {a b : ℕ} → a < b → a ≡ b → ⊥
 apart h e = omega arith
 
--- a value that is there, whatever stands behind the last
-there : (vs : List (List ℕ)) (k : ℕ) (d e : List ℕ) → k < length vs → getD vs k d ≡ getD vs k e
-there [] k d e l = absurd (none-below k l)
-there (v ∷ vs) zero d e l = refl
-there (v ∷ vs) (suc k) d e l = there vs k d e (omega arith)
-
 -- a dash has the code of a dash under every name
 dash-code : (i : ℕ) → codeAt i (bytes "-") ≡ 100000
 unfolding codeAt same bytes
@@ -108,7 +102,7 @@ module _ {h : List (List ℕ)} {at : List ℕ} (o : Ordered h at) (vs : List (Li
       go true ih = has-with-other (marked at vs n) (nameAt at n) i (other n i (omega arith) (later k)) ∙ ih
       go false ih = ih
 
-  module _ (i : ℕ) (l : i < 13) where
+  module _ (i : ℕ) (l : i < nameCount) where
     here : (n : ℕ) → n < length h → placeOf h i ≡ n → nameAt at n ≡ i
     here n b e = ap (λ (k : ℕ). getD at k 0 % 16) (sym e) ∙ ap (λ (k : ℕ). k % 16) (place-at o i l (rw e b)) ∙ mod-eq-of-lt (omega arith)
 
@@ -179,10 +173,10 @@ module _ {h : List (List ℕ)} {at : List ℕ} (o : Ordered h at) (vs : List (Li
         go (yes m) = rw (← code-under m) (fine-at at vs (length h) (placeOf h i) f m)
         go (no m) = omega (arith, code-lacking (omega arith))
 
-  pub row-none : fine at vs (length h) ≡ false → (i : ℕ) × (i < 13) × (100000 < codeAt i (getD (under h vs) i []))
+  pub row-none : fine at vs (length h) ≡ false → (i : ℕ) × (i < nameCount) × (100000 < codeAt i (getD (under h vs) i []))
   row-none f =
       let (k, l, m) = fine-none at vs (length h) f in
       let i = getD at k 0 in
-      let n : i < 13 = at-lt o k l in
+      let n : i < nameCount = at-lt o k l in
       let place : placeOf h i ≡ k = at-place o k l in
       (i, n, rw (← code-under i n (rw place l), place) m)

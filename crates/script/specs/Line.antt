@@ -76,7 +76,7 @@ isUsed (g ∷ gs) f = eqb (ordinal f) (ordinal g) || isUsed gs f
 unfoldable pub fields : List Field
 fields = seat ∷ user ∷ role ∷ entity ∷ parent ∷ kind ∷ name ∷ label ∷ label ∷ rights ∷ []
 
--- .. and behind `ceiling`
+-- the fields of the optional names, in their order
 unfoldable pub optionalFields : List Field
 optionalFields = shared ∷ []
 
@@ -86,7 +86,7 @@ unfoldable pub used : ℕ → List Bool
 used word =
     let uses = getD rules (callOf word) unknown .uses in
     cond (eqb word userWord)
-    (false ∷ true ∷ false ∷ false ∷ false ∷ false ∷ false ∷ true ∷ true ∷ false ∷ true ∷ false ∷ [])
+    ((false ∷ true ∷ false ∷ false ∷ false ∷ false ∷ false ∷ true ∷ true ∷ false ∷ true ∷ []) ++ map (λ f. false) optionalFields)
     (map (isUsed uses) fields ++ (false ∷ map (isUsed uses) optionalFields))
 
 -- ---- reading
@@ -134,7 +134,7 @@ asks word (these ns) =
     }))
 asks word unreadable = Bad
 
--- the values in the sample's order: the word, and the others
+-- the values in the order of all names: the word, and the others
 unfoldable pub lineOf : List (List ℕ) → Line
 lineOf [] = Bad
 lineOf (w ∷ vs) =

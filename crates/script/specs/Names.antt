@@ -49,15 +49,16 @@ unfoldable pub isNames : List (List ℕ) → Bool
 isNames header =
     every (every (map (among header) names) ∷ every (map (among allNames) header) ∷ noneTwice header ∷ [])
 
--- then lines of values in that order: the value under each name, in the sample's order, the field under a name that the line
--- lacks counting as a dash
+-- then lines of values in that order: the value under each name, in the sample's order and then that of the optional ones, the
+-- field under a name that the line lacks counting as a dash
 unfoldable pub under : List (List ℕ) → List (List ℕ) → List (List ℕ)
 under header vs = map (λ n. getD vs (column n header) (bytes "-")) allNames
 
--- `at` tells for each place of the header which name stands there, and for those behind its last that none does
+-- The order is kept in sixteen places.
 abbrev pub placeCount : ℕ
 placeCount = 16
 
+-- `at` tells for each place which name of the header stands there. Behind the header's last stands the empty text, which is none.
 pub record Ordered (header : List (List ℕ)) (at : List ℕ) : Type 0 where
   pub good : isNames header ≡ true
   pub place : (j : ℕ) → j < placeCount → getD at j 0 ≡ column (getD header j []) allNames

@@ -98,7 +98,7 @@ fn is_allowed(l: Line, shut: bool) -> bool
 // Whole lines from the front of `s`, at most so many, up to a `user` line that is allowed.
 pub fn gather(
     s: &[u8],
-    at: [u8; limits::VALUES],
+    at: [u8; limits::PLACES],
     most: usize,
     shut: bool,
     rows: &mut [u32],

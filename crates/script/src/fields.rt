@@ -4,7 +4,7 @@ ghost use mathlib.Core.Path.{_≡_};
 ghost use mathlib.Core.List.{[]};
 ghost use Rattle.bitset.specs.Sets.{has};
 ghost use Rattle.script.specs.Line.{Numbers, these, used, asks};
-ghost use Rattle.script.specs.Private.Rows.{noWord, takenAs, takeFrom, ahead, members};
+ghost use Rattle.script.specs.Private.Rows.{noWord, fieldCount, takenAs, takeFrom, ahead, members};
 use crate::limits;
 use crate::line::Line;
 use guard::Request;
@@ -56,7 +56,7 @@ const USES: [u16; limits::WORDS] = [
 
 pub fn uses(word: u32) -> u16
     requires { ⌜ word < noWord ⌝ }
-    ensures { λ r. ⌜ members r 1 12 ≡ used word ⌝ }
+    ensures { λ r. ⌜ members r 1 fieldCount ≡ used word ⌝ }
 {
     USES[word as usize]
 }
@@ -77,7 +77,7 @@ fn field(n: u32, given: u16, uses: u16, i: u32) -> Taken
 }
 
 // The first six fields.
-pub fn first(vals: &[u32; limits::VALUES], given: u16, uses: u16) -> Half
+pub fn first(vals: &[u32; limits::PLACES], given: u16, uses: u16) -> Half
     ensures { λ r. ⌜ ((rest : Numbers) → takeFrom uses given (now (vals .entry)) 1 6 rest ≡ ahead r rest) ⌝ }
 {
     let Taken::Number(seat) = field(vals[1], given, uses, 1) else {
@@ -109,7 +109,7 @@ pub fn first(vals: &[u32; limits::VALUES], given: u16, uses: u16) -> Half
 }
 
 // The other six, and what the line asks.
-pub fn second(word: u32, six: Six, vals: &[u32; limits::VALUES], given: u16, uses: u16) -> Line
+pub fn second(word: u32, six: Six, vals: &[u32; limits::PLACES], given: u16, uses: u16) -> Line
     ensures { λ r. ⌜ r ≡ asks word (ahead (Half.Numbers six) (takeFrom uses given (now (vals .entry)) 7 6 (these []))) ⌝ }
 {
     let Taken::Number(name) = field(vals[7], given, uses, 7) else {

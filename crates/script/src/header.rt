@@ -10,14 +10,14 @@ use crate::text;
 // none does.
 pub struct Order {
     pub good: bool,
-    pub at: [u8; limits::VALUES],
+    pub at: [u8; limits::PLACES],
 }
 
 // `seen` is the set of the names so far, and of what is none: no name of a good line is in it when it comes.
 pub fn header(s: &[u8]) -> Order
     ensures { λ r. ⌜ (r .good ≡ isNames (values (now (s .entry)))) × (r .good ≡ true → Ordered (values (now (s .entry))) (r .at)) ⌝ }
 {
-    let mut at = [limits::NO_NAME; limits::VALUES];
+    let mut at = [limits::NO_NAME; limits::PLACES];
     let mut seen = bitset::with16(0, limits::NO_NAME as u32);
     let mut from = 0;
     let mut j = 0;

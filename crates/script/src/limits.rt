@@ -7,13 +7,13 @@ pub const NO_NAME: u8 = 13;
 
 pub const FIXED_NAMES: u16 = 4095;
 
-// Room for a place or a value of each name and of none; any byte has a place there by its remainder.
-pub const VALUES: usize = 16;
+// Places for what stands under each name, and for which name stands where; any byte has one by its remainder.
+pub const PLACES: usize = 16;
 
-pub const PLACES: u8 = VALUES as u8;
+pub const PLACE_COUNT: u8 = PLACES as u8;
 
 // The last of them, where no name of a line of names stands.
-pub const LAST_PLACE: usize = VALUES - 1;
+pub const LAST_PLACE: usize = PLACES - 1;
 
 // The words: `user`, which stands in front, and one for each kind of request of the guard.
 pub const KINDS: usize = kinds::KINDS as usize;

@@ -35,16 +35,16 @@ pub struct Front {
 }
 
 // The row of no values: no word, and 0 under each other name.
-fn empty() -> [u32; limits::VALUES]
+fn empty() -> [u32; limits::PLACES]
     ensures { λ r. ⌜ r ≡ blank ⌝ }
 {
-    let mut vals = [0u32; limits::VALUES];
+    let mut vals = [0u32; limits::PLACES];
     vals[0] = limits::NO_WORD;
     vals
 }
 
 // What the line of a row asks.
-fn asked(row: Row, vals: &[u32; limits::VALUES]) -> Line
+fn asked(row: Row, vals: &[u32; limits::PLACES]) -> Line
     ensures { λ r. ⌜ ((h : List (List ℕ)) (at l : List ℕ) → Ordered h at → IsRow at l (now (vals .entry)) row → r ≡ readLine h l) ⌝ }
 {
     if !row.good | (limits::LONGEST < row.len) {
@@ -62,7 +62,7 @@ fn asked(row: Row, vals: &[u32; limits::VALUES]) -> Line
 }
 
 // The line at the front of `s`, up to byte 10 or the end, under a good header.
-pub fn next(s: &[u8], at: &[u8; limits::VALUES]) -> Front
+pub fn next(s: &[u8], at: &[u8; limits::PLACES]) -> Front
     ensures { λ r. ⌜ (r .len ≡ length (before 10 (now (s .entry)))) × ((h : List (List ℕ)) → Ordered h (now (at .entry)) → r .asked ≡ readLine h (before 10 (now (s .entry)))) ⌝ }
 {
     let mut vals = empty();

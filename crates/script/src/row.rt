@@ -172,16 +172,17 @@ fn code_at(s: &[u8], from: usize, i: u32) -> Found
 }
 
 // Whether `j` is the last place with a name.
-fn is_last(at: &[u8; limits::VALUES], j: usize) -> bool
+fn is_last(at: &[u8; limits::PLACES], j: usize) -> bool
     requires { ⌜ j + 1 < placeCount ⌝ }
     ensures { λ r. ⌜ r ≡ fills (now (at .entry)) (j + 1) ⌝ }
 {
-    (at[j] % limits::PLACES < limits::NO_NAME) & (at[j + 1] % limits::PLACES == limits::NO_NAME)
+    (at[j] % limits::PLACE_COUNT < limits::NO_NAME)
+        & (at[j + 1] % limits::PLACE_COUNT == limits::NO_NAME)
 }
 
-// The row of the line at the front of `s`, in one pass. A dash leaves the row as it is. The numbers in `at` are below 16; the
-// remainder keeps any other in the row.
-pub fn read_row(s: &[u8], at: &[u8; limits::VALUES], vals: &mut [u32; limits::VALUES]) -> Row
+// The row of the line at the front of `s`, in one pass. A dash leaves the row as it is. The numbers that a good line of
+// names puts in `at` are below 16; the remainder keeps any other in the row.
+pub fn read_row(s: &[u8], at: &[u8; limits::PLACES], vals: &mut [u32; limits::PLACES]) -> Row
     requires { ⌜ now vals ≡ blank ⌝ }
     ensures { λ r. ⌜ IsRow (now (at .entry)) (before 10 (now (s .entry))) (now (vals .exit)) r ⌝ }
 {
@@ -204,7 +205,7 @@ pub fn read_row(s: &[u8], at: &[u8; limits::VALUES], vals: &mut [u32; limits::VA
                 len: text::end_of(s, from),
             };
         }
-        let i = (at[j] % limits::PLACES) as u32;
+        let i = (at[j] % limits::PLACE_COUNT) as u32;
         let f = code_at(s, from, i);
         let end = f.end;
         if f.form == 0 {

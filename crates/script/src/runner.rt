@@ -12,9 +12,8 @@ use guard::Label;
 use guard::Tables;
 use guard::User;
 use guard::sizes;
-ghost use Prim.Native.Nat.{_+_, _≤_, _<_};
+ghost use Prim.Native.Nat.{_≤_, _<_};
 ghost use mathlib.Core.Path.{_≡_};
-ghost use mathlib.Core.Bool.{true, false};
 ghost use lib.ListN.{length};
 ghost use Rattle.script.specs.Report.{lineRoom, lastLine};
 ghost use Rattle.script.specs.Private.Slices.{before};
@@ -37,7 +36,7 @@ const AT_END: u8 = 3;
 pub struct Runner {
     tables: Tables,
     shut: bool,
-    at: [u8; limits::VALUES],
+    at: [u8; limits::PLACES],
     phase: u8,
     done: u32,
     skip: bool,
@@ -112,7 +111,7 @@ impl Runner {
         Runner {
             tables,
             shut: false,
-            at: [0u8; limits::VALUES],
+            at: [0u8; limits::PLACES],
             phase: AT_HEADING,
             done: 0,
             skip: false,

@@ -14,7 +14,7 @@ use borrow.Author.Tests.{eqb-true, eqb-false}
 use Rattle.bitset.specs.Tests.{every}
 use Rattle.guard.specs.Label.{allCategories}
 use Rattle.guard.specs.Sound.{soundIn}
-use Rattle.guard.specs.Refusals.{_when_, first}
+use Rattle.guard.specs.Refusals.{first}
 use Rattle.guard.specs.Requests.{Rule, fieldInRangeIn, unknown, rules, ruleOf}
 use Rattle.guard.specs.Step.{inRangesIn, answerIn, nextIn}
 use Rattle.guard.specs.declared.Tables.{Tables}

@@ -30,9 +30,9 @@ use Rattle.guard.proofs.Soundness.Members.{within-mask}
 
 -- ---- an entity
 
-four-tests : (a b c d : Bool) → (a && (b && (c && d))) ≡ every (a ∷ b ∷ c ∷ d ∷ [])
+in-chain : (a b c d : Bool) → (a && (b && (c && d))) ≡ every (a ∷ b ∷ c ∷ d ∷ [])
 unfolding every
-four-tests a b c d = simp and-true
+in-chain a b c d = simp and-true
 
 -- a mark of at most the kind: 0 for an object, at most 1 for a container
 mark-fits : (k m : ℕ) → k ≤ 1 → leb m k ≡ every (leb m 1 ∷ implies (eqb k 0) (eqb m 0) ∷ [])
@@ -57,7 +57,7 @@ entity-fits n r name label = both _ _ forth back
   where
     forth : (leb (n .kind) 1 && (leb (n .shared) (n .kind) && (ltb (n .parent) 64 && r))) ≡ true → entityFits n ≡ true
     forth t =
-        let four = every-at (leb (n .kind) 1 ∷ leb (n .shared) (n .kind) ∷ ltb (n .parent) 64 ∷ r ∷ []) (sym (four-tests _ _ _ r) ∙ t) in
+        let four = every-at (leb (n .kind) 1 ∷ leb (n .shared) (n .kind) ∷ ltb (n .parent) 64 ∷ r ∷ []) (sym (in-chain _ _ _ r) ∙ t) in
         let marks = every-at _ (sym (mark-fits (n .kind) (n .shared) (leb-true _ _ (four 0))) ∙ four 1) in
         every-i _ (every-i _ (four 0, (four 2, (name, (sym label ∙ four 3, (marks 0, tt))))), (marks 1, tt))
 
@@ -65,7 +65,7 @@ entity-fits n r name label = both _ _ forth back
     back t =
         let range = every-at _ (every-at _ t 0) in
         let marks : every (leb (n .shared) 1 ∷ implies (eqb (n .kind) 0) (eqb (n .shared) 0) ∷ []) ≡ true = every-i _ (range 4, (every-at _ t 1, tt)) in
-        four-tests _ _ _ r
+        in-chain _ _ _ r
         ∙ every-i _ (range 0, (mark-fits (n .kind) (n .shared) (leb-true _ _ (range 0)) ∙ marks, (range 1, (label ∙ range 3, tt))))
 
 module _ (e : ℕ) (n p : Entity) where
@@ -114,20 +114,20 @@ module _ (set r : ℕ) (p : Role) where
 
 -- ---- a session
 
-four : (a b c d : Bool) → every (a ∷ b ∷ c ∷ d ∷ []) ≡ ((a && b) && (c && d))
+in-pairs : (a b c d : Bool) → every (a ∷ b ∷ c ∷ d ∷ []) ≡ ((a && b) && (c && d))
 unfolding every
-four true b c d = simp and-true
-four false b c d = refl
+in-pairs true b c d = simp and-true
+in-pairs false b c d = refl
 
 module _ (labels : List ℕ) (roles level : ℕ) (s : Session) where
   pub session-dead : (r : Bool) → s .live ≡ false → r ≡ isEmptySession s → r ≡ sessionTest labels roles level s
   session-dead r dead e = cond-no (s .live) _ _ _ dead e
 
   pub session-out : (p q : Bool) → s .live ≡ true → p ≡ sessionInRange s → q ≡ contains roles (s .roles) → not (p && q) ≡ true → false ≡ sessionTest labels roles level s
-  session-out p q live e f h = cond-yes (s .live) _ _ _ live (rw (four, ← e, ← f, of-not-true (p && q) h))
+  session-out p q live e f h = cond-yes (s .live) _ _ _ live (rw (in-pairs, ← e, ← f, of-not-true (p && q) h))
 
   pub session-away : (l : Bool) → s .live ≡ true → l ≡ openLevels level s → not l ≡ true → false ≡ sessionTest labels roles level s
-  session-away l live e h = cond-yes (s .live) _ _ _ live (rw (four, ← e, of-not-true l h) (simp (and-false)))
+  session-away l live e h = cond-yes (s .live) _ _ _ live (rw (in-pairs, ← e, of-not-true l h) (simp (and-false)))
 
   pub session-last : (p q l r : Bool) → s .live ≡ true → p ≡ sessionInRange s → q ≡ contains roles (s .roles) → not (p && q) ≡ false → l ≡ openLevels level s → not l ≡ false → r ≡ openLabels labels s → r ≡ sessionTest labels roles level s
-  session-last p q l r live e f h g k i = cond-yes (s .live) _ _ _ live (rw (four, ← e, ← f, of-not-false (p && q) h, ← g, of-not-false l k) i)
+  session-last p q l r live e f h g k i = cond-yes (s .live) _ _ _ live (rw (in-pairs, ← e, ← f, of-not-false (p && q) h, ← g, of-not-false l k) i)

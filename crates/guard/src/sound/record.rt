@@ -97,8 +97,8 @@ fn fits_in(e: u8, n: Entity, p: Entity) -> bool
 }
 
 // Whether the entity `e`, whose record is `n` and whose parent's is `p`, is as soundness asks, but for its name among its
-// siblings and its chain of parents. One that is not live is no root and is empty; the ranges of a root and of an empty
-// record follow.
+// siblings and its chain of parents. One that is not live is no root and is empty; its ranges follow, and those of a root but
+// for its mark.
 fn entity_ok(e: u8, n: Entity, p: Entity) -> bool
     ensures { λ r. ⌜ r ≡ entityTest e n p ⌝ }
 {

@@ -71,9 +71,12 @@ unfoldable pub fine : List ℕ → List (List ℕ) → ℕ → Bool
 fine at vs zero = true
 fine at vs (suc j) = fine at vs j && leb (codeIn at vs j) 100000
 
--- what is none of the names has the place behind the last: how many names there are
+-- what is none of the names has the place behind the last: how many names there are, and how many behind `call`
 abbrev pub nameCount : ℕ
 nameCount = 13
+
+abbrev pub fieldCount : ℕ
+fieldCount = 12
 
 -- so many values are as many as there are names: a name stands at the last place, and none at the next
 unfoldable pub fills : List ℕ → ℕ → Bool

@@ -23,7 +23,7 @@ use Rattle.guard.proofs.Logs.{batch-room, batch-rows}
 use Rattle.guard.proofs.Columns.{keys-set, keys-other, grants-other, grants-role, grants-each}
 use Rattle.guard.proofs.Seen.{parent-in, seen-of}
 use Rattle.guard.proofs.Answers.{done-in-range}
-use Rattle.guard.proofs.Stored.{told, session-stored, create-stored, delete-stored, kept-stored, role-stored, unmake-stored}
+use Rattle.guard.proofs.Stored.{told, session-stored, create-stored, delete-stored, alone-stored, role-stored, unmake-stored}
 use Rattle.guard.proofs.Turns.{Held, held-none, held-more, held-length, held-all, no-batch, unsound-batch, Stepped, refuses, does}
 use Rattle.guard.proofs.Tables.run.Statement.{statement}
 use Rattle.guard.proofs.Tables.run.Tie as tie
@@ -348,7 +348,7 @@ loop-again-4 c =
     let key = kept c in
     let f = key .before in
     let d = entity-done key in
-    turned (d .before) _ (does-so d _ (kept-stored _ _ (zero d) _ (near d) (told-entity (f .before)) (c .before .before .if4 .left) (c .if5 .left) _ (f .after2 .ensures))) _ _
+    turned (d .before) _ (does-so d _ (alone-stored _ _ (zero d) _ (near d) (told-entity (f .before)) (c .before .before .if4 .left) (c .if5 .left) _ (f .after2 .ensures))) _ _
     (keys-set _ _ (keys-at (d .before .before)) _ (many d .manyEntities) _ (near d .entity .small) _ _ (key .key .ensures) refl)
     (grants-other _ _ (grants-at (d .before .before)) _ refl)
 

@@ -14,7 +14,7 @@ use Rattle.guard.specs.Private.Inside.{asksWay, asksName, asksRights}
 use Rattle.guard.specs.Private.InForce.{inRanges}
 use Rattle.guard.proofs.Laws.Refusals.{alike-first}
 use Rattle.guard.proofs.Ranges.{in-login, in-logout, in-take, in-drop, in-openr, in-openw, in-close, in-create, in-delete, in-rename, in-grant, in-revoke, in-list, in-unlist, in-make, in-unmake, in-share}
-use Rattle.guard.proofs.Answers.{out-of-range, by-rule, none-of-them}
+use Rattle.guard.proofs.Answers.{out-of-range, by-rule, unknown-number}
 use Rattle.guard.proofs.judge.judge.Statement.{statement}
 use Rattle.guard.proofs.judge.judge.Tie as tie
 
@@ -186,7 +186,7 @@ returns-18 c = λ t seen.
     by-rule t _ _ 16 (c .before .match .keys17) (fits (c .before .before)) (c .share-refusal .ensures ∙ rw (seen .session (r .0), seen .entity (r .1), seen .rights (ap asksRights (c .before .match .keys17)) (r .0) .owns _ (r .1)))
 
 returns-19 : tie.Need-returns-19
-returns-19 c = λ t seen. none-of-them t _ (c .match .rest)
+returns-19 c = λ t seen. unknown-number t _ (c .match .rest)
 
 pub judge-spec : {M : Type 1} → statement M
 judge-spec =

@@ -1,5 +1,5 @@
--- `script::header::header` meets its contract. The loop's invariant: the names so far, and the set of those seen and of what is none. The measure
--- is what is left of the line. Assumes nothing.
+-- `script::header::header` meets its contract. The loop's invariant: the names so far, and the set of those seen and of what is
+-- none. The measure is what is left of the line. Assumes nothing.
 use Prim.Native.Nat.{_-_}
 use mathlib.Core.Path.{_≡_, sym, ap, _∙_}
 use native.Mathlib.Nat.{mod-eq-of-lt}
@@ -58,7 +58,7 @@ named c = c .before
 abbrev turn : tie.After-name-at Inv-loop μ-loop → tie.At-loop Inv-loop μ-loop
 turn c = c .before .before .before .before
 
--- a name's place is below sixteen
+-- whether it has come, or is none
 in-set : (c : tie.After-has16 Inv-loop μ-loop) → c .has16 .result ≡ has (turn (named c) .loop .seen) (named c .name-at .result)
 in-set c = c .has16 .ensures
 
@@ -77,6 +77,7 @@ cast-with16-2 c = search needs
 with16-requires-2 : tie.Need-with16-requires-2 Inv-loop μ-loop
 with16-requires-2 c κs = search needs
 
+-- a name's place is below sixteen
 added : (c : tie.After-with162 Inv-loop μ-loop) → c .with162 .result ≡ with (turn (named (c .before .before)) .loop .seen) (named (c .before .before) .name-at .result)
 added c = c .with162 .ensures ∙ ap (with _) (mod-eq-of-lt (name-fits _ _ (named (c .before .before) .name-at .ensures)))
 
