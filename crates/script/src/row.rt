@@ -22,8 +22,8 @@ pub struct Found {
     pub more: bool,
 }
 
-// A row: good where the line has as many values as there are names, each of a form; then `given` is the set of the names whose value is a
-// number. `len` is the line's length.
+// A row: good where the line has as many values as there are names, each of a form; then `given` is the set of the names whose
+// value is a number. `len` is the line's length.
 pub struct Row {
     pub good: bool,
     pub given: u16,
