@@ -44,7 +44,7 @@ module _ {h : List (List ℕ)} {at l vals : List ℕ} {r : Row} (o : Ordered h a
   unfolding under
   count = length-map allNames _ ∙ names-length
 
-  -- so many values as names
+  -- as many values as names
   filled : fills at (length (values l)) ≡ eqb (length (values l)) (length h)
   filled = go (length (values l)) (values-some l)
     where

@@ -3,12 +3,12 @@
 --     twice-e, twice-i                                        names of which none stands twice
 --     names-at, names-length, no-name                         the names are different, and none is empty
 --     twelve, twelve-at                                       the twelve stand in front
---     there, map-at                                           an element of a list, and of a list of results
+--     any-default, map-at                                     an element of a list, and of a list of results
 --     named-alike                                             two texts at one place among the names
---     Different, different-few                                        different names, of which there are no more than thirteen
+--     Different, different-few                                different names, of which there are no more than thirteen
 --     name-among, name-known, name-apart, names-most          a good header: the twelve are among it, each is a name, none stands twice
 --     placeOf, place-at, at-lt, at-place                      `at` and the place of a name are inverse
---     fills-names                                             so many values as names
+--     fills-names                                             as many values as names
 --     under-at                                                the value under a name
 -- Assumes nothing.
 use Prim.Native.Nat.{ℕ, zero, suc, _≤_, _<_}
@@ -106,13 +106,13 @@ unfolding allNames
 twelve-at i l = ap (λ (p : List ℕ). column p allNames) (sym (List·getD-append names optionalNames [] i (rw twelve l))) ∙ names-at i (omega arith)
 
 -- an element that is there, whatever stands behind the last
-pub there : {A : Type 0} (l : List A) (i : ℕ) (d e : A) → i < length l → getD l i d ≡ getD l i e
-there [] i d e h = absurd (none-below i h)
-there (x ∷ l) zero d e h = refl
-there (x ∷ l) (suc i) d e h = there l i d e (omega arith)
+pub any-default : {A : Type 0} (l : List A) (i : ℕ) (d e : A) → i < length l → getD l i d ≡ getD l i e
+any-default [] i d e h = absurd (none-below i h)
+any-default (x ∷ l) zero d e h = refl
+any-default (x ∷ l) (suc i) d e h = any-default l i d e (omega arith)
 
 map-at : {A B : Type 0} (f : A → B) (l : List A) (i : ℕ) (d : A) (e : B) → i < length l → getD (map f l) i e ≡ f (getD l i d)
-map-at f l i d e h = there (map f l) i e (f d) (rw (length-map l f) h) ∙ List·getD-map f l i d
+map-at f l i d e h = any-default (map f l) i e (f d) (rw (length-map l f) h) ∙ List·getD-map f l i d
 
 -- two texts at one place among the names are the same
 pub named-alike : (p q : List ℕ) → column p allNames ≡ column q allNames → column q allNames < nameCount → p ≡ q

@@ -20,7 +20,7 @@ use Rattle.bitset.specs.Tests.Laws.{none-below}
 use Rattle.script.specs.Text.{bytes, same}
 use Rattle.script.specs.Names.{under, Ordered}
 use Rattle.script.specs.Private.Rows.{codeAt, nameAt, codeIn, nameCount, blank, gathered, marked, fine}
-use Rattle.script.proofs.NamePlaces.{there, placeOf, place-at, at-lt, at-place, under-at}
+use Rattle.script.proofs.NamePlaces.{any-default, placeOf, place-at, at-lt, at-place, under-at}
 
 -- ---- each value has a form
 module _ (at : List ℕ) (vs : List (List ℕ)) where
@@ -145,7 +145,7 @@ module _ {h : List (List ℕ)} {at : List ℕ} (o : Ordered h at) (vs : List (Li
     -- the name stands in the header, or its field counts as a dash
     code-under : placeOf h i < length h → codeIn at vs (placeOf h i) ≡ codeAt i (getD (under h vs) i [])
     unfolding codeIn
-    code-under m = rw (here (placeOf h i) m refl, under-at o vs i l) (ap (codeAt i) (there vs (placeOf h i) [] (bytes "-") (rw many m)))
+    code-under m = rw (here (placeOf h i) m refl, under-at o vs i l) (ap (codeAt i) (any-default vs (placeOf h i) [] (bytes "-") (rw many m)))
 
     code-lacking : length h ≤ placeOf h i → codeAt i (getD (under h vs) i []) ≡ 100000
     code-lacking m = ap (codeAt i) (under-at o vs i l ∙ List·getD-eq-default vs (bytes "-") {n = placeOf h i} (rw many m)) ∙ dash-code i
