@@ -1,5 +1,5 @@
-// Tables in records of the old width, in which a set of categories has eight bits, and an entity no mark: of a larger set the
-// lower eight are left.
+// Tables in records of the old width, in which a set of categories has eight bits, an entity no mark and the tables no edition: of
+// a larger set the lower eight are left.
 use guard::Entity;
 use guard::Label;
 use guard::Session;

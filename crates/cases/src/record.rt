@@ -1,5 +1,6 @@
 // Records as rows of eight numbers: a record's fields in order, and 0 behind them. A set is its number, a live mark is 1. The
-// kinds of records are numbered seat 0, user 1, role 2 and entity 3.
+// kinds of records are numbered seat 0, user 1, role 2 and entity 3; what the tables hold beside them, the edition, is a record
+// of kind 4.
 use guard::Entity;
 use guard::Role;
 use guard::Session;
@@ -64,6 +65,10 @@ fn entity_row(x: Entity) -> [u64; 8] {
     ]
 }
 
+fn tables_row(t: Tables) -> [u64; 8] {
+    [t.edition as u64, 0, 0, 0, 0, 0, 0, 0]
+}
+
 fn with_session(mut x: Session, field: usize, n: u64) -> Session {
     let byte = (n % 256) as u8;
     let bytes = (n % 65536) as u16;
@@ -123,7 +128,11 @@ fn with_entity(mut x: Entity, field: usize, n: u64) -> Entity {
 
 // How many records of a kind there are.
 pub fn count(kind: usize) -> usize {
-    if kind == 3 { 64 } else { 16 }
+    match kind {
+        3 => 64,
+        4 => 1,
+        _ => 16,
+    }
 }
 
 // Record `i` of a kind, counted round.
@@ -132,7 +141,8 @@ pub fn row(t: Tables, kind: usize, i: usize) -> [u64; 8] {
         0 => session_row(t.sessions[i % 16]),
         1 => user_row(t.users[i % 16]),
         2 => role_row(t.roles[i % 16]),
-        _ => entity_row(t.entities[i % 64]),
+        3 => entity_row(t.entities[i % 64]),
+        _ => tables_row(t),
     }
 }
 
@@ -158,9 +168,14 @@ pub fn with(mut t: Tables, kind: usize, i: usize, field: usize, n: u64) -> Table
             let x = with_role(t.roles[j], field, n);
             t.roles[j] = x;
         }
-        _ => {
+        3 => {
             let x = with_entity(t.entities[i % 64], field, n);
             t.entities[i % 64] = x;
+        }
+        _ => {
+            if field == 0 {
+                t.edition = (n % 256) as u8;
+            }
         }
     }
     t
@@ -196,5 +211,5 @@ pub fn changed(a: Tables, b: Tables, kind: usize) -> u64 {
 pub fn same_tables(a: Tables, b: Tables) -> bool {
     let places = changed(a, b, 3) | changed(a, b, 2);
     let people = changed(a, b, 1) | changed(a, b, 0);
-    places | people == 0
+    (places | people) | changed(a, b, 4) == 0
 }

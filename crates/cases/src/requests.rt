@@ -10,10 +10,10 @@ use guard::Request;
 use guard::Tables;
 
 impl State {
-    // `fresh`: the tables are built anew over the users as they are; and what is not as in the tables kept.
+    // `fresh`: the tables are built anew over the users and in the edition that they have; and what is not as in the tables kept.
     pub fn fresh(self, name: &[u8]) -> State {
         let users = self.now.users;
-        let o = Tables::fresh(users);
+        let o = Tables::fresh(users, self.now.edition);
         if name.len() != 0 {
             show::answer(name, o.answer);
             show::changes(self.kept, o.tables);

@@ -12,29 +12,29 @@ const CHANGED: usize = 2;
 // From each of these on, one for each kind of record: those that changed, a record's number, and its fields.
 const SETS: usize = 3;
 
-const NUMBERS: usize = 7;
+const NUMBERS: usize = 8;
 
-const RECORDS: usize = 11;
+const RECORDS: usize = 13;
 
-pub const END: usize = 15;
+pub const END: usize = 18;
 
-pub const BROKEN: usize = 16;
+pub const BROKEN: usize = 19;
 
-pub const PAST: usize = 17;
+pub const PAST: usize = 20;
 
-pub const MOST: usize = 18;
+pub const MOST: usize = 21;
 
-pub const UNSOUND: usize = 19;
+pub const UNSOUND: usize = 22;
 
-pub const ONE: usize = 20;
+pub const ONE: usize = 23;
 
-pub const COLON: usize = 21;
+pub const COLON: usize = 24;
 
-pub const ANSWERS: usize = 22;
+pub const ANSWERS: usize = 25;
 
-pub const UNREAD: usize = 23;
+pub const UNREAD: usize = 26;
 
-pub const BY_METHOD: usize = 24;
+pub const BY_METHOD: usize = 27;
 
 pub fn word(text: &[u8]) {
     io::write_all(libc::STDOUT_FILENO, text);
@@ -108,12 +108,13 @@ fn passed(p: Place, b: u8, row: [u64; 8]) -> Place {
 
 // Text `k` with the row's numbers in it, in order.
 pub fn form(k: usize, row: [u64; 8]) {
-    let list: &[u8] = b": @| kept| changed| seats #| users #| roles #| entities #|\
-        \x20 seat @|  user @|  role @|  entity @|\
+    let list: &[u8] = b": @| kept| changed| seats #| users #| roles #| entities #| edition|\
+        \x20 seat @|  user @|  role @|  entity @|  tables|\
         *, user @, label @/@, roles #, reading #, writing #\n|\
         , ceiling @, clearance @/@\n|\
         *, users #, reads #, writes #, executes #, owns #\n|\
         *, kind @, parent @, name @, label @/@, shared @\n|\
+        , edition @\n|\
         \n|; broken|; past|; most|; unsound @\n| @|:|; answers| line @: not read, or not done\n|by the method @, by step @;|";
     let mut p = Place { left: k, at: 0 };
     let mut i = 0usize;
@@ -137,14 +138,14 @@ pub fn say(k: usize) {
 }
 
 pub fn record(t: Tables, kind: usize, i: usize) {
-    form(NUMBERS + kind % 4, one(i as u64));
-    form(RECORDS + kind % 4, record::row(t, kind, i));
+    form(NUMBERS + kind % 5, one(i as u64));
+    form(RECORDS + kind % 5, record::row(t, kind, i));
 }
 
 // The records that differ.
 pub fn records(a: Tables, b: Tables) {
     let mut kind = 0usize;
-    while kind < 4 {
+    while kind < 5 {
         let set = record::changed(a, b, kind);
         if set != 0 {
             form(SETS + kind, one(set));

@@ -24,14 +24,14 @@ struct Place {
     good: bool,
 }
 
-// Fresh tables over sixteen users of ceiling 0 and clearance 0/0.
+// Fresh tables of edition 1 over sixteen users of ceiling 0 and clearance 0/0.
 fn nobody() -> Tables {
     let clearance = Label { cats: 0, grade: 0 };
     let none = User {
         ceiling: 0,
         clearance,
     };
-    let o = Tables::fresh([none; 16]);
+    let o = Tables::fresh([none; 16], 1);
     o.tables
 }
 
@@ -46,7 +46,7 @@ fn record_at(s: &[u8], from: usize) -> Place {
         i,
         field: 0,
         end: n.end,
-        good: n.decimal & ((kind < 4) & (i < record::count(kind))),
+        good: n.decimal & ((kind < 5) & (i < record::count(kind))),
     }
 }
 
@@ -54,7 +54,7 @@ fn record_at(s: &[u8], from: usize) -> Place {
 fn field_at(s: &[u8], from: usize) -> Place {
     let mut p = record_at(s, from);
     let word = text::next(s, p.end);
-    p.field = text::place(text::RECORDS + 8 * (p.kind % 4), word.key);
+    p.field = text::place(text::RECORDS + 8 * (p.kind % 5), word.key);
     p.end = word.end;
     p.good = p.good & (p.field < 8);
     p
@@ -86,7 +86,7 @@ impl State {
         self
     }
 
-    // `clear`, `keep` and `back`: fresh tables over sixteen users of 0, with no request gathered; the tables are kept; and the
+    // `clear`, `keep` and `back`: fresh tables of edition 1 over sixteen users of 0, with no request gathered; the tables are kept; and the
     // tables are those that were kept.
     pub fn tables(mut self, verb: usize) -> State {
         if verb == 0 {

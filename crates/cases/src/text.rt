@@ -11,12 +11,12 @@ pub struct Word {
 }
 
 // Where groups of words begin in the list of `place`, which begins with the seventeen requests: the verbs; the kinds of
-// records, seat, user, role and entity; and the fields of each kind's records, eight places for each.
+// records, seat, user, role, entity and tables; and the fields of each kind's records, eight places for each.
 pub const VERBS: usize = 17;
 
 pub const KINDS: usize = 33;
 
-pub const RECORDS: usize = 37;
+pub const RECORDS: usize = 38;
 
 fn wide(b: u8) -> u64 {
     b as u64
@@ -47,11 +47,12 @@ pub fn place(from: usize, key: u64) -> usize {
     let list: &[u8] =
         b"login logout take drop openr openw close create delete rename grant revoke list unlist make unmake share \
         clear keep back fresh old set with show say compare gather run do ask broken edge \
-        seat user role entity \
+        seat user role entity tables \
         live user grade cats roles reading writing - \
         ceiling grade cats - - - - - \
         live users reads writes executes owns - - \
-        live kind parent name grade cats shared - ";
+        live kind parent name grade cats shared - \
+        edition - - - - - - - ";
     let mut s = Spot { word: 0, before: 0 };
     let mut i = 0usize;
     while i < list.len() {

@@ -4,7 +4,7 @@ use Rattle.bitset.specs.Sets.{has, join, minus, contains, with, without}
 use Rattle.guard.specs.Label.{labelInRangeIn, dominates, sameLabel}
 use Rattle.guard.specs.Tables.{rightsOf, hasRight, isChild}
 use Rattle.guard.specs.Chain.{climbs, endsAtRoot, reaches}
-use Rattle.guard.specs.Sound.{userInRangeIn, sessionInRangeIn, roleInRange, entityInRangeIn, usersInRangeIn, fieldsInRangeIn, isRootRecord, rootsAsSaid, keepersAsSaid, hasOwnName, isPlaced, entitiesPlaced, isMarkAllowed, objectsUnshared, isEmptySession, isEmptyRole, isEmptyEntity, deadAreEmpty, deadAreUnused, rightsWithin, readingWithin, writingWithin, soundIn}
+use Rattle.guard.specs.Sound.{userInRangeIn, sessionInRangeIn, roleInRange, entityInRangeIn, usersInRangeIn, editionInRange, fieldsInRangeIn, isRootRecord, rootsAsSaid, keepersAsSaid, hasOwnName, isPlaced, entitiesPlaced, isMarkAllowed, objectsUnshared, isEmptySession, isEmptyRole, isEmptyEntity, deadAreEmpty, deadAreUnused, rightsWithin, readingWithin, writingWithin, soundIn}
 use Rattle.guard.specs.Fresh.{tabulate, freshRole, freshEntity, fresh}
 use Rattle.guard.specs.Edits.{atSession, atRole, atEntity, eachSession, eachRole, takeRole, dropRole, openReading, openWriting, closeBoth, putIn, setRights, addRights, removeRights, clearRights, listUser, unlistUser, renameTo, markAs}
 use Rattle.guard.specs.Refusals.{first}
@@ -13,5 +13,5 @@ use Rattle.guard.specs.Requests.{fieldInRangeIn, loggedIn, login, logout
 use Rattle.guard.specs.Step.{inRangesIn, answerIn, nextIn, answersIn}
 
 unfoldable pub computing : Unit {0}
-unfolding every either implies all some has join minus contains with without labelInRangeIn dominates sameLabel rightsOf hasRight isChild climbs endsAtRoot reaches userInRangeIn sessionInRangeIn roleInRange entityInRangeIn usersInRangeIn fieldsInRangeIn isRootRecord rootsAsSaid keepersAsSaid hasOwnName isPlaced entitiesPlaced isMarkAllowed objectsUnshared isEmptySession isEmptyRole isEmptyEntity deadAreEmpty deadAreUnused rightsWithin readingWithin writingWithin soundIn tabulate freshRole freshEntity fresh atSession atRole atEntity eachSession eachRole takeRole dropRole openReading openWriting closeBoth putIn setRights addRights removeRights clearRights listUser unlistUser renameTo markAs first userTooLow createOutOfLevel grantBelow cannotOpen cannotChangeIn cannotChange notOpen nameTaken hasChildren fieldInRangeIn loggedIn login logout take drop openr openw close created create delete rename grant revoke list unlist make unmake share unknown rules ruleOf inRangesIn answerIn nextIn answersIn
+unfolding every either implies all some has join minus contains with without labelInRangeIn dominates sameLabel rightsOf hasRight isChild climbs endsAtRoot reaches userInRangeIn sessionInRangeIn roleInRange entityInRangeIn usersInRangeIn editionInRange fieldsInRangeIn isRootRecord rootsAsSaid keepersAsSaid hasOwnName isPlaced entitiesPlaced isMarkAllowed objectsUnshared isEmptySession isEmptyRole isEmptyEntity deadAreEmpty deadAreUnused rightsWithin readingWithin writingWithin soundIn tabulate freshRole freshEntity fresh atSession atRole atEntity eachSession eachRole takeRole dropRole openReading openWriting closeBoth putIn setRights addRights removeRights clearRights listUser unlistUser renameTo markAs first userTooLow createOutOfLevel grantBelow cannotOpen cannotChangeIn cannotChange notOpen nameTaken hasChildren fieldInRangeIn loggedIn login logout take drop openr openw close created create delete rename grant revoke list unlist make unmake share unknown rules ruleOf inRangesIn answerIn nextIn answersIn
 computing = tt

@@ -10,4 +10,5 @@ pub mod Refusals
 pub mod Requests
 pub mod Step
 pub mod SameRequest
+pub mod Edition
 pub mod Morning

@@ -4,7 +4,7 @@
 --     seen-of                       it holds the records that the request concerns, and the answers to what it asks
 -- Assumes nothing.
 use Prim.Native.Nat.{ℕ, _≤_, _<_}
-use mathlib.Core.Path.{_≡_, ap, _∙_}
+use mathlib.Core.Path.{_≡_, refl, ap, _∙_}
 use mathlib.Core.Bool.{Bool, true, false, cond}
 use mathlib.Core.List.{List}
 use lib.Dec.{eqb}
@@ -27,7 +27,7 @@ use Rattle.guard.proofs.Soundness.Whole.{numbers}
 use Rattle.guard.proofs.Columns.{rights-of, way-of, child-of, name-of}
 
 abbrev pub viewAt : Tables → Places → ℕ → Found → View
-viewAt t p o f = viewOf p (sessionAt t (p .seat)) (userAt t (p .user)) (roleAt t (p .role)) (entityAt t (p .entity)) (entityAt t o) f
+viewAt t p o f = viewOf p (sessionAt t (p .seat)) (userAt t (p .user)) (roleAt t (p .role)) (entityAt t (p .entity)) (entityAt t o) f (t .edition)
 
 cond-less : (b : Bool) (m n : ℕ) → m < 64 → n < 64 → cond b m n < 64
 cond-less true m n h k = h
@@ -98,6 +98,7 @@ module _ (t : Tables) (ok : sound t ≡ true) (q : Request) (p : Places) (P : Pl
         seen-of v same =
             rw same
             (record {
+              edition = refl;
               session = λ h. ap (sessionAt t) (P .seat .same h);
               user = λ h. ap (userAt t) (P .user .same h);
               live = λ h. ap (λ (n : ℕ). roleAt t n .live) (P .role .same h);

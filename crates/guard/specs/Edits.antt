@@ -12,13 +12,13 @@ use Rattle.guard.specs.declared.Tables.{Tables}
 
 -- ---- the tables with other lists
 abbrev pub withSessions : Tables → List Session → Tables
-withSessions t l = record { users = t .users; sessions = l; roles = t .roles; entities = t .entities }
+withSessions t l = record { users = t .users; sessions = l; roles = t .roles; entities = t .entities; edition = t .edition }
 
 abbrev pub withRoles : Tables → List Role → Tables
-withRoles t l = record { users = t .users; sessions = t .sessions; roles = l; entities = t .entities }
+withRoles t l = record { users = t .users; sessions = t .sessions; roles = l; entities = t .entities; edition = t .edition }
 
 abbrev pub withEntities : Tables → List Entity → Tables
-withEntities t l = record { users = t .users; sessions = t .sessions; roles = t .roles; entities = l }
+withEntities t l = record { users = t .users; sessions = t .sessions; roles = t .roles; entities = l; edition = t .edition }
 
 -- ---- one record changed by f, or each
 unfoldable pub atSession : ℕ → (Session → Session) → Tables → Tables

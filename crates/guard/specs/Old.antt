@@ -1,5 +1,6 @@
 -- Tables of the old width, and taking them over.
 use mathlib.Core.List.{map}
+use Rattle.guard.specs.Tables.{edition1}
 use Rattle.guard.specs.declared.Label.{Label}
 use Rattle.guard.specs.declared.User.{User}
 use Rattle.guard.specs.declared.Session.{Session}
@@ -11,7 +12,8 @@ use Rattle.guard.specs.declared.old.OldSession.{OldSession}
 use Rattle.guard.specs.declared.old.OldEntity.{OldEntity}
 use Rattle.guard.specs.declared.old.OldTables.{OldTables}
 
--- Tables in the old width are taken over with every number the same; they have no marks, which start with 0.
+-- Tables in the old width are taken over with every number the same; they have no marks, which start with 0, and no edition: "Edition 1
+-- is the rule so far."
 abbrev pub labelTaken : OldLabel → Label
 labelTaken a = record { cats = a .cats; grade = a .grade }
 
@@ -40,4 +42,5 @@ takenOver o =
       sessions = map sessionTaken (o .sessions);
       roles = o .roles;
       entities = map entityTaken (o .entities);
+      edition = edition1;
     }

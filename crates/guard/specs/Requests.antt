@@ -7,7 +7,7 @@ use lib.ListN.{getD}
 use Rattle.bitset.specs.Tests.{every, either}
 use Rattle.guard.specs.Level.{userCount, sessionCount, roleCount, entityCount, isRoot, isKeeper}
 use Rattle.guard.specs.Label.{labelInRangeIn}
-use Rattle.guard.specs.Tables.{noSession, noRole, noEntity, container, sharedMark, read, write, own, allRights}
+use Rattle.guard.specs.Tables.{inEdition1, noSession, noRole, noEntity, container, sharedMark, read, write, own, allRights}
 use Rattle.guard.specs.Sound.{topName}
 use Rattle.guard.specs.Edits.{atSession, atRole, atEntity, eachSession, eachRole, takeRole, dropRole, openReading, openWriting, closeBoth, addRights, removeRights, clearRights, listUser, unlistUser, renameTo, markAs, madeRole}
 use Rattle.guard.specs.Refusals.{Refusal, _when_}
@@ -88,7 +88,7 @@ drop =
       effect = λ q. atSession (q .seat) (dropRole (q .role));
     }
 
--- openr, openw (x, e): 7, 10, 11, 13, 16.
+-- openr, openw (x, e): 7, 10, 11, 13, 16. In edition 2 openr has no condition 10.
 unfoldable pub openr : Rule
 openr =
     record {
@@ -96,7 +96,7 @@ openr =
       refusals = λ t q.
           5 when seatDead t q
           ∷ 7 when entityDead t q
-          ∷ 10 when entityBelowSeat t q
+          ∷ 10 when every (inEdition1 t ∷ entityBelowSeat t q ∷ [])
           ∷ 11 when labelBelowEntity t q
           ∷ 13 when cannotOpen t q read
           ∷ 16 when openForReading t q

@@ -7,7 +7,7 @@ use lib.ListN.{length, getD}
 use Rattle.bitset.specs.Tests.{every, implies, all}
 use Rattle.guard.specs.Level.{userCount, sessionCount, roleCount, entityCount, topLevel, sessionLevel, roleLevel, entityLevel, isRoot, isKeeper}
 use Rattle.guard.specs.Label.{allCategories, labelInRangeIn, dominates, sameLabel, noLabel}
-use Rattle.guard.specs.Tables.{noUser, sessionAt, roleAt, entityAt, object, container, sharedMark, holds, isReading, isWriting, rightsOn, isChild}
+use Rattle.guard.specs.Tables.{edition1, edition2, inEdition1, noUser, sessionAt, roleAt, entityAt, object, container, sharedMark, holds, isReading, isWriting, rightsOn, isChild}
 use Rattle.guard.specs.Chain.{endsAtRoot}
 use Rattle.guard.specs.declared.User.{User}
 use Rattle.guard.specs.declared.Session.{Session}
@@ -56,6 +56,10 @@ entityInRangeIn width e =
 unfoldable pub usersInRangeIn : ℕ → List User → Bool
 usersInRangeIn width us = every (eqb (length us) userCount ∷ all userCount (λ u. userInRangeIn width (getD us u noUser)) ∷ [])
 
+-- edition (1 or 2)
+unfoldable pub editionInRange : ℕ → Bool
+editionInRange edition = every (leb edition1 edition ∷ leb edition edition2 ∷ [])
+
 -- a list longer or shorter than the tables hold is out of range too
 unfoldable pub fieldsInRangeIn : ℕ → Tables → Bool
 fieldsInRangeIn width t =
@@ -67,6 +71,7 @@ fieldsInRangeIn width t =
     ∷ all roleCount (λ r. roleInRange (roleAt t r))
     ∷ eqb (length (t .entities)) entityCount
     ∷ all entityCount (λ e. entityInRangeIn width (entityAt t e))
+    ∷ editionInRange (t .edition)
     ∷ [])
 
 -- .. and roots and keepers are as said: the roots are live containers, label 0/0 (grade/categories), name 0, each its
@@ -156,13 +161,17 @@ rightsWithin t =
     all roleCount
     (λ r. all entityCount (λ e. implies (not (eqb (rightsOn t r e) 0)) (leb (entityLevel e) (roleLevel r))))
 
--- ---- An entity open for reading has at least the seat's level, and the seat's label dominates its label.
+-- ---- An entity open for reading has at least the seat's level, and the seat's label dominates its label. In edition 2 .. soundness
+-- drops the level condition on reading.
 unfoldable pub readingWithin : Tables → Bool
 readingWithin t =
     all sessionCount
     (λ s. all entityCount
     (λ e. implies (isReading t s e)
-    (every (leb (sessionLevel s) (entityLevel e) ∷ dominates (sessionAt t s .label) (entityAt t e .label) ∷ []))))
+    (every
+    (implies (inEdition1 t) (leb (sessionLevel s) (entityLevel e))
+    ∷ dominates (sessionAt t s .label) (entityAt t e .label)
+    ∷ []))))
 
 -- ---- An entity open for writing has at most the seat's level, and the labels are equal.
 unfoldable pub writingWithin : Tables → Bool

@@ -44,6 +44,16 @@ roleAt t r = getD (t .roles) r noRole
 abbrev pub entityAt : Tables → ℕ → Entity
 entityAt t e = getD (t .entities) e noEntity
 
+-- Tables carry an edition, 1 or 2, chosen when built. Edition 1 is the rule so far.
+abbrev pub edition1 : ℕ
+edition1 = 1
+
+abbrev pub edition2 : ℕ
+edition2 = 2
+
+abbrev pub inEdition1 : Tables → Bool
+inEdition1 t = eqb (t .edition) edition1
+
 -- kind (0 object, 1 container)
 abbrev pub object : ℕ
 object = 0

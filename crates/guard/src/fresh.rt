@@ -1,4 +1,4 @@
-// Fresh tables, built from sixteen user records.
+// Fresh tables, built from sixteen user records in an edition.
 use crate::Entity;
 use crate::Label;
 use crate::Outcome;
@@ -10,6 +10,7 @@ use crate::roles;
 use crate::sessions;
 use crate::sizes::BLOCK;
 use crate::sizes::CONTAINER;
+use crate::sizes::EDITION_1;
 use crate::sizes::ENTITIES;
 use crate::sizes::LEVEL_ROLES;
 use crate::sizes::ROLES;
@@ -88,8 +89,8 @@ fn fresh_entities() -> [Entity; ENTITIES]
     entities
 }
 
-fn fresh_over(users: [User; USERS]) -> Tables
-    ensures { λ t. ⌜ t ≡ fresh users ⌝ }
+fn fresh_over(users: [User; USERS], edition: u8) -> Tables
+    ensures { λ t. ⌜ t ≡ fresh users edition ⌝ }
 {
     let dead = sessions::empty();
     let sessions = [dead; SESSIONS];
@@ -100,17 +101,18 @@ fn fresh_over(users: [User; USERS]) -> Tables
         sessions,
         roles,
         entities,
+        edition,
     }
 }
 
 impl Tables {
-    // Fresh tables over the users, and answer 0; or answer 2 where a number is past its range, with fresh tables over
-    // sixteen users of ceiling 0 and clearance 0/0.
-    pub fn fresh(users: [User; USERS]) -> Outcome
-        ensures { λ o. ⌜ o ≡ build users ⌝ }
+    // Fresh tables over the users, of the edition, and answer 0; or answer 2 where a number is past its range, with fresh tables
+    // of edition 1 over sixteen users of ceiling 0 and clearance 0/0.
+    pub fn fresh(users: [User; USERS], edition: u8) -> Outcome
+        ensures { λ o. ⌜ o ≡ build users edition ⌝ }
     {
-        let tables = fresh_over(users);
-        if record::users_in_range(users) {
+        let tables = fresh_over(users, edition);
+        if record::users_in_range(users) & record::edition_in_range(edition) {
             return Outcome { tables, answer: 0 };
         }
         let none = Label { cats: 0, grade: 0 };
@@ -118,7 +120,7 @@ impl Tables {
             ceiling: 0,
             clearance: none,
         };
-        let tables = fresh_over([nobody; USERS]);
+        let tables = fresh_over([nobody; USERS], EDITION_1);
         Outcome { tables, answer: 2 }
     }
 }

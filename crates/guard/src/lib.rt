@@ -73,11 +73,13 @@ pub struct Entity {
     pub label: Label,
 }
 
+// The tables, and their edition: 1, or 2, in which a session may read what is below its level. No request changes it.
 pub struct Tables {
     pub users: [User; USERS],
     pub sessions: [Session; SESSIONS],
     pub roles: [Role; ROLES],
     pub entities: [Entity; ENTITIES],
+    pub edition: u8,
 }
 
 // One request, in fields wide enough for every number that a host may pass. `call` is the request's number: 0 to 16 in

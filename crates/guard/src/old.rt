@@ -5,6 +5,7 @@ use crate::Role;
 use crate::Session;
 use crate::Tables;
 use crate::User;
+use crate::sizes::EDITION_1;
 use crate::sizes::ENTITIES;
 use crate::sizes::ROLES;
 use crate::sizes::SESSIONS;
@@ -138,7 +139,7 @@ fn entities(old: [OldEntity; ENTITIES]) -> [Entity; ENTITIES]
 }
 
 impl OldTables {
-    // The tables with every number the same, also where they are not sound.
+    // The tables with every number the same, also where they are not sound; of edition 1.
     pub fn take_over(self) -> Tables
         ensures { λ t. ⌜ t ≡ takenOver self ⌝ }
     {
@@ -154,6 +155,7 @@ impl OldTables {
             sessions,
             roles,
             entities,
+            edition: EDITION_1,
         }
     }
 }

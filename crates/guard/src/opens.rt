@@ -6,15 +6,23 @@ use crate::view::View;
 ghost use mathlib.Core.Path.{_≡_};
 ghost use mathlib.Core.Bool.{not};
 ghost use mathlib.Core.List.{[], _∷_};
-ghost use lib.Dec.{ltb};
-ghost use Rattle.bitset.specs.Tests.{either};
+ghost use lib.Dec.{ltb, eqb};
+ghost use Rattle.bitset.specs.Tests.{every, either};
 ghost use Rattle.bitset.specs.Sets.{has};
 ghost use Rattle.guard.specs.Level.{sessionLevel, entityLevel};
 ghost use Rattle.guard.specs.Label.{dominates, sameLabel};
+ghost use Rattle.guard.specs.Tables.{edition1};
 ghost use Rattle.guard.specs.Refusals.{first, _when_};
 
+// Whether it would be reading down, in edition 1: in edition 2 openr has no condition 10.
+fn reads_down(edition: u8, e: u32, x: u32) -> bool
+    ensures { λ b. ⌜ b ≡ every (eqb edition edition1 ∷ ltb (entityLevel e) (sessionLevel x) ∷ []) ⌝ }
+{
+    (edition == sizes::EDITION_1) & (e / sizes::LEVEL_ENTITIES < x / sizes::LEVEL_SEATS)
+}
+
 pub fn openr_refusal(q: Request, v: View) -> u8
-    ensures { λ n. ⌜ n ≡ first (5 when not (v .session .live) ∷ 7 when not (v .entity .live) ∷ 10 when ltb (entityLevel (q .entity)) (sessionLevel (q .seat)) ∷ 11 when not (dominates (v .session .label) (v .entity .label)) ∷ 13 when either (not (has (v .found .rights .reads) (q .entity))) (not (v .found .reached)) ∷ 16 when has (v .session .reading) (q .entity) ∷ []) ⌝ }
+    ensures { λ n. ⌜ n ≡ first (5 when not (v .session .live) ∷ 7 when not (v .entity .live) ∷ 10 when every (eqb (v .edition) edition1 ∷ ltb (entityLevel (q .entity)) (sessionLevel (q .seat)) ∷ []) ∷ 11 when not (dominates (v .session .label) (v .entity .label)) ∷ 13 when either (not (has (v .found .rights .reads) (q .entity))) (not (v .found .reached)) ∷ 16 when has (v .session .reading) (q .entity) ∷ []) ⌝ }
 {
     if !v.session.live {
         return 5;
@@ -22,7 +30,7 @@ pub fn openr_refusal(q: Request, v: View) -> u8
     if !v.entity.live {
         return 7;
     }
-    if q.entity / sizes::LEVEL_ENTITIES < q.seat / sizes::LEVEL_SEATS {
+    if reads_down(v.edition, q.entity, q.seat) {
         return 10;
     }
     if !labels::dominates(v.session.label, v.entity.label) {

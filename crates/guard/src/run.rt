@@ -49,7 +49,7 @@ impl Tables {
             // What the scans find.
             let found = scan::find(&keys, &grants, q, session.roles, e, o);
             // The decision.
-            let v = view::seen(at, session, user, role, entity, parent, found);
+            let v = view::seen(at, session, user, role, entity, parent, found, self.edition);
             let n = judge::judge(q, v);
             answers[i] = n;
             i += 1;

@@ -41,6 +41,11 @@ pub const TOP_NAME: u32 = 65535;
 
 pub const ALL_RIGHTS: u32 = 15;
 
+// The editions of the tables.
+pub const EDITION_1: u8 = 1;
+
+pub const EDITION_2: u8 = 2;
+
 // The kinds of entity.
 pub const OBJECT: u8 = 0;
 

@@ -28,6 +28,10 @@ impl Tables {
         requires { ⌜ Keys (self .entities) (now keys) ⌝ }
         ensures { λ r. ⌜ r ≡ sound self ⌝ }
     {
+        let edition = self.edition;
+        if !record::edition_in_range(edition) {
+            return false;
+        }
         let users = self.users;
         if !record::users_in_range(users) {
             return false;
@@ -50,7 +54,7 @@ impl Tables {
         }
         let labels = opens::labels(entities);
         let sessions = self.sessions;
-        opens::sessions_ok(sessions, &labels, found.live)
+        opens::sessions_ok(sessions, &labels, found.live, edition)
     }
 
     // Whether the tables are sound, for all tables that the types admit.

@@ -11,7 +11,7 @@ ghost use Rattle.guard.specs.Private.Inside.{viewOf};
 
 // The records that a request concerns: the acting session, the user, the marks of the role, the entity, and the parent
 // (create: the one named; else the entity's). A number past its range has some other record in its place, and `fits` says
-// whether one that the kind uses is. `found` is what the scans found.
+// whether one that the kind uses is. `found` is what the scans found, `edition` that of the tables.
 pub struct View {
     pub fits: bool,
     pub session: Session,
@@ -21,6 +21,7 @@ pub struct View {
     pub entity: Entity,
     pub parent: Entity,
     pub found: Found,
+    pub edition: u8,
 }
 
 pub fn seen(
@@ -31,8 +32,9 @@ pub fn seen(
     entity: Entity,
     parent: Entity,
     found: Found,
+    edition: u8,
 ) -> View
-    ensures { λ v. ⌜ v ≡ viewOf at session user role entity parent found ⌝ }
+    ensures { λ v. ⌜ v ≡ viewOf at session user role entity parent found edition ⌝ }
 {
     View {
         fits: at.fits,
@@ -43,5 +45,6 @@ pub fn seen(
         entity,
         parent,
         found,
+        edition,
     }
 }

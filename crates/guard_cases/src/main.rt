@@ -3,16 +3,17 @@
 // The file stdout holds what the papers say of each, and a check compares the two.
 //
 //   # ..                        a comment
-//   clear                       fresh tables over sixteen users of 0; no request is gathered
-//   set KIND N FIELD X ..       the field of a record, and those behind it; KIND is user, seat, role or entity
+//   clear                       fresh tables of edition 1 over sixteen users of 0; no request is gathered
+//   set KIND N FIELD X ..       the field of a record, and those behind it; KIND is user, seat, role or entity;
+//                               or `set tables 0 edition X`
 //   with KIND N FIELD X         one member more of a set
-//   fresh                       the tables are built anew over the users that they have
+//   fresh                       the tables are built anew over the users and in the edition that they have
 //   fresh | NAME                the same: the answer, and what is not as in the tables kept
-//   old | NAME                  the tables, put into records of the old width, their categories modulo 256 and without
-//                               marks, and taken over: what changed
+//   old | NAME                  the tables, put into records of the old width, their categories modulo 256, without
+//                               marks and without an edition, and taken over: what changed
 //   keep                        the tables are kept to go back to
 //   back                        to the tables kept
-//   show KIND N                 a record
+//   show KIND N                 a record; `show tables 0` the edition
 //   say | TEXT                  the text
 //   compare | NAME              what is not as in the tables kept
 //   REQUEST                     a request that is to be done

@@ -7,13 +7,15 @@ use mathlib.Core.Bool.{true}
 use mathlib.Core.List.{List, map}
 use Rattle.bitset.specs.Tests.{every}
 use Rattle.guard.specs.Label.{oldWidth}
+use Rattle.guard.specs.Tables.{edition1}
 use Rattle.guard.specs.Sound.{soundIn, sound}
 use Rattle.guard.specs.Step.{answersIn, runIn, answers, run}
 use Rattle.guard.specs.Old.{takenOver}
 use Rattle.guard.specs.declared.Tables.{Tables}
 use Rattle.guard.specs.declared.Request.{Request}
 use Rattle.guard.specs.declared.old.OldTables.{OldTables}
-use Rattle.isolation.specs.Within.{categoriesWithin, Fits, Unshared}
+use Rattle.guard.proofs.Laws.Edition.{run-edition}
+use Rattle.isolation.specs.Within.{categoriesWithin, Fits, AsOld}
 use Rattle.isolation.specs.Proof.OldWidth.{same-log, same-sound, old-ones}
 
 pub old-width :
@@ -29,9 +31,14 @@ pub old-width :
     × (soundIn oldWidth (run (takenOver o) log) ≡ true)
 old-width o = same-log (takenOver o)
 
--- So they are old ones taken over where no container is shared, since old tables have no marks: tables that are sound in the old
--- width and have no shared container are those of old tables with sets within 255, which eight bits hold.
-pub old-again : (t : Tables) → soundIn oldWidth t ≡ true → Unshared t → (old : OldTables) × (takenOver old ≡ t) × Fits oldWidth (takenOver old)
+-- Their edition is 1, since no request changes it.
+pub old-edition : (o : OldTables) (log : List Request) → run (takenOver o) log .edition ≡ edition1
+unfolding takenOver
+old-edition o log = run-edition (takenOver o) log
+
+-- So they are old ones taken over where no container is shared, since old tables have no marks: tables of edition 1 that are sound in
+-- the old width and have no shared container are those of old tables with sets within 255, which eight bits hold.
+pub old-again : (t : Tables) → soundIn oldWidth t ≡ true → AsOld t → (old : OldTables) × (takenOver old ≡ t) × Fits oldWidth (takenOver old)
 old-again = old-ones
 
 -- Old tables, whose sets of categories have eight bits and so are within 255, are sound in the old width exactly if they are sound

@@ -11,6 +11,7 @@ use mathlib.Core.Bool.{true}
 use mathlib.Core.List.{List, [], _∷_, map}
 use Rattle.bitset.specs.Tests.{every}
 use Rattle.guard.specs.Label.{oldWidth}
+use Rattle.guard.specs.Tables.{edition1}
 use Rattle.guard.specs.Sound.{soundIn}
 use Rattle.guard.specs.Fresh.{fresh}
 use Rattle.guard.specs.Step.{answersIn, answers}
@@ -25,7 +26,7 @@ use Rattle.isolation.specs.Within.{fieldWithin, categoriesWithin}
 use Rattle.isolation.specs.Proof.OldWidth.{givenBack}
 
 unfoldable pub oldTables : OldTables
-oldTables = givenBack (fresh morningUsers)
+oldTables = givenBack (fresh morningUsers edition1)
 
 pub old-tables-sound : soundIn oldWidth (takenOver oldTables) ≡ true
 unfolding computing morningUsers oldTables givenBack takenOver

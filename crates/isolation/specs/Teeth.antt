@@ -2,6 +2,9 @@
 --     lower-logs-differ, lower-parts-differ      logs that differ below in kind, number and place, and leave different lower parts
 --     unused-differ                              upper requests that differ in a field that they do not use ask the same
 --     named-lower                                an upper request that names something lower, answered 12 in one log and 7 in the other
+--     reading-down, lower-opens-differ           edition 2: an upper session reads down in one log and is refused it in the other; its
+--                                                lower opens then differ, the upper parts do not
+--     edition-counts                             without the edition in the upper part the rule would be false
 --     guard-isolates                             the rule for the step by any rules: guard's isolate ..
 --     openw-fails, grant-fails, delete-fails, share-fails      .. and four misreadings do not
 -- Assumes nothing.
@@ -14,7 +17,7 @@ use lib.ListN.{getD}
 use Rattle.bitset.specs.Tests.{every}
 use Rattle.bitset.specs.Sets.{has, from}
 use Rattle.guard.specs.Label.{allCategories, noLabel}
-use Rattle.guard.specs.Tables.{noSession, noRole, noEntity, execute, hasRight}
+use Rattle.guard.specs.Tables.{edition1, edition2, noSession, noRole, noEntity, execute, hasRight}
 use Rattle.guard.specs.Sound.{sound}
 use Rattle.guard.specs.Fresh.{fresh}
 use Rattle.guard.proofs.Laws.Morning.{morningUsers}
@@ -25,7 +28,7 @@ use Rattle.guard.specs.Requests.{Rule, fieldInRangeIn, ruleOf}
 use Rattle.guard.specs.Step.{inRangesIn, answerIn, nextIn, answers, run, runIn}
 use Rattle.guard.specs.Methods.{shareRequest}
 use Rattle.guard.specs.SameRequest.{sameField, sameRequest}
-use Rattle.isolation.specs.Upper.{upperSession, upperRole, upper, isUpper, fieldUpper, namesUpper, upperRequests}
+use Rattle.isolation.specs.Upper.{upperSession, upperRole, upper, isUpper, fieldUpper, namesUpper, upperRequests, upperAnswers}
 use Rattle.guard.specs.declared.Tables.{Tables}
 use Rattle.guard.specs.declared.Request.{Request}
 use Rattle.guard.proofs.Compute.{computing}
@@ -34,14 +37,24 @@ use Rattle.isolation.specs.Proof.Rule.{isolated}
 
 -- ---- where all logs of this file start: fresh tables with object 17 in root 16 (level 1), and with seat 0 (level 0)
 -- signed in, which holds the keepers 0 and 4 of levels 0 and 1
-unfoldable pub start : Tables
-start =
+unfoldable pub startIn : ℕ → Tables
+startIn edition =
     atSession 0 (λ old. record { live = true; user = 0; label = noLabel; roles = 17; reading = 0; writing = 0 })
-    (atEntity 17 (λ old. record { live = true; kind = 0; parent = 16; name = 7; label = noLabel; shared = 0 }) (fresh morningUsers))
+    (atEntity 17 (λ old. record { live = true; kind = 0; parent = 16; name = 7; label = noLabel; shared = 0 }) (fresh morningUsers edition))
+
+abbrev pub start : Tables
+start = startIn edition1
+
+abbrev pub start-2 : Tables
+start-2 = startIn edition2
 
 pub start-sound : sound start ≡ true
-unfolding computing morningUsers start
+unfolding computing morningUsers startIn
 start-sound = refl
+
+pub start-2-sound : sound start-2 ≡ true
+unfolding computing morningUsers startIn
+start-2-sound = refl
 
 -- one request: call, seat, role, entity, rights; the other fields are 0
 abbrev pub ask : ℕ → ℕ → ℕ → ℕ → ℕ → Request
@@ -89,12 +102,12 @@ log-b = login-4 ∷ openr-by-1 ∷ logout-0 ∷ take-4 ∷ []
 
 pub lower-logs-differ : (upperRequests 1 log-a ≡ upperRequests 1 log-b) × (upper 1 (run start log-a) ≡ upper 1 (run start log-b))
     × (answers start log-a ≡ 0 ∷ 0 ∷ 0 ∷ []) × (answers start log-b ≡ 0 ∷ 5 ∷ 0 ∷ 0 ∷ [])
-unfolding computing morningUsers start runIn upper upperSession upperRole from isUpper upperRequests
+unfolding computing morningUsers startIn runIn upper upperSession upperRole from isUpper upperRequests
 lower-logs-differ = (refl, refl, refl, refl)
 
 -- .. and leaves different lower parts: seat 0 is still signed in after the first
 pub lower-parts-differ : upper 0 (run start log-a) ≡ upper 0 (run start log-b) → ⊥
-unfolding computing morningUsers start runIn upper upperSession upperRole from
+unfolding computing morningUsers startIn runIn upper upperSession upperRole from
 lower-parts-differ e = true≢false (ap (λ (v : Tables). getD (v .sessions) 0 noSession .live) e)
 
 -- ---- two logouts of the upper seat 4 that differ in the role, which logout does not use, ask the same; two takes do not
@@ -106,8 +119,48 @@ unused-differ = (refl, refl)
 pub named-lower : (upperRequests 1 (make-1 ∷ login-4 ∷ take-1 ∷ []) ≡ upperRequests 1 (login-4 ∷ take-1 ∷ []))
     × (answers start (make-1 ∷ login-4 ∷ take-1 ∷ []) ≡ 0 ∷ 0 ∷ 12 ∷ []) × (answers start (login-4 ∷ take-1 ∷ []) ≡ 0 ∷ 7 ∷ [])
     × (namesUpper 1 take-1 ≡ false)
-unfolding computing morningUsers start isUpper upperRequests fieldUpper namesUpper
+unfolding computing morningUsers startIn isUpper upperRequests fieldUpper namesUpper
 named-lower = (refl, refl, refl, refl)
+
+-- ---- edition 2: seat 4 takes the keeper of level 0 and reads the root of level 0. In one log seat 0 has taken the right from that
+-- role before
+abbrev pub revoke-0 : Request
+revoke-0 = ask 11 0 0 0 1
+
+abbrev pub take-0 : Request
+take-0 = ask 2 4 0 0 0
+
+abbrev pub openr-0 : Request
+openr-0 = ask 4 4 0 0 0
+
+abbrev pub log-c : List Request
+log-c = login-4 ∷ take-0 ∷ openr-0 ∷ []
+
+abbrev pub log-d : List Request
+log-d = revoke-0 ∷ login-4 ∷ take-0 ∷ openr-0 ∷ []
+
+pub reading-down : (upperRequests 1 log-c ≡ upperRequests 1 log-d) × (upper 1 (run start-2 log-c) ≡ upper 1 (run start-2 log-d))
+    × (answers start-2 log-c ≡ 0 ∷ 0 ∷ 0 ∷ []) × (answers start-2 log-d ≡ 0 ∷ 0 ∷ 0 ∷ 13 ∷ []) × (answers start log-c ≡ 0 ∷ 0 ∷ 10 ∷ [])
+unfolding computing morningUsers startIn runIn upper upperSession upperRole from isUpper upperRequests
+reading-down = (refl, refl, refl, refl, refl)
+
+-- the lower parts are different: what seat 4 has open for reading
+pub lower-opens-differ : upper 0 (run start-2 log-c) ≡ upper 0 (run start-2 log-d) → ⊥
+unfolding computing morningUsers startIn runIn upper upperSession upperRole from
+lower-opens-differ e = true≢false (ap (λ (v : Tables). has (getD (v .sessions) 4 noSession .reading) 0) e)
+
+-- ---- two tables that differ in the edition alone: an upper request that names only what is upper, openr by seat 8 of root 16, is
+-- answered 10 in edition 1 and 0 in edition 2. So the rule needs the edition in the upper part
+abbrev pub withoutEdition : Tables → Tables
+withoutEdition t = record { users = t .users; sessions = t .sessions; roles = t .roles; entities = t .entities; edition = 0 }
+
+abbrev pub log-e : List Request
+log-e = ask 0 8 0 0 0 ∷ ask 2 8 4 0 0 ∷ ask 4 8 0 16 0 ∷ []
+
+pub edition-counts : (withoutEdition (upper 1 start) ≡ withoutEdition (upper 1 start-2))
+    × (upperAnswers 1 start log-e ≡ 0 ∷ 0 ∷ 10 ∷ []) × (upperAnswers 1 start-2 log-e ≡ 0 ∷ 0 ∷ 0 ∷ [])
+unfolding computing morningUsers startIn upper upperSession upperRole from isUpper fieldUpper namesUpper upperAnswers
+edition-counts = (refl, refl, refl)
 
 -- ---- the step by other rules, and the isolation rule for it
 module _ (rule : Request → Rule) where
@@ -157,7 +210,7 @@ share-without-10 = misread 16 10 (λ t q. false)
 
 -- what the lower seat 0 asks below, guard refuses
 pub refused : answers start (openw-16 ∷ grant-16 ∷ delete-17 ∷ share-16 ∷ []) ≡ 10 ∷ 10 ∷ 13 ∷ 10 ∷ []
-unfolding computing morningUsers start
+unfolding computing morningUsers startIn
 refused = refl
 
 -- two logs of no upper requests but those of `after`, the first of which begins with q: what a test tells of the upper
@@ -169,20 +222,20 @@ module _ (rule : Request → Rule) (isolates : Isolates rule) (q : Request) (aft
 
 -- seat 0 opens root 16 for writing, the tables are not sound from then on, and seat 4 cannot sign in
 pub openw-fails : Isolates openw-without-10 → ⊥
-unfolding computing morningUsers start upper upperSession upperRole from isUpper upperRequests runLog nextBy answerBy misread instead
+unfolding computing morningUsers startIn upper upperSession upperRole from isUpper upperRequests runLog nextBy answerBy misread instead
 openw-fails h = true≢false (sym (told openw-without-10 h openw-16 (login-4 ∷ []) (λ v. getD (v .sessions) 0 noSession .live) refl))
 
 -- seat 0 gives the upper role 8 a right on root 16
 pub grant-fails : Isolates grant-without-10 → ⊥
-unfolding computing morningUsers start upper upperSession upperRole from isUpper upperRequests runLog nextBy answerBy misread instead
+unfolding computing morningUsers startIn upper upperSession upperRole from isUpper upperRequests runLog nextBy answerBy misread instead
 grant-fails h = true≢false (told grant-without-10 h grant-16 [] (λ v. has (getD (v .roles) 4 noRole .reads) 0) refl)
 
 -- seat 0 deletes object 17
 pub delete-fails : Isolates delete-unopened → ⊥
-unfolding computing morningUsers start upper upperSession upperRole from isUpper upperRequests runLog nextBy answerBy misread instead
+unfolding computing morningUsers startIn upper upperSession upperRole from isUpper upperRequests runLog nextBy answerBy misread instead
 delete-fails h = true≢false (sym (told delete-unopened h delete-17 [] (λ v. getD (v .entities) 1 noEntity .live) refl))
 
 -- seat 0 shares root 16, on which it has own by the keeper of level 1
 pub share-fails : Isolates share-without-10 → ⊥
-unfolding computing morningUsers start upper upperSession upperRole from isUpper upperRequests runLog nextBy answerBy misread instead
+unfolding computing morningUsers startIn upper upperSession upperRole from isUpper upperRequests runLog nextBy answerBy misread instead
 share-fails h = true≢false (told share-without-10 h share-16 [] (λ v. eqb (getD (v .entities) 0 noEntity .shared) 1) refl)

@@ -1,7 +1,8 @@
 -- The isolation rule: demand 3, whole, as one statement on all pairs of logs. (The field's word: noninterference.)
 -- It is stated over definitions alone: sound, run, sameRequests (guard/specs: Sound, Step, SameRequest) and upper, upperRequests,
 -- upperAnswers (Upper). UpperInWords says what equal upper parts are, sentence by sentence.
--- The bounds of L are the paper's: the proof needs none. Assumes nothing.
+-- The rule speaks of both editions: the edition is part of the upper part, so both start in the same one. The bounds of L are the
+-- paper's: the proof needs none. Assumes nothing.
 use Prim.Native.Nat.{ℕ, _≤_}
 use mathlib.Core.Path.{_≡_}
 use mathlib.Core.Bool.{true}

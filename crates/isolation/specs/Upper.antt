@@ -51,7 +51,7 @@ upperRole L r =
     }
 
 -- The upper part holds all users; .. the whole record of entities of level L and above. (The mark belongs to the upper part with
--- its entity.)
+-- its entity.) The edition joins the upper part.
 unfoldable pub upper : ℕ → Tables → Tables
 upper L t =
     record {
@@ -59,6 +59,7 @@ upper L t =
       sessions = map (upperSession L) (drop (firstSession L) (t .sessions));
       roles = map (upperRole L) (drop (firstRole L) (t .roles));
       entities = drop (firstEntity L) (t .entities);
+      edition = t .edition;
     }
 
 -- A request belongs to the level of its acting seat, one of unknown kind too, a login to the level of the seat it

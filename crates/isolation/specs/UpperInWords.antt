@@ -33,3 +33,5 @@ pub record SameUpper (L : ℕ) (t u : Tables) : Type 0 where
   pub rights : (r e : ℕ) → L ≤ roleLevel r → L ≤ entityLevel e → rightsOn t r e ≡ rightsOn u r e
   -- the whole record of entities of level L and above. The mark belongs to the upper part with its entity.
   pub entity : (e : ℕ) → L ≤ entityLevel e → entityAt t e ≡ entityAt u e
+  -- The edition joins the upper part.
+  pub edition : t .edition ≡ u .edition

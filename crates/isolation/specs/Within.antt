@@ -1,4 +1,5 @@
--- What binds old tables and their logs: category numbers within a width, of a request and of tables; and tables without marks.
+-- What binds old tables and their logs: category numbers within a width, of a request and of tables; and tables without marks, of
+-- edition 1.
 use Prim.Native.Nat.{ℕ, _≤_, _<_}
 use mathlib.Core.Path.{_≡_}
 use mathlib.Core.Bool.{Bool, true}
@@ -6,7 +7,7 @@ use mathlib.Core.List.{map}
 use lib.Dec.{leb}
 use Rattle.bitset.specs.Tests.{every}
 use Rattle.guard.specs.Level.{userCount, sessionCount, entityCount}
-use Rattle.guard.specs.Tables.{userAt, sessionAt, entityAt}
+use Rattle.guard.specs.Tables.{edition1, userAt, sessionAt, entityAt}
 use Rattle.guard.specs.Requests.{Field, call, seat, user, role, entity, parent, kind, name, label, rights, shared, ruleOf}
 use Rattle.guard.specs.declared.Tables.{Tables}
 use Rattle.guard.specs.declared.Request.{Request}
@@ -34,6 +35,7 @@ pub record Fits (width : ℕ) (t : Tables) : Type 0 where
   pub sessions : (s : ℕ) → s < sessionCount → sessionAt t s .label .cats ≤ width
   pub entities : (e : ℕ) → e < entityCount → entityAt t e .label .cats ≤ width
 
--- No container is shared, as in old tables taken over.
-abbrev pub Unshared : Tables → Type 0
-Unshared t = (e : ℕ) → e < entityCount → entityAt t e .shared ≡ 0
+-- No container is shared, and the edition is 1, as in old tables taken over.
+pub record AsOld (t : Tables) : Type 0 where
+  pub unshared : (e : ℕ) → e < entityCount → entityAt t e .shared ≡ 0
+  pub edition : t .edition ≡ edition1

@@ -17,8 +17,8 @@ use Rattle.bitset.specs.Tests.{every}
 use Rattle.bitset.specs.Tests.Laws.{every-e, is-false, clash}
 use Rattle.guard.specs.Label.{allCategories, label, labelInRange, labelInRangeIn}
 use Rattle.guard.specs.Level.{userCount}
-use Rattle.guard.specs.Tables.{noUser}
-use Rattle.guard.specs.Sound.{usersInRange}
+use Rattle.guard.specs.Tables.{edition1, noUser}
+use Rattle.guard.specs.Sound.{usersInRange, editionInRange}
 use Rattle.guard.specs.Fresh.{fresh, build}
 use Rattle.guard.specs.Step.{step}
 use Rattle.guard.specs.declared.Tables.{Tables}
@@ -43,7 +43,7 @@ pub record Inside (user level cats ceiling : ℕ) : Type 0 where
   pub ceiling-in : ceiling ≤ 3
 
 abbrev built : ℕ → Outcome
-built n = record { tables = fresh (replicate userCount noUser); answer = n }
+built n = record { tables = fresh (replicate userCount noUser) edition1; answer = n }
 
 module _ (user level cats ceiling : ℕ) where
   pub inside : outside user level cats ceiling ≡ false → Inside user level cats ceiling
@@ -107,10 +107,10 @@ module _ (r : Runner) (a : Reply) (asked : Line) (h : saidBy a ≡ answerLine (b
   said-text p = rw (← h) p
 
 -- ---- the tables that a run opens with
-pub nobody-built : build (replicate userCount noUser) .tables ≡ fresh (replicate userCount noUser)
+pub nobody-built : build (replicate userCount noUser) edition1 .tables ≡ fresh (replicate userCount noUser) edition1
 unfolding build
-nobody-built = go (usersInRange (replicate userCount noUser))
+nobody-built = go (every (usersInRange (replicate userCount noUser) ∷ editionInRange edition1 ∷ []))
   where
-    go : (b : Bool) → (cond b (built 0) (built 2)) .tables ≡ fresh (replicate userCount noUser)
+    go : (b : Bool) → (cond b (built 0) (built 2)) .tables ≡ fresh (replicate userCount noUser) edition1
     go true = refl
     go false = refl

@@ -7,7 +7,7 @@ use lib.ListN.{length, set, take, replicate}
 use Rattle.bitset.specs.Tests.{every}
 use Rattle.guard.specs.Level.{userCount, topLevel}
 use Rattle.guard.specs.Label.{label, labelInRange}
-use Rattle.guard.specs.Tables.{noUser}
+use Rattle.guard.specs.Tables.{edition1, noUser}
 use Rattle.guard.specs.Fresh.{fresh}
 use Rattle.guard.specs.Step.{answer, next}
 use Rattle.guard.specs.declared.Tables.{Tables}
@@ -41,6 +41,7 @@ withUser t user level cats ceiling =
       sessions = t .sessions;
       roles = t .roles;
       entities = t .entities;
+      edition = t .edition;
     }
 
 -- Its ranges give 2, with nothing set.
@@ -80,8 +81,9 @@ answered header b n (l ∷ ls) =
 abbrev pub lastLine : ℕ
 lastLine = 65535
 
+-- the program uses [edition] 1
 abbrev pub firstBench : Bench
-firstBench = record { tables = fresh (replicate userCount noUser); shut = false }
+firstBench = record { tables = fresh (replicate userCount noUser) edition1; shut = false }
 
 -- A bad or missing first line prints `1 17` below the output's names and ends.
 unfoldable pub below : List (List ℕ) → List ℕ

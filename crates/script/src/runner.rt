@@ -97,7 +97,7 @@ fn take_names(mut r: Runner, s: &[u8], out: &mut [u8]) -> Said
 }
 
 impl Runner {
-    // A run that has not begun, over users that are 0 throughout.
+    // A run that has not begun, over users that are 0 throughout, in edition 1.
     pub fn new() -> Runner
         ensures { λ r. ⌜ r ≡ unbegun ⌝ }
     {
@@ -106,7 +106,7 @@ impl Runner {
             ceiling: 0,
             clearance: none,
         };
-        let o = Tables::fresh([nobody; sizes::USERS]);
+        let o = Tables::fresh([nobody; sizes::USERS], sizes::EDITION_1);
         let tables = o.tables;
         Runner {
             tables,

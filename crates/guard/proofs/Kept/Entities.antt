@@ -175,6 +175,7 @@ pub entity-kept : {width : ℕ} (t : Tables) (e : ℕ) (n : Entity) → soundIn 
 entity-kept {width} t e n h way stay new =
     sound-i _
     (record {
+      edition = ok .edition;
       users = ok .users;
       manySessions = ok .manySessions;
       manyRoles = ok .manyRoles;
@@ -193,7 +194,7 @@ entity-kept {width} t e n h way stay new =
     kept P uses none (inl same) u p = ap P same ∙ p
     kept P uses none (inr unused) u p = absurd (clash uses u (none unused))
 
-    session : (s : ℕ) → s < 16 → SessionOk width (t .roles) (set (t .entities) e n) s (sessionAt t s)
+    session : (s : ℕ) → s < 16 → SessionOk width (t .edition) (t .roles) (set (t .entities) e n) s (sessionAt t s)
     session s l =
         let old = ok .session s l in
         let label = sessionAt t s .label in
@@ -202,8 +203,8 @@ entity-kept {width} t e n h way stay new =
           label = old .label;
           empty = old .empty;
           held = old .held;
-          reading = seen-ok 64 _ (readable s label) _ (t .entities) noEntity e n (ok .manyEntities) (old .reading)
-              (kept (readable s label e) _ (λ none. none .reading s l) way);
+          reading = seen-ok 64 _ (readable (t .edition) s label) _ (t .entities) noEntity e n (ok .manyEntities) (old .reading)
+              (kept (readable (t .edition) s label e) _ (λ none. none .reading s l) way);
           writing = seen-ok 64 _ (writable s label) _ (t .entities) noEntity e n (ok .manyEntities) (old .writing)
               (kept (writable s label e) _ (λ none. none .writing s l) way);
         }

@@ -88,6 +88,7 @@ roles-kept : {width : ℕ} (t : Tables) (roles : List Role) → Sound width t �
 roles-kept t roles ok many held new =
     sound-i _
     (record {
+      edition = ok .edition;
       users = ok .users;
       manySessions = ok .manySessions;
       manyRoles = many;

@@ -8,13 +8,13 @@
 use Prim.Native.Nat.{ℕ, _<_}
 use mathlib.Core.Path.{_≡_, refl, _∙_}
 use mathlib.Core.Bool.{Bool, true, false}
-use mathlib.Core.List.{List}
+use mathlib.Core.List.{List, [], _∷_}
 use lib.Dec.{leb, ltb}
 use lib.ListN.{length, getD, length-set, length-map}
 use native.Mathlib.Omega.{arith}
 use borrow.Author.Tests.{ltb-true, ltb-false, le-leb}
 use Rattle.bitset.specs.Tests.{every}
-use Rattle.bitset.specs.Tests.Laws.{clash, of-not-false, every-i, every-at}
+use Rattle.bitset.specs.Tests.Laws.{is-false, clash, of-not-false, every-i, every-at, implies-i}
 use Rattle.guard.specs.Level.{sessionLevel, entityLevel}
 use Rattle.guard.specs.Label.{labelInRangeIn, sameLabel, noLabel}
 use Rattle.guard.specs.Tables.{noSession, sessionAt}
@@ -38,37 +38,38 @@ abbrev pub Keeps : ℕ → Rule → Type 0
 Keeps width rule = (t : Tables) (q : Request) → DoneIn width rule t q → soundIn width (rule .effect q t) ≡ true
 
 -- ---- one session, over the roles and entities of the tables
-module _ {width : ℕ} (roles : List Role) (es : List Entity) (s : ℕ) (r : Session) (ok : SessionOk width roles es s r) where
-  held-ok : (held : ℕ) → SetOk 16 (r .live) (λ p. roleIn roles p .live) held → SessionOk width roles es s (holding held r)
+module _ {width edition : ℕ} (roles : List Role) (es : List Entity) (s : ℕ) (r : Session) (ok : SessionOk width edition roles es s r) where
+  held-ok : (held : ℕ) → SetOk 16 (r .live) (λ p. roleIn roles p .live) held → SessionOk width edition roles es s (holding held r)
   held-ok held new =
       record { user = ok .user; label = ok .label; empty = ok .empty; held = new; reading = ok .reading; writing = ok .writing }
 
-  open-ok : (reading writing : ℕ) → SetOk 64 (r .live) (λ e. readable s (r .label) e (entityIn es e)) reading
-      → SetOk 64 (r .live) (λ e. writable s (r .label) e (entityIn es e)) writing → SessionOk width roles es s (opening reading writing r)
+  open-ok : (reading writing : ℕ) → SetOk 64 (r .live) (λ e. readable edition s (r .label) e (entityIn es e)) reading
+      → SetOk 64 (r .live) (λ e. writable s (r .label) e (entityIn es e)) writing → SessionOk width edition roles es s (opening reading writing r)
   open-ok reading writing new new′ =
       record { user = ok .user; label = ok .label; empty = ok .empty; held = ok .held; reading = new; writing = new′ }
 
-  pub dropped-ok : (p : ℕ) → SessionOk width roles es s (dropRole p r)
+  pub dropped-ok : (p : ℕ) → SessionOk width edition roles es s (dropRole p r)
   unfolding dropRole
   dropped-ok p = held-ok _ (without-ok _ _ _ _ p (ok .held))
 
-  pub closed-ok : (e : ℕ) → SessionOk width roles es s (closeBoth e r)
+  pub closed-ok : (e : ℕ) → SessionOk width edition roles es s (closeBoth e r)
   unfolding closeBoth
   closed-ok e = open-ok _ _ (without-ok _ _ _ _ e (ok .reading)) (without-ok _ _ _ _ e (ok .writing))
 
 -- with nothing held or open
-nothing-ok : {width : ℕ} (roles : List Role) (es : List Entity) (s : ℕ) (live : Bool) (user : ℕ) (label : Label) → user < 16
+nothing-ok : {width edition : ℕ} (roles : List Role) (es : List Entity) (s : ℕ) (live : Bool) (user : ℕ) (label : Label) → user < 16
     → labelInRangeIn width label ≡ true → (live ≡ false → (user ≡ 0) × (sameLabel label noLabel ≡ true))
-    → SessionOk width roles es s (record { live = live; user = user; label = label; roles = 0; reading = 0; writing = 0 })
+    → SessionOk width edition roles es s (record { live = live; user = user; label = label; roles = 0; reading = 0; writing = 0 })
 nothing-ok roles es s live user label small range empty =
     record { user = small; label = range; empty = empty; held = none-ok _ _ _; reading = none-ok _ _ _; writing = none-ok _ _ _ }
 
 -- ---- the sessions replaced
 sessions-kept : {width : ℕ} (t : Tables) (sessions : List Session) → Sound width t → length sessions ≡ 16
-    → ((s : ℕ) → s < 16 → SessionOk width (t .roles) (t .entities) s (getD sessions s noSession)) → soundIn width (withSessions t sessions) ≡ true
+    → ((s : ℕ) → s < 16 → SessionOk width (t .edition) (t .roles) (t .entities) s (getD sessions s noSession)) → soundIn width (withSessions t sessions) ≡ true
 sessions-kept t sessions ok many new =
     sound-i _
     (record {
+      edition = ok .edition;
       users = ok .users;
       manySessions = many;
       manyRoles = ok .manyRoles;
@@ -79,27 +80,31 @@ sessions-kept t sessions ok many new =
     })
 
 pub session-kept : {width : ℕ} (t : Tables) (x : ℕ) (f : Session → Session) → soundIn width t ≡ true
-    → (x < 16 → SessionOk width (t .roles) (t .entities) x (sessionAt t x) → SessionOk width (t .roles) (t .entities) x (f (sessionAt t x)))
+    → (x < 16 → SessionOk width (t .edition) (t .roles) (t .entities) x (sessionAt t x) → SessionOk width (t .edition) (t .roles) (t .entities) x (f (sessionAt t x)))
     → soundIn width (atSession x f t) ≡ true
 unfolding atSession
 session-kept {width} t x f h new =
     let ok = sound-e t h in
     sessions-kept t _ ok (length-set (t .sessions) x _ ∙ ok .manySessions)
-    (set-each (SessionOk width (t .roles) (t .entities)) 16 (t .sessions) noSession (ok .manySessions) x _
+    (set-each (SessionOk width (t .edition) (t .roles) (t .entities)) 16 (t .sessions) noSession (ok .manySessions) x _
     (λ s l ne. ok .session s l) (λ l. new l (ok .session x l)))
 
 pub each-session-kept : {width : ℕ} (t : Tables) (f : Session → Session) → soundIn width t ≡ true
-    → ((s : ℕ) (r : Session) → SessionOk width (t .roles) (t .entities) s r → SessionOk width (t .roles) (t .entities) s (f r))
+    → ((s : ℕ) (r : Session) → SessionOk width (t .edition) (t .roles) (t .entities) s r → SessionOk width (t .edition) (t .roles) (t .entities) s (f r))
     → soundIn width (eachSession f t) ≡ true
 unfolding eachSession
 each-session-kept {width} t f h new =
     let ok = sound-e t h in
     sessions-kept t _ ok (length-map (t .sessions) f ∙ ok .manySessions)
-    (map-each (SessionOk width (t .roles) (t .entities)) f 16 (t .sessions) noSession (ok .manySessions) (λ s l. new s _ (ok .session s l)))
+    (map-each (SessionOk width (t .edition) (t .roles) (t .entities)) f 16 (t .sessions) noSession (ok .manySessions) (λ s l. new s _ (ok .session s l)))
 
 -- ---- the rules
 pub not-below : (a b : ℕ) → ltb a b ≡ false → leb b a ≡ true
 not-below a b h = le-leb b a (ltb-false a b h)
+
+-- of two conditions that are not both met, the second is not where the first is
+every-no : (a b : Bool) → a ≡ true → every (a ∷ b ∷ []) ≡ false → b ≡ false
+every-no a b h k = is-false b (λ m. clash _ (every-i _ (h, (m, tt))) k)
 
 pub keeps-login : {width : ℕ} → Keeps width login
 unfolding login loggedIn fieldInRangeIn
@@ -128,7 +133,7 @@ pub keeps-openr : {width : ℕ} → Keeps width openr
 unfolding openr openReading fieldInRangeIn
 keeps-openr t q d =
     let no = unmet _ refl (d .none) in
-    let level = not-below (entityLevel (q .entity)) (sessionLevel (q .seat)) (no 10) in
+    let level = implies-i _ _ (λ first. not-below (entityLevel (q .entity)) (sessionLevel (q .seat)) (every-no _ _ first (no 10))) in
     session-kept t (q .seat) _ (d .isSound) (λ l old.
     open-ok _ _ _ _ old _ _
     (with-ok _ _ _ _ (q .entity) (old .reading) (of-not-false _ (no 5)) (ltb-true _ _ (every-at _ (d .ranges) 1))

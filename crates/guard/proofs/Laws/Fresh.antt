@@ -1,4 +1,4 @@
--- Fresh tables over users in range are sound, and so are those that every build hands back.
+-- Fresh tables over users in range are sound in either edition, and so are those that every build hands back.
 -- Assumes nothing.
 use Prim.Native.Nat.{ℕ}
 use mathlib.Core.Path.{_≡_, refl}
@@ -6,12 +6,12 @@ use mathlib.Core.Bool.{Bool, true, false, cond}
 use mathlib.Core.List.{List, [], _∷_}
 use lib.Dec.{eqb}
 use lib.ListN.{length, replicate}
-use Rattle.bitset.specs.Tests.{all}
-use Rattle.bitset.specs.Tests.Laws.{Each, every-i}
+use Rattle.bitset.specs.Tests.{every, all}
+use Rattle.bitset.specs.Tests.Laws.{Each, every-i, every-at}
 use Rattle.guard.proofs.Compute.{computing}
 use Rattle.guard.specs.Level.{userCount, sessionCount, roleCount, entityCount}
-use Rattle.guard.specs.Tables.{noUser, sessionAt, roleAt, entityAt}
-use Rattle.guard.specs.Sound.{roleInRange, usersInRange, fieldsInRangeIn, rootsAsSaid, keepersAsSaid, entitiesPlaced, objectsUnshared, deadAreEmpty, deadAreUnused, rightsWithin, readingWithin, writingWithin, sound, soundIn}
+use Rattle.guard.specs.Tables.{edition1, noUser, sessionAt, roleAt, entityAt}
+use Rattle.guard.specs.Sound.{roleInRange, usersInRange, editionInRange, fieldsInRangeIn, rootsAsSaid, keepersAsSaid, entitiesPlaced, objectsUnshared, deadAreEmpty, deadAreUnused, rightsWithin, readingWithin, writingWithin, sound, soundIn}
 use Rattle.guard.specs.Fresh.{fresh, build}
 use Rattle.guard.specs.Private.InForce.{sessionInRange, entityInRange, fieldsInRange}
 use Rattle.guard.specs.declared.User.{User}
@@ -21,66 +21,66 @@ use Rattle.guard.specs.declared.Outcome.{Outcome}
 abbrev outcome : Tables → ℕ → Outcome
 outcome t n = record { tables = t; answer = n }
 
--- all that soundness asks beside the users does not look at them: by computing
-module _ (us : List User) where
-  sessions-in-range : all sessionCount (λ s. sessionInRange (sessionAt (fresh us) s)) ≡ true
+-- all that soundness asks beside the users and the edition does not look at them: by computing
+module _ (us : List User) (edition : ℕ) where
+  sessions-in-range : all sessionCount (λ s. sessionInRange (sessionAt (fresh us edition) s)) ≡ true
   unfolding computing
   sessions-in-range = refl
 
-  roles-in-range : all roleCount (λ r. roleInRange (roleAt (fresh us) r)) ≡ true
+  roles-in-range : all roleCount (λ r. roleInRange (roleAt (fresh us edition) r)) ≡ true
   unfolding computing
   roles-in-range = refl
 
-  entities-in-range : all entityCount (λ e. entityInRange (entityAt (fresh us) e)) ≡ true
+  entities-in-range : all entityCount (λ e. entityInRange (entityAt (fresh us edition) e)) ≡ true
   unfolding computing
   entities-in-range = refl
 
-  sessions-counted : eqb (length (fresh us .sessions)) sessionCount ≡ true
+  sessions-counted : eqb (length (fresh us edition .sessions)) sessionCount ≡ true
   unfolding computing
   sessions-counted = refl
 
-  roles-counted : eqb (length (fresh us .roles)) roleCount ≡ true
+  roles-counted : eqb (length (fresh us edition .roles)) roleCount ≡ true
   unfolding computing
   roles-counted = refl
 
-  entities-counted : eqb (length (fresh us .entities)) entityCount ≡ true
+  entities-counted : eqb (length (fresh us edition .entities)) entityCount ≡ true
   unfolding computing
   entities-counted = refl
 
-  fields : usersInRange us ≡ true → fieldsInRange (fresh us) ≡ true
+  fields : usersInRange us ≡ true → editionInRange edition ≡ true → fieldsInRange (fresh us edition) ≡ true
   unfolding fieldsInRangeIn fresh
-  fields h =
+  fields h k =
       every-i _
-      (h, (sessions-counted, (sessions-in-range, (roles-counted, (roles-in-range, (entities-counted, (entities-in-range, tt)))))))
+      (h, (sessions-counted, (sessions-in-range, (roles-counted, (roles-in-range, (entities-counted, (entities-in-range, (k, tt))))))))
 
   others : Each
-      (rootsAsSaid (fresh us)
-      ∷ keepersAsSaid (fresh us)
-      ∷ entitiesPlaced (fresh us)
-      ∷ objectsUnshared (fresh us)
-      ∷ deadAreEmpty (fresh us)
-      ∷ deadAreUnused (fresh us)
-      ∷ rightsWithin (fresh us)
-      ∷ readingWithin (fresh us)
-      ∷ writingWithin (fresh us)
+      (rootsAsSaid (fresh us edition)
+      ∷ keepersAsSaid (fresh us edition)
+      ∷ entitiesPlaced (fresh us edition)
+      ∷ objectsUnshared (fresh us edition)
+      ∷ deadAreEmpty (fresh us edition)
+      ∷ deadAreUnused (fresh us edition)
+      ∷ rightsWithin (fresh us edition)
+      ∷ readingWithin (fresh us edition)
+      ∷ writingWithin (fresh us edition)
       ∷ [])
   unfolding computing
   others = (refl, (refl, (refl, (refl, (refl, (refl, (refl, (refl, (refl, tt)))))))))
 
-pub fresh-sound : (us : List User) → usersInRange us ≡ true → sound (fresh us) ≡ true
+pub fresh-sound : (us : List User) (edition : ℕ) → usersInRange us ≡ true → editionInRange edition ≡ true → sound (fresh us edition) ≡ true
 unfolding soundIn
-fresh-sound us h = every-i _ (fields us h, others us)
+fresh-sound us edition h k = every-i _ (fields us edition h k, others us edition)
 
-no-users : usersInRange (replicate userCount noUser) ≡ true
+no-users : (usersInRange (replicate userCount noUser) ≡ true) × (editionInRange edition1 ≡ true)
 unfolding computing
-no-users = refl
+no-users = (refl, refl)
 
--- whatever users are handed in, the tables handed back are sound
-pub build-sound : (us : List User) → sound (build us .tables) ≡ true
+-- whatever users and edition are handed in, the tables handed back are sound
+pub build-sound : (us : List User) (edition : ℕ) → sound (build us edition .tables) ≡ true
 unfolding build
-build-sound us = go (usersInRange us) refl
+build-sound us edition = go (every (usersInRange us ∷ editionInRange edition ∷ [])) refl
   where
-    go : (b : Bool) → usersInRange us ≡ b
-        → sound ((cond b (outcome (fresh us) 0) (outcome (fresh (replicate userCount noUser)) 2)) .tables) ≡ true
-    go true h = fresh-sound us h
-    go false h = fresh-sound (replicate userCount noUser) no-users
+    go : (b : Bool) → every (usersInRange us ∷ editionInRange edition ∷ []) ≡ b
+        → sound ((cond b (outcome (fresh us edition) 0) (outcome (fresh (replicate userCount noUser) edition1) 2)) .tables) ≡ true
+    go true h = fresh-sound us edition (every-at _ h 0) (every-at _ h 1)
+    go false h = fresh-sound (replicate userCount noUser) edition1 (no-users .0) (no-users .1)

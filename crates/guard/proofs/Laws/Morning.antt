@@ -4,7 +4,7 @@ use mathlib.Core.Path.{_≡_, refl}
 use mathlib.Core.List.{List, [], _∷_, map}
 use lib.ListN.{replicate}
 use Rattle.guard.specs.Label.{label}
-use Rattle.guard.specs.Tables.{noUser}
+use Rattle.guard.specs.Tables.{edition1, noUser}
 use Rattle.guard.specs.Fresh.{fresh}
 use Rattle.guard.specs.Step.{answers}
 use Rattle.guard.specs.Kind.{login, take, openr, openw, create, delete, rename}
@@ -49,6 +49,6 @@ morning =
     ∷ row delete 12 0 0 49 0 0 0 0  -- K14 delete by 12 of 49: 0.
     ∷ []
 
-pub morning-answers : answers (fresh morningUsers) (map (λ (r : Row). r .request) morning) ≡ map (λ (r : Row). r .expected) morning
+pub morning-answers : answers (fresh morningUsers edition1) (map (λ (r : Row). r .request) morning) ≡ map (λ (r : Row). r .expected) morning
 unfolding computing morningUsers morning
 morning-answers = refl

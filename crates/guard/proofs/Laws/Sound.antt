@@ -49,7 +49,7 @@ opened live m a b h k e l o =
     let within = every-e _ (implies-e _ _ (all-e 64 _ k e l) o) in
     every-i _ (used (live e) (not (m e)) (all-e 64 _ h e l) (not-of-true _ o), within)
 
-session-e : {width : ℕ} (t : Tables) → soundIn width t ≡ true → (s : ℕ) → s < 16 → SessionOk width (t .roles) (t .entities) s (sessionAt t s)
+session-e : {width : ℕ} (t : Tables) → soundIn width t ≡ true → (s : ℕ) → s < 16 → SessionOk width (t .edition) (t .roles) (t .entities) s (sessionAt t s)
 unfolding soundIn fieldsInRangeIn sessionInRangeIn isEmptySession deadAreEmpty deadAreUnused readingWithin writingWithin
 session-e t h s l =
     let r = sessionAt t s in
@@ -122,6 +122,7 @@ unfolding soundIn fieldsInRangeIn
 sound-e t h =
     let fields = every-at _ h 0 in
     record {
+      edition = every-at _ fields 7;
       users = every-at _ fields 0;
       manySessions = eqb-true _ _ (every-at _ fields 1);
       manyRoles = eqb-true _ _ (every-at _ fields 3);
@@ -151,7 +152,7 @@ open-i live m a b f = (
   all-i 64 _ (λ e l. implies-i _ _ (λ o. every-i _ (every-e _ (f e l o) .1))),
 )
 
-module _ {width : ℕ} (roles : List Role) (es : List Entity) (s : ℕ) (r : Session) (ok : SessionOk width roles es s r) where
+module _ {width edition : ℕ} (roles : List Role) (es : List Entity) (s : ℕ) (r : Session) (ok : SessionOk width edition roles es s r) where
   session-range : sessionInRangeIn width r ≡ true
   unfolding sessionInRangeIn
   session-range =
@@ -240,6 +241,7 @@ sound-i {width} t ok =
         also all-i 16 _ (λ r l. role-range _ r _ (ok .role r l))
         also eq-eqb _ _ (ok .manyEntities)
         also all-i 64 _ (λ e l. ok .entity e l .range)
+        also ok .edition
         also no-more)
 
     empty : deadAreEmpty t ≡ true

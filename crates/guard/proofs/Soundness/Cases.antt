@@ -119,15 +119,15 @@ unfolding every
 in-pairs true b c d = simp and-true
 in-pairs false b c d = refl
 
-module _ (labels : List ℕ) (roles level : ℕ) (s : Session) where
-  pub session-dead : (r : Bool) → s .live ≡ false → r ≡ isEmptySession s → r ≡ sessionTest labels roles level s
+module _ (labels : List ℕ) (roles edition level : ℕ) (s : Session) where
+  pub session-dead : (r : Bool) → s .live ≡ false → r ≡ isEmptySession s → r ≡ sessionTest labels roles edition level s
   session-dead r dead e = cond-no (s .live) _ _ _ dead e
 
-  pub session-out : (p q : Bool) → s .live ≡ true → p ≡ sessionInRange s → q ≡ contains roles (s .roles) → not (p && q) ≡ true → false ≡ sessionTest labels roles level s
+  pub session-out : (p q : Bool) → s .live ≡ true → p ≡ sessionInRange s → q ≡ contains roles (s .roles) → not (p && q) ≡ true → false ≡ sessionTest labels roles edition level s
   session-out p q live e f h = cond-yes (s .live) _ _ _ live (rw (in-pairs, ← e, ← f, of-not-true (p && q) h))
 
-  pub session-away : (l : Bool) → s .live ≡ true → l ≡ openLevels level s → not l ≡ true → false ≡ sessionTest labels roles level s
+  pub session-away : (l : Bool) → s .live ≡ true → l ≡ openLevels edition level s → not l ≡ true → false ≡ sessionTest labels roles edition level s
   session-away l live e h = cond-yes (s .live) _ _ _ live (rw (in-pairs, ← e, of-not-true l h) (simp (and-false)))
 
-  pub session-last : (p q l r : Bool) → s .live ≡ true → p ≡ sessionInRange s → q ≡ contains roles (s .roles) → not (p && q) ≡ false → l ≡ openLevels level s → not l ≡ false → r ≡ openLabels labels s → r ≡ sessionTest labels roles level s
+  pub session-last : (p q l r : Bool) → s .live ≡ true → p ≡ sessionInRange s → q ≡ contains roles (s .roles) → not (p && q) ≡ false → l ≡ openLevels edition level s → not l ≡ false → r ≡ openLabels labels s → r ≡ sessionTest labels roles edition level s
   session-last p q l r live e f h g k i = cond-yes (s .live) _ _ _ live (rw (in-pairs, ← e, ← f, of-not-false (p && q) h, ← g, of-not-false l k) i)

@@ -71,11 +71,11 @@ no-members w live Q s p z = record { small = rw z p; none = λ d. z; members = �
 
 module _ (t : Tables) (labels : List ℕ) (L : Labels t labels) (N : (e : ℕ) → e < 64 → Known e (entityAt t e))
     (roles : ℕ) (R : (k : ℕ) → k < 16 → has roles k ≡ roleAt t k .live) (s : ℕ) (x : Session) where
-  pub session-e : sessionTest labels roles (sessionLevel s) x ≡ true → SessionOk allCategories (t .roles) (t .entities) s x
+  pub session-e : sessionTest labels roles (t .edition) (sessionLevel s) x ≡ true → SessionOk allCategories (t .edition) (t .roles) (t .entities) s x
   unfolding sessionInRangeIn isEmptySession
   session-e h = go (x .live) refl
     where
-      go : (b : Bool) → x .live ≡ b → SessionOk allCategories (t .roles) (t .entities) s x
+      go : (b : Bool) → x .live ≡ b → SessionOk allCategories (t .edition) (t .roles) (t .entities) s x
       go true live =
           let test = every-at _ (yes-e (x .live) _ _ live h) in
           let range = every-at _ (test 0) in
@@ -97,7 +97,7 @@ module _ (t : Tables) (labels : List ℕ) (L : Labels t labels) (N : (e : ℕ) �
               none = λ d. absurd (clash _ live d);
               members = λ e l m.
                   let seen = every-at _ (sym (below-is (x .label) (entityAt t e) _ (L e l) g (N e l .cats)) ∙ implies-e _ _ (all-e 64 _ (opened 0) e l) m) in
-                  every-i _ (seen 0, (implies-e _ _ (all-e 64 _ (levels 0) e l) m, (seen 1, tt)));
+                  every-i _ (seen 0, (implies-i _ _ (λ k. implies-e _ _ (all-e 64 _ (implies-e _ _ (levels 0) k) e l) m), (seen 1, tt)));
             };
             writing = record {
               small = ltb-true _ _ (range 4);
@@ -119,7 +119,7 @@ module _ (t : Tables) (labels : List ℕ) (L : Labels t labels) (N : (e : ℕ) �
             writing = no-members 64 _ _ _ (omega arith) (eqb-true _ _ (none 4));
           }
 
-  pub session-i : SessionOk allCategories (t .roles) (t .entities) s x → sessionTest labels roles (sessionLevel s) x ≡ true
+  pub session-i : SessionOk allCategories (t .edition) (t .roles) (t .entities) s x → sessionTest labels roles (t .edition) (sessionLevel s) x ≡ true
   unfolding sessionInRangeIn isEmptySession
   session-i ok = go (x .live) refl
     where
@@ -131,7 +131,7 @@ module _ (t : Tables) (labels : List ℕ) (L : Labels t labels) (N : (e : ℕ) �
           every-i _
           (lt-ltb _ _ (ok .user), (ok .label, (lt-ltb _ _ (ok .held .small), (lt-ltb _ _ (ok .reading .small), (lt-ltb _ _ (ok .writing .small), tt)))))
 
-      go : (b : Bool) → x .live ≡ b → sessionTest labels roles (sessionLevel s) x ≡ true
+      go : (b : Bool) → x .live ≡ b → sessionTest labels roles (t .edition) (sessionLevel s) x ≡ true
       go true live =
           sym (cond-yes (x .live) _ _ _ live (sym (every-i _ (
             range,
@@ -139,7 +139,7 @@ module _ (t : Tables) (labels : List ℕ) (L : Labels t labels) (N : (e : ℕ) �
               has-contains _ _ (λ k m. let l = has-below 16 _ k (ok .held .small) m in R k l ∙ ok .held .members k l m),
               (
                 every-i _ (
-                  all-i 64 _ (λ e l. implies-i _ _ (λ m. every-at _ (ok .reading .members e l m) 1)),
+                  implies-i _ _ (λ k. all-i 64 _ (λ e l. implies-i _ _ (λ m. implies-e _ _ (every-at _ (ok .reading .members e l m) 1) k))),
                   (all-i 64 _ (λ e l. implies-i _ _ (λ m. every-at _ (ok .writing .members e l m) 1)), tt),
                 ),
                 (

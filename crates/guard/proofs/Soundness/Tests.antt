@@ -1,12 +1,12 @@
 -- Tests as code makes them.
---     cond-yes, cond-no, yes-e, no-e, and-two, two-miss, two-last     against what a contract lists
+--     cond-yes, cond-no, yes-e, no-e, and-two, two-miss, two-last, unless      against what a contract lists
 --     agree-e                                                         two tests that compute alike on a table
 -- Assumes nothing.
 use Prim.Native.Nat.{ℕ, _<_}
-use mathlib.Core.Bool.{Bool, true, false, not, _&&_, cond, and-true}
+use mathlib.Core.Bool.{Bool, true, false, not, _&&_, _||_, cond, and-true}
 use mathlib.Core.List.{[], _∷_}
 use mathlib.Core.Path.{_≡_, refl, sym}
-use Rattle.bitset.specs.Tests.{every, all}
+use Rattle.bitset.specs.Tests.{every, implies, all}
 use Rattle.bitset.specs.Tests.Laws.{of-not-true, of-not-false, all-e}
 
 pub cond-yes : (b x y z : Bool) → b ≡ true → x ≡ y → x ≡ cond b y z
@@ -32,6 +32,11 @@ two-miss a x y e h = rw (← e, of-not-true a h)
 pub two-last : (a b x y : Bool) → a ≡ x → not a ≡ false → b ≡ y → b ≡ every (x ∷ y ∷ [])
 unfolding every
 two-last a b x y e h f = rw (← e, of-not-false a h, f) (simp and-true)
+
+pub unless : (a b y : Bool) → b ≡ y → (not a || b) ≡ implies a y
+unfolding implies
+unless true b y e = e
+unless false b y e = refl
 
 abbrev agree : Bool → Bool → Bool
 agree true b = b

@@ -1,7 +1,7 @@
 -- The parts of the test, in its order, against `sound`: what sound tables pass, and that tables which pass all are sound.
 --     usersTest, entitiesTest, chainsTest, namesTest, rolesTest, sessionsTest                the parts
 --     Taken, LiveRoles, Sized, keys-small, numbers                                           what the later parts rest on
---     users-pass, entities-pass, chains-pass, names-pass, roles-pass, sessions-pass          what sound tables pass
+--     edition-pass, users-pass, entities-pass, chains-pass, names-pass, roles-pass, sessions-pass          what sound tables pass
 --     refuted, met, decided                    a part that fails, one that is met, and the last part, which decides
 -- Assumes nothing.
 use Prim.Native.Nat.{ℕ, _%_, _≤_, _<_}
@@ -17,7 +17,7 @@ use Rattle.bitset.specs.Sets.{has}
 use Rattle.guard.specs.Level.{sessionLevel, isRoot}
 use Rattle.guard.specs.Tables.{noUser, sessionAt, roleAt, entityAt}
 use Rattle.guard.specs.Label.{allCategories}
-use Rattle.guard.specs.Sound.{usersInRangeIn, sound}
+use Rattle.guard.specs.Sound.{usersInRangeIn, editionInRange, sound}
 use Rattle.guard.specs.Private.Tested.{parentByKey, liveByKey, grantableIn, ends, entityTest, ownKey, roleTest, sessionTest}
 use Rattle.guard.specs.Private.Scan.{Keys}
 use Rattle.guard.specs.Private.InForce.{userInRange}
@@ -46,7 +46,7 @@ abbrev pub rolesTest : Tables → ℕ → Bool
 rolesTest t live = all 16 (λ r. roleTest (grantableIn live r) r (roleAt t r))
 
 abbrev pub sessionsTest : Tables → List ℕ → ℕ → Bool
-sessionsTest t labels roles = all 16 (λ s. sessionTest labels roles (sessionLevel s) (sessionAt t s))
+sessionsTest t labels roles = all 16 (λ s. sessionTest labels roles (t .edition) (sessionLevel s) (sessionAt t s))
 
 -- the set of the live entities, as the code takes it from the keys
 abbrev pub Taken : List ℕ → ℕ → Type 0
@@ -80,6 +80,9 @@ module _ (t : Tables) (h : sound t ≡ true) where
 
   pub numbers : (e : ℕ) → e < 64 → Known e (entityAt t e)
   numbers e l = known t e _ (settled-of t e (ok .entity e l))
+
+  pub edition-pass : editionInRange (t .edition) ≡ true
+  edition-pass = ok .edition
 
   pub users-pass : usersTest t ≡ true
   unfolding usersInRangeIn
@@ -120,11 +123,12 @@ pub record Sized (t : Tables) : Type 0 where
   pub entities : length (t .entities) ≡ 64
 
 passed : (t : Tables) (keys labels : List ℕ) (live roles : ℕ) → Sized t → Keys (t .entities) keys → Taken keys live → Labels t labels → LiveRoles t roles
-    → usersTest t ≡ true → entitiesTest t ≡ true → chainsTest keys ≡ true → namesTest keys ≡ true → rolesTest t live ≡ true → sessionsTest t labels roles ≡ true
+    → editionInRange (t .edition) ≡ true → usersTest t ≡ true → entitiesTest t ≡ true → chainsTest keys ≡ true → namesTest keys ≡ true → rolesTest t live ≡ true → sessionsTest t labels roles ≡ true
     → sound t ≡ true
 unfolding usersInRangeIn
-passed t keys labels live roles size K L B R u e c n r s =
+passed t keys labels live roles size K L B R d u e c n r s =
     sound-i t (record {
+      edition = d;
       users = every-i _ (eq-eqb _ _ (size .users), (u, tt));
       manySessions = size .sessions;
       manyRoles = size .roles;
@@ -154,7 +158,7 @@ passed t keys labels live roles size K L B R u e c n r s =
     numbers′ k l = known t k _ (settled′ k l)
 
 pub decided : (t : Tables) (keys labels : List ℕ) (live roles : ℕ) → Sized t → Keys (t .entities) keys → Taken keys live → Labels t labels → LiveRoles t roles
-    → usersTest t ≡ true → entitiesTest t ≡ true → chainsTest keys ≡ true → namesTest keys ≡ true → rolesTest t live ≡ true
+    → editionInRange (t .edition) ≡ true → usersTest t ≡ true → entitiesTest t ≡ true → chainsTest keys ≡ true → namesTest keys ≡ true → rolesTest t live ≡ true
     → (r : Bool) → r ≡ sessionsTest t labels roles → r ≡ sound t
-decided t keys labels live roles size K L B R u e c n p r s =
-    both r (sound t) (λ h. passed t keys labels live roles size K L B R u e c n p (sym s ∙ h)) (λ h. s ∙ sessions-pass t h labels roles B R)
+decided t keys labels live roles size K L B R d u e c n p r s =
+    both r (sound t) (λ h. passed t keys labels live roles size K L B R d u e c n p (sym s ∙ h)) (λ h. s ∙ sessions-pass t h labels roles B R)

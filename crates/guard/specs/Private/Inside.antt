@@ -67,8 +67,8 @@ asksRights call =
     (either (eqb call kind.delete) (either (eqb call kind.grant) (either (eqb call kind.revoke) (eqb call kind.share)))))
 
 -- ---- the view, from the records and what the scans tell
-abbrev pub viewOf : Places → Session → User → Role → Entity → Entity → Found → View
-viewOf at session user role entity parent found =
+abbrev pub viewOf : Places → Session → User → Role → Entity → Entity → Found → ℕ → View
+viewOf at session user role entity parent found edition =
     record {
       fits = at .fits;
       session = session;
@@ -78,6 +78,7 @@ viewOf at session user role entity parent found =
       entity = entity;
       parent = parent;
       found = found;
+      edition = edition;
     }
 
 -- ---- what a request looks at: v holds the records that q concerns, and of what q asks of the tables the answers
@@ -89,6 +90,7 @@ pub record RightsOf (t : Tables) (x : ℕ) (g : Rights) : Type 0 where
   pub owns : (e : ℕ) → e < entityCount → has (g .owns) e ≡ hasRight t x own e
 
 pub record Seen (t : Tables) (q : Request) (v : View) : Type 0 where
+  pub edition : v .edition ≡ t .edition
   pub session : q .seat < sessionCount → v .session ≡ sessionAt t (q .seat)
   pub user : q .user < userCount → v .user ≡ userAt t (q .user)
   pub live : q .role < roleCount → v .live ≡ roleAt t (q .role) .live

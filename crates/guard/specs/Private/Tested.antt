@@ -9,7 +9,7 @@ use Rattle.bitset.specs.Tests.{every, either, implies, all}
 use Rattle.bitset.specs.Sets.{has, contains, join}
 use Rattle.guard.specs.Level.{roleLevel, entityLevel, isRoot, isKeeper}
 use Rattle.guard.specs.Label.{dominates}
-use Rattle.guard.specs.Tables.{container, sharedMark}
+use Rattle.guard.specs.Tables.{edition1, container, sharedMark}
 use Rattle.guard.specs.Chain.{climbs}
 use Rattle.guard.specs.Sound.{isRootRecord, isMarkAllowed, isEmptyEntity, isEmptySession}
 use Rattle.guard.specs.Private.InForce.{sessionInRange, entityInRange}
@@ -95,9 +95,12 @@ labelNumber n = cond (n .live) (packedLabel (n .label)) 16777216
 abbrev pub dominated : List ℕ → Label → ℕ → Bool
 dominated labels a e = every (leb (getD labels e 0) (a .grade * 65536 + 65535) ∷ contains (a .cats) (getD labels e 0 % 65536) ∷ [])
 
-abbrev pub openLevels : ℕ → Session → Bool
-openLevels level s =
-    every (members (λ e. leb level (entityLevel e)) (s .reading) ∷ members (λ e. leb (entityLevel e) level) (s .writing) ∷ [])
+abbrev pub openLevels : ℕ → ℕ → Session → Bool
+openLevels edition level s =
+    every
+    (implies (eqb edition edition1) (members (λ e. leb level (entityLevel e)) (s .reading))
+    ∷ members (λ e. leb (entityLevel e) level) (s .writing)
+    ∷ [])
 
 abbrev pub openLabels : List ℕ → Session → Bool
 openLabels labels s =
@@ -106,8 +109,8 @@ openLabels labels s =
     ∷ members (λ e. eqb (getD labels e 0) (packedLabel (s .label))) (s .writing)
     ∷ [])
 
-abbrev pub sessionTest : List ℕ → ℕ → ℕ → Session → Bool
-sessionTest labels roles level s =
+abbrev pub sessionTest : List ℕ → ℕ → ℕ → ℕ → Session → Bool
+sessionTest labels roles edition level s =
     cond (s .live)
-    (every (sessionInRange s ∷ contains roles (s .roles) ∷ openLevels level s ∷ openLabels labels s ∷ []))
+    (every (sessionInRange s ∷ contains roles (s .roles) ∷ openLevels edition level s ∷ openLabels labels s ∷ []))
     (isEmptySession s)

@@ -13,6 +13,7 @@ use super::record::session_in_range;
 use crate::Entity;
 use crate::Label;
 use crate::Session;
+use crate::sizes::EDITION_1;
 use crate::sizes::ENTITIES;
 use crate::sizes::LEVEL_SEATS;
 use crate::sizes::SEAT_END;
@@ -123,12 +124,12 @@ pub fn to_level(level: u32) -> u64
     0xffff_ffff_ffff_ffff
 }
 
-// Whether what `s`, at a level, has open is of the levels that it may have open.
-fn levels_allowed(level: u32, s: Session) -> bool
+// Whether what `s`, at a level, has open is of the levels that it may have open: for reading, in edition 2, of any.
+fn levels_allowed(edition: u8, level: u32, s: Session) -> bool
     requires { ⌜ level < 4 ⌝ }
-    ensures { λ r. ⌜ r ≡ openLevels level s ⌝ }
+    ensures { λ r. ⌜ r ≡ openLevels edition level s ⌝ }
 {
-    bitset::contains64(from_level(level), s.reading)
+    ((edition != EDITION_1) | bitset::contains64(from_level(level), s.reading))
         & bitset::contains64(to_level(level), s.writing)
 }
 
@@ -142,10 +143,10 @@ fn labels_allowed(labels: &[u32; ENTITIES], s: Session) -> bool
     equals_each(labels, packed(s.label), s.writing)
 }
 
-// Whether `s`, at a level, is as soundness asks; `roles` are the live ones.
-fn session_ok(labels: &[u32; ENTITIES], roles: u16, level: u32, s: Session) -> bool
+// Whether `s`, at a level, is as soundness asks in the edition; `roles` are the live ones.
+fn session_ok(labels: &[u32; ENTITIES], roles: u16, edition: u8, level: u32, s: Session) -> bool
     requires { ⌜ level < 4 ⌝ }
-    ensures { λ r. ⌜ r ≡ sessionTest (now (labels .entry)) roles level s ⌝ }
+    ensures { λ r. ⌜ r ≡ sessionTest (now (labels .entry)) roles edition level s ⌝ }
 {
     if !s.live {
         return is_empty_session(s);
@@ -153,19 +154,24 @@ fn session_ok(labels: &[u32; ENTITIES], roles: u16, level: u32, s: Session) -> b
     if !(session_in_range(s) & bitset::contains16(roles, s.roles)) {
         return false;
     }
-    if !levels_allowed(level, s) {
+    if !levels_allowed(edition, level, s) {
         return false;
     }
     labels_allowed(labels, s)
 }
 
-pub fn sessions_ok(sessions: [Session; SESSIONS], labels: &[u32; ENTITIES], roles: u16) -> bool
-    ensures { λ r. ⌜ r ≡ all sessionCount (λ s. sessionTest (now (labels .entry)) roles (sessionLevel s) (getD sessions s noSession)) ⌝ }
+pub fn sessions_ok(
+    sessions: [Session; SESSIONS],
+    labels: &[u32; ENTITIES],
+    roles: u16,
+    edition: u8,
+) -> bool
+    ensures { λ r. ⌜ r ≡ all sessionCount (λ s. sessionTest (now (labels .entry)) roles edition (sessionLevel s) (getD sessions s noSession)) ⌝ }
 {
     let mut s: u32 = 0;
     while s < SEAT_END {
         let x = sessions[s as usize];
-        if !session_ok(labels, roles, s / LEVEL_SEATS, x) {
+        if !session_ok(labels, roles, edition, s / LEVEL_SEATS, x) {
             return false;
         }
         s += 1;

@@ -1,4 +1,4 @@
-// Tests of one record that soundness asks, and of each user and entity in turn. Each is the definition of specs/Sound or specs/Label that its contract cites;
+// Tests of one record that soundness asks, of the edition, and of each user and entity in turn. Each is the definition of specs/Sound or specs/Label that its contract cites;
 // what holds of every value of a field's type, as that a `u16` is at most 65,535, is not tested.
 ghost use Prim.Native.Nat.{_%_};
 ghost use mathlib.Core.Path.{_≡_};
@@ -7,7 +7,7 @@ ghost use Rattle.bitset.specs.Tests.{all};
 ghost use Rattle.guard.specs.Level.{userCount, entityCount};
 ghost use Rattle.guard.specs.Tables.{noUser, noEntity};
 ghost use Rattle.guard.specs.Label.{sameLabel, noLabel};
-ghost use Rattle.guard.specs.Sound.{isRootRecord, isEmptyEntity, isEmptySession};
+ghost use Rattle.guard.specs.Sound.{editionInRange, isRootRecord, isEmptyEntity, isEmptySession};
 ghost use Rattle.guard.specs.Private.Tested.{fits, entityFits, entityTest};
 ghost use Rattle.guard.specs.Private.InForce.{userInRange, sessionInRange};
 use crate::Entity;
@@ -16,6 +16,8 @@ use crate::Session;
 use crate::User;
 use crate::labels;
 use crate::sizes::CONTAINER;
+use crate::sizes::EDITION_1;
+use crate::sizes::EDITION_2;
 use crate::sizes::ENTITIES;
 use crate::sizes::LEVEL_ENTITIES;
 use crate::sizes::SHARED;
@@ -39,6 +41,12 @@ fn user_in_range(u: User) -> bool
     ensures { λ r. ⌜ r ≡ userInRange u ⌝ }
 {
     (u.ceiling <= TOP_LEVEL) & labels::in_range(u.clearance)
+}
+
+pub fn edition_in_range(edition: u8) -> bool
+    ensures { λ r. ⌜ r ≡ editionInRange edition ⌝ }
+{
+    (EDITION_1 <= edition) & (edition <= EDITION_2)
 }
 
 pub fn users_in_range(users: [User; USERS]) -> bool

@@ -14,10 +14,10 @@ use Rattle.bitset.specs.Tests.Laws.{every-at, some-cong, of-not-false}
 use Rattle.bitset.specs.Sets.{has}
 use Rattle.guard.specs.Level.{entityCount, sessionLevel, roleLevel, entityLevel, isRoot, keeperOf}
 use Rattle.guard.specs.Label.{dominates, sameLabel}
-use Rattle.guard.specs.Tables.{sessionAt, entityAt, hasRight, execute, read, write, own, object, container, sharedMark, lists, isShared, isChild}
+use Rattle.guard.specs.Tables.{edition1, inEdition1, sessionAt, entityAt, hasRight, execute, read, write, own, object, container, sharedMark, lists, isShared, isChild}
 use Rattle.guard.specs.Sound.{sound}
 use Rattle.guard.specs.Refusals.{_when_}
-use Rattle.guard.specs.Conditions.{labelAsked, seatLive, userTooLow, seatDead, createOutOfLevel, grantBelow, userUnlisted, keeperNotHeld, cannotOpen, cannotChangeIn, cannotChange, notOwned, roleHeld, openForReading, openForWriting, notOpen, entityDead, roleDead, roleLive, nameTaken, hasChildren, recordedParent}
+use Rattle.guard.specs.Conditions.{labelAsked, seatLive, userTooLow, seatDead, entityBelowSeat, createOutOfLevel, grantBelow, userUnlisted, keeperNotHeld, cannotOpen, cannotChangeIn, cannotChange, notOwned, roleHeld, openForReading, openForWriting, notOpen, entityDead, roleDead, roleLive, nameTaken, hasChildren, recordedParent}
 use Rattle.guard.specs.Requests.{Rule, fieldInRangeIn, login, logout, take, drop, openr, openw, close, create, delete, rename, grant, revoke, list, unlist, make, unmake, share, unknown, rules, ruleOf}
 use Rattle.guard.specs.Private.InForce.{fieldInRange}
 use Rattle.isolation.specs.Upper.{firstEntity, fieldUpper}
@@ -102,6 +102,10 @@ module _ (L : ℕ) (q : Request) (t u : Tables) (same : Same L t u) (st : sound 
   unfolding notOpen
   notOpen-same s e = rw (reading-as s e, writing-as s e)
 
+  -- the condition 10 of openr, by the edition
+  readsDown-same : every (inEdition1 t ∷ entityBelowSeat t q ∷ []) ≡ every (inEdition1 u ∷ entityBelowSeat u q ∷ [])
+  readsDown-same = ap (λ n. every (eqb n edition1 ∷ entityBelowSeat t q ∷ [])) (same .edition)
+
   right-same : (right e : ℕ) → Seat → firstEntity L ≤ e → hasRight t (q .seat) right e ≡ hasRight u (q .seat) right e
   right-same right e s = hasRight-same L t u same (q .seat) right e (upper-seat L (q .seat) s)
 
@@ -162,15 +166,15 @@ module _ (L : ℕ) (q : Request) (t u : Tables) (same : Same L t u) (st : sound 
           let level = parent-level t st (q .entity) (ltb-true (q .entity) entityCount l) (of-not-false _ live) inner .0 in
           omega (arith, upper-entity L (q .entity) e)
 
-  -- openr and openw, by the test of labels, the right asked for and what is open
-  open-agrees : (below : Bool) (f : Label → Label → Bool) (right : ℕ) (a b : Bool) → Seat → Inside (q .entity) → ltb (q .entity) entityCount ≡ true → a ≡ b
+  -- openr and openw, by the test of levels, that of labels, the right asked for and what is open
+  open-agrees : (c d : Bool) (f : Label → Label → Bool) (right : ℕ) (a b : Bool) → Seat → Inside (q .entity) → ltb (q .entity) entityCount ≡ true → c ≡ d → a ≡ b
       → Alike
-      (5 when seatDead t q ∷ 7 when entityDead t q ∷ 10 when below ∷ 11 when not (f (sessionAt t (q .seat) .label) (entityAt t (q .entity) .label))
+      (5 when seatDead t q ∷ 7 when entityDead t q ∷ 10 when c ∷ 11 when not (f (sessionAt t (q .seat) .label) (entityAt t (q .entity) .label))
       ∷ 13 when cannotOpen t q right ∷ 16 when a ∷ [])
-      (5 when seatDead u q ∷ 7 when entityDead u q ∷ 10 when below ∷ 11 when not (f (sessionAt u (q .seat) .label) (entityAt u (q .entity) .label))
+      (5 when seatDead u q ∷ 7 when entityDead u q ∷ 10 when d ∷ 11 when not (f (sessionAt u (q .seat) .label) (entityAt u (q .entity) .label))
       ∷ 13 when cannotOpen u q right ∷ 16 when b ∷ [])
-  open-agrees below f right a b s e l already =
-      seatDead-same s also entityDead-same e then (λ live. refl also labels-same f s e also cannotOpen-same right s e l live also already also tt)
+  open-agrees c d f right a b s e l levels already =
+      seatDead-same s also entityDead-same e then (λ live. levels also labels-same f s e also cannotOpen-same right s e l live also already also tt)
 
   create-agrees : Agrees create
   unfolding create fieldUpper createOutOfLevel
@@ -226,8 +230,8 @@ module _ (L : ℕ) (q : Request) (t u : Tables) (same : Same L t u) (st : sound 
       and (λ r n. seatDead-same (every-at _ n 0) also tt)  -- logout
       and (λ r n. let s = every-at _ n 0 in let o = every-at _ n 1 in seatDead-same s also roleDead-same o also userUnlisted-same s o also roleHeld-same s o also tt)  -- take
       and (λ r n. let s = every-at _ n 0 in let o = every-at _ n 1 in seatDead-same s also roleDead-same o also ap not (roleHeld-same s o) also tt)  -- drop
-      and (λ r n. open-agrees _ dominates read _ _ (every-at _ n 0) (every-at _ n 1) (every-at _ r 1) (reading-as (every-at _ n 0) (every-at _ n 1)))  -- openr
-      and (λ r n. open-agrees _ sameLabel write _ _ (every-at _ n 0) (every-at _ n 1) (every-at _ r 1) (writing-as (every-at _ n 0) (every-at _ n 1)))  -- openw
+      and (λ r n. open-agrees _ _ dominates read _ _ (every-at _ n 0) (every-at _ n 1) (every-at _ r 1) readsDown-same (reading-as (every-at _ n 0) (every-at _ n 1)))  -- openr
+      and (λ r n. open-agrees _ _ sameLabel write _ _ (every-at _ n 0) (every-at _ n 1) (every-at _ r 1) refl (writing-as (every-at _ n 0) (every-at _ n 1)))  -- openw
       and (λ r n. seatDead-same (every-at _ n 0) also entityDead-same (every-at _ n 1) also notOpen-same (every-at _ n 0) (every-at _ n 1) also tt)  -- close
       and create-agrees  -- create
       and (λ r n. change-agrees 15 _ _ (every-at _ n 0) (every-at _ n 1) (every-at _ r 1) (λ p up. hasChildren-same (every-at _ n 1)))  -- delete

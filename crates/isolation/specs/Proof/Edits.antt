@@ -44,7 +44,7 @@ sessionTable L =
       store = withSessions;
       at = λ t. refl;
       old = λ t u s. s .sessions;
-      new = λ t u l m s e. record { users = s .users; sessions = e; roles = s .roles; entities = s .entities };
+      new = λ t u l m s e. record { users = s .users; sessions = e; roles = s .roles; entities = s .entities; edition = s .edition };
     }
 
 abbrev pub roleTable : (L : ℕ) → Table L Role
@@ -57,7 +57,7 @@ roleTable L =
       store = withRoles;
       at = λ t. refl;
       old = λ t u s. s .roles;
-      new = λ t u l m s e. record { users = s .users; sessions = s .sessions; roles = e; entities = s .entities };
+      new = λ t u l m s e. record { users = s .users; sessions = s .sessions; roles = e; entities = s .entities; edition = s .edition };
     }
 
 abbrev pub entityTable : (L : ℕ) → Table L Entity
@@ -70,7 +70,7 @@ entityTable L =
       store = withEntities;
       at = λ t. refl;
       old = λ t u s. s .entities;
-      new = λ t u l m s e. record { users = s .users; sessions = s .sessions; roles = s .roles; entities = e };
+      new = λ t u l m s e. record { users = s .users; sessions = s .sessions; roles = s .roles; entities = e; edition = s .edition };
     }
 
 -- ---- a member put into a set, or out of it: below k it is not seen, from k on it moves down by k
@@ -86,7 +86,7 @@ put-above false = without-above
 
 module _ (L : ℕ) where
   pub same-refl : (t : Tables) → Same L t t
-  same-refl t = record { users = refl; sessions = refl; roles = refl; entities = refl }
+  same-refl t = record { users = refl; sessions = refl; roles = refl; entities = refl; edition = refl }
 
   pub same-trans : (t u v : Tables) → Same L t u → Same L u v → Same L t v
   same-trans t u v a b =
@@ -95,6 +95,7 @@ module _ (L : ℕ) where
         sessions = a .sessions ∙ b .sessions;
         roles = a .roles ∙ b .roles;
         entities = a .entities ∙ b .entities;
+        edition = a .edition ∙ b .edition;
       }
 
   module _ {A : Type 0} (T : Table L A) (f : A → A) where

@@ -4,7 +4,7 @@
 --     same-sound                    sound in the old width or in force
 --     same-ranges, same-answer, same-next      one request
 --     same-log                      a log
---     givenBack, old-ones           tables without marks as old ones, every number the same
+--     givenBack, old-ones           tables without marks, of edition 1, as old ones, every number the same
 -- Assumes nothing.
 use Prim.Native.Nat.{ℕ, suc, _≤_, _<_}
 use mathlib.Core.Path.{_≡_, refl, sym, ap, ap₂}
@@ -38,7 +38,7 @@ use Rattle.guard.proofs.Laws.Label.{grade-in, cats-in, in-range}
 use Rattle.guard.proofs.Laws.Sound.Facts.{Sound, SessionOk, EntityOk}
 use Rattle.guard.proofs.Laws.Sound.{sound-e, sound-i}
 use Rattle.guard.proofs.Kept.{sound-nextIn}
-use Rattle.isolation.specs.Within.{fieldWithin, categoriesWithin, Fits, Unshared}
+use Rattle.isolation.specs.Within.{fieldWithin, categoriesWithin, Fits, AsOld}
 
 -- ---- a label
 label-within : (v w : ℕ) (a : Label) → labelInRangeIn v a ≡ true → a .cats ≤ w → labelInRangeIn w a ≡ true
@@ -60,6 +60,7 @@ unfolding usersInRangeIn userInRangeIn entityInRangeIn
 fits-sound v w t h fits =
     sound-i t
     (record {
+      edition = ok .edition;
       users = users;
       manySessions = ok .manySessions;
       manyRoles = ok .manyRoles;
@@ -85,7 +86,7 @@ fits-sound v w t h fits =
           ),
         )
 
-    session : (s : ℕ) → s < 16 → SessionOk w (t .roles) (t .entities) s (sessionAt t s)
+    session : (s : ℕ) → s < 16 → SessionOk w (t .edition) (t .roles) (t .entities) s (sessionAt t s)
     session s l =
         let old = ok .session s l in
         record {
@@ -172,7 +173,7 @@ same-log t ok (q ∷ log) within =
     let answer-is = same-answer t ok q here in
     (rw (sym answer-is, sym next-is) (ap (λ (l : List ℕ). answerIn oldWidth t q ∷ l) told), rw (sym next-is) left, rw (sym next-is) sound)
 
--- ---- tables as old ones, every number the same; old ones have no marks
+-- ---- tables as old ones, every number the same; old ones have no marks and no edition
 abbrev labelGiven : Label → OldLabel
 labelGiven a = record { cats = a .cats; grade = a .grade }
 
@@ -204,14 +205,15 @@ there-and-back f g (a ∷ l) d same = ap₂ _∷_ (same 0 (omega arith)) (there-
 entity-back : (n : Entity) → n .shared ≡ 0 → entityTaken (entityGiven n) ≡ n
 entity-back n none = λ i. record { live = n .live; kind = n .kind; parent = n .parent; name = n .name; label = n .label; shared = sym none i }
 
-taken-given : (t : Tables) → length (t .entities) ≡ entityCount → Unshared t → takenOver (givenBack t) ≡ t
+taken-given : (t : Tables) → length (t .entities) ≡ entityCount → AsOld t → takenOver (givenBack t) ≡ t
 unfolding takenOver givenBack
-taken-given t long none =
+taken-given t long old =
     rw (
       there-and-back userTaken userGiven (t .users) noUser (λ i h. refl),
       there-and-back sessionTaken sessionGiven (t .sessions) noSession (λ i h. refl),
-      there-and-back entityTaken entityGiven (t .entities) noEntity (λ i h. entity-back _ (none i (omega (arith, long)))),
+      there-and-back entityTaken entityGiven (t .entities) noEntity (λ i h. entity-back _ (old .unshared i (omega (arith, long)))),
+      sym (old .edition),
     )
 
-pub old-ones : (t : Tables) → soundIn oldWidth t ≡ true → Unshared t → (old : OldTables) × (takenOver old ≡ t) × Fits oldWidth (takenOver old)
+pub old-ones : (t : Tables) → soundIn oldWidth t ≡ true → AsOld t → (old : OldTables) × (takenOver old ≡ t) × Fits oldWidth (takenOver old)
 old-ones t ok none = let same = taken-given t (sound-e t ok .manyEntities) none in (givenBack t, same, rw same (sound-fits oldWidth t ok))

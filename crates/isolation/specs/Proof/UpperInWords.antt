@@ -38,6 +38,7 @@ module _ (L : ℕ) (t u : Tables) where
         listed = λ r n hr. ap (λ (s : ℕ). has s n) (listed-same L t u same r (omega arith));
         rights = λ r e hr he. rightsOn-same L t u same r e (omega arith) (omega arith);
         entity = λ e he. entity-same L t u same e (omega arith);
+        edition = same .edition;
       }
 
   -- ---- and back
@@ -89,6 +90,7 @@ module _ (L : ℕ) (t u : Tables) where
           sessions = seen-ext _ _ (t .sessions) (u .sessions) noSession (st .sessions ∙ sym (su .sessions)) session-alike;
           roles = seen-ext _ _ (t .roles) (u .roles) noRole (st .roles ∙ sym (su .roles)) role-alike;
           entities = seen-ext _ _ (t .entities) (u .entities) noEntity (st .entities ∙ sym (su .entities)) entity-alike;
+          edition = words .edition;
         }
 
 pub upper-iff : (L : ℕ) (t u : Tables) → Sized t → Sized u → (upper L t ≡ upper L u ↔ SameUpper L t u)

@@ -1,6 +1,6 @@
 -- What equal upper parts tell of two tables.
 --     upper-seat .. lower-entity    from a number's level to its place before or after the first upper one
---     Same, same-of, of-same        equal upper parts, as four equations of lists
+--     Same, same-of, of-same        equal upper parts, as an equation of editions and four of lists
 --     upper-rights                  a role's rights on an upper entity, by its upper part
 --     session-same .. listed-same   what the records at upper numbers agree on
 --     hasRight-same, reaches-same   rights on an upper entity, and the way to it
@@ -58,12 +58,13 @@ pub record Same (L : ℕ) (t u : Tables) : Type 0 where
   pub sessions : seen (upperSession L) (firstSession L) (t .sessions) ≡ seen (upperSession L) (firstSession L) (u .sessions)
   pub roles : seen (upperRole L) (firstRole L) (t .roles) ≡ seen (upperRole L) (firstRole L) (u .roles)
   pub entities : seen (λ e. e) (firstEntity L) (t .entities) ≡ seen (λ e. e) (firstEntity L) (u .entities)
+  pub edition : t .edition ≡ u .edition
 
 pub of-same : (L : ℕ) (t u : Tables) → Same L t u → upper L t ≡ upper L u
 unfolding upper
 of-same L t u e =
     let whole : drop (firstEntity L) (t .entities) ≡ drop (firstEntity L) (u .entities) = simp map-whole at (e .entities) in
-    λ i. record { users = e .users i; sessions = e .sessions i; roles = e .roles i; entities = whole i }
+    λ i. record { users = e .users i; sessions = e .sessions i; roles = e .roles i; entities = whole i; edition = e .edition i }
 
 pub same-of : (L : ℕ) (t u : Tables) → upper L t ≡ upper L u → Same L t u
 unfolding upper
@@ -73,6 +74,7 @@ same-of L t u e =
       sessions = ap (λ (v : Tables). v .sessions) e;
       roles = ap (λ (v : Tables). v .roles) e;
       entities = ap (λ (v : Tables). map (λ e. e) (v .entities)) e;
+      edition = ap (λ (v : Tables). v .edition) e;
     }
 
 -- a role's rights on an upper entity, read off the role's upper part

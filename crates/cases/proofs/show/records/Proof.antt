@@ -5,10 +5,10 @@ use Rattle.cases.proofs.show.records.Statement.{statement}
 use Rattle.cases.proofs.show.records.Tie as tie
 
 abbrev Inv-loop : tie.InvT-loop
-Inv-loop a b kind₀ kind = kind ≤ 4
+Inv-loop a b kind₀ kind = kind ≤ 5
 
 abbrev μ-loop : tie.MeasureT-loop
-μ-loop a b kind₀ kind = 4 - kind
+μ-loop a b kind₀ kind = 5 - kind
 
 loop-holds : tie.Need-loop-holds Inv-loop μ-loop
 loop-holds c = search needs

@@ -1,5 +1,6 @@
 -- Sound tables, as facts: what each session, role and entity has to be, over the lists that it speaks of, so that an edit
--- of one list leaves what is said over the others as it stands. The width is that of the labels.
+-- of one list leaves what is said over the others as it stands. The width is that of the labels, the
+-- edition that of the tables.
 --     SetOk                                             a set that a session or a role has
 --     SessionOk, RoleOk, Inside, Placed, EntityOk       one record of each list
 --     Sound                                             the tables
@@ -10,13 +11,13 @@ use mathlib.Core.Bool.{Bool, true, false, not}
 use mathlib.Core.List.{List, [], _∷_}
 use lib.Dec.{leb, eqb}
 use lib.ListN.{length, getD}
-use Rattle.bitset.specs.Tests.{every}
+use Rattle.bitset.specs.Tests.{every, implies}
 use Rattle.bitset.specs.Sets.{has}
 use Rattle.guard.specs.Level.{sessionLevel, roleLevel, entityLevel, isRoot, isKeeper}
 use Rattle.guard.specs.Label.{labelInRangeIn, dominates, sameLabel, noLabel}
-use Rattle.guard.specs.Tables.{noRole, noEntity, sessionAt, roleAt, entityAt, container}
+use Rattle.guard.specs.Tables.{edition1, noRole, noEntity, sessionAt, roleAt, entityAt, container}
 use Rattle.guard.specs.Chain.{climbs}
-use Rattle.guard.specs.Sound.{entityInRangeIn, usersInRangeIn, isRootRecord, isMarkAllowed, isEmptyEntity}
+use Rattle.guard.specs.Sound.{entityInRangeIn, usersInRangeIn, editionInRange, isRootRecord, isMarkAllowed, isEmptyEntity}
 use Rattle.guard.specs.declared.Label.{Label}
 use Rattle.guard.specs.declared.Session.{Session}
 use Rattle.guard.specs.declared.Role.{Role}
@@ -34,8 +35,8 @@ abbrev pub parentIn : List Entity → ℕ → ℕ
 parentIn entities e = entityIn entities e .parent
 
 -- ---- what is open, or has rights on it, and what is a child
-abbrev pub readable : ℕ → Label → ℕ → Entity → Bool
-readable s l e n = every (n .live ∷ leb (sessionLevel s) (entityLevel e) ∷ dominates l (n .label) ∷ [])
+abbrev pub readable : ℕ → ℕ → Label → ℕ → Entity → Bool
+readable edition s l e n = every (n .live ∷ implies (eqb edition edition1) (leb (sessionLevel s) (entityLevel e)) ∷ dominates l (n .label) ∷ [])
 
 abbrev pub writable : ℕ → Label → ℕ → Entity → Bool
 writable s l e n = every (n .live ∷ leb (entityLevel e) (sessionLevel s) ∷ sameLabel l (n .label) ∷ [])
@@ -63,12 +64,12 @@ pub record SetOk (w : ℕ) (live : Bool) (Q : ℕ → Bool) (set : ℕ) : Type 0
   pub members : (i : ℕ) → i < w → has set i ≡ true → Q i ≡ true
 
 -- ---- one record
-pub record SessionOk (width : ℕ) (roles : List Role) (entities : List Entity) (s : ℕ) (r : Session) : Type 0 where
+pub record SessionOk (width edition : ℕ) (roles : List Role) (entities : List Entity) (s : ℕ) (r : Session) : Type 0 where
   pub user : r .user < 16
   pub label : labelInRangeIn width (r .label) ≡ true
   pub empty : r .live ≡ false → (r .user ≡ 0) × (sameLabel (r .label) noLabel ≡ true)
   pub held : SetOk 16 (r .live) (λ p. roleIn roles p .live) (r .roles)
-  pub reading : SetOk 64 (r .live) (λ e. readable s (r .label) e (entityIn entities e)) (r .reading)
+  pub reading : SetOk 64 (r .live) (λ e. readable edition s (r .label) e (entityIn entities e)) (r .reading)
   pub writing : SetOk 64 (r .live) (λ e. writable s (r .label) e (entityIn entities e)) (r .writing)
 
 pub record RoleOk (entities : List Entity) (r : ℕ) (p : Role) : Type 0 where
@@ -100,10 +101,11 @@ pub record EntityOk (width : ℕ) (entities : List Entity) (e : ℕ) (n : Entity
   pub empty : n .live ≡ false → isEmptyEntity n ≡ true
 
 pub record Sound (width : ℕ) (t : Tables) : Type 0 where
+  pub edition : editionInRange (t .edition) ≡ true
   pub users : usersInRangeIn width (t .users) ≡ true
   pub manySessions : length (t .sessions) ≡ 16
   pub manyRoles : length (t .roles) ≡ 16
   pub manyEntities : length (t .entities) ≡ 64
-  pub session : (s : ℕ) → s < 16 → SessionOk width (t .roles) (t .entities) s (sessionAt t s)
+  pub session : (s : ℕ) → s < 16 → SessionOk width (t .edition) (t .roles) (t .entities) s (sessionAt t s)
   pub role : (r : ℕ) → r < 16 → RoleOk (t .entities) r (roleAt t r)
   pub entity : (e : ℕ) → e < 64 → EntityOk width (t .entities) e (entityAt t e)

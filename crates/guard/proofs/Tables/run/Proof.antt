@@ -252,8 +252,8 @@ enum-told c = search needs
 after-requires : tie.Need-after-requires Inv-loop μ-loop
 after-requires c κs = fits (c .before .before .before)
 
-mul-t62 : tie.Need-mul-t62 Inv-loop μ-loop
-mul-t62 c = omega (arith, near (c .before .before .before .before) .seat .small)
+mul-t63 : tie.Need-mul-t63 Inv-loop μ-loop
+mul-t63 c = omega (arith, near (c .before .before .before .before) .seat .small)
 
 element-set-from-self : tie.Need-element-set-from-self Inv-loop μ-loop
 element-set-from-self c = near (c .before .before .before .before) .seat .small
@@ -444,7 +444,7 @@ run-spec =
     change-of-requires
     enum-told
     after-requires
-    mul-t62
+    mul-t63
     element-set-from-self
     loop-less
     loop-again

@@ -11,7 +11,7 @@ is-empty-session-requires c κs = search needs
 returns : tie.Need-returns
 returns c =
     let a = c .before .before .before .args in
-    session-dead (a .labels .now) (a .roles) (a .level) (a .s) _ (of-not-true (a .s .live) (c .before .if1 .taken)) (c .is-empty-session .ensures)
+    session-dead (a .labels .now) (a .roles) (a .edition) (a .level) (a .s) _ (of-not-true (a .s .live) (c .before .if1 .taken)) (c .is-empty-session .ensures)
 
 session-in-range-requires : tie.Need-session-in-range-requires
 session-in-range-requires c κs = search needs
@@ -22,7 +22,7 @@ contains16-requires c κs = search needs
 returns-2 : tie.Need-returns-2
 returns-2 c =
     let a = c .before .before .before .before .before .args in
-    session-out (a .labels .now) (a .roles) (a .level) (a .s) _ _ (of-not-false (a .s .live) (c .before .before .before .if1 .left)) (c .before .before .session-in-range .ensures) (c .before .contains16 .ensures) (c .if2 .taken)
+    session-out (a .labels .now) (a .roles) (a .edition) (a .level) (a .s) _ _ (of-not-false (a .s .live) (c .before .before .before .if1 .left)) (c .before .before .session-in-range .ensures) (c .before .contains16 .ensures) (c .if2 .taken)
 
 levels-allowed-requires : tie.Need-levels-allowed-requires
 levels-allowed-requires c κs = search needs
@@ -30,7 +30,7 @@ levels-allowed-requires c κs = search needs
 returns-3 : tie.Need-returns-3
 returns-3 c =
     let a = c .before .before .before .before .before .before .before .args in
-    session-away (a .labels .now) (a .roles) (a .level) (a .s) _ (of-not-false (a .s .live) (c .before .before .before .before .before .if1 .left)) (c .before .levels-allowed .ensures) (c .if3 .taken)
+    session-away (a .labels .now) (a .roles) (a .edition) (a .level) (a .s) _ (of-not-false (a .s .live) (c .before .before .before .before .before .if1 .left)) (c .before .levels-allowed .ensures) (c .if3 .taken)
 
 labels-allowed-requires : tie.Need-labels-allowed-requires
 labels-allowed-requires c κs = search needs
@@ -42,7 +42,7 @@ returns-4 c =
     let range = held .before in
     let live = range .before in
     let a = live .before .before .args in
-    session-last (a .labels .now) (a .roles) (a .level) (a .s) _ _ _ _ (of-not-false (a .s .live) (live .if1 .left)) (range .session-in-range .ensures) (held .contains16 .ensures) (levels .before .if2 .left) (levels .levels-allowed .ensures) (c .before .if3 .left) (c .labels-allowed .ensures)
+    session-last (a .labels .now) (a .roles) (a .edition) (a .level) (a .s) _ _ _ _ (of-not-false (a .s .live) (live .if1 .left)) (range .session-in-range .ensures) (held .contains16 .ensures) (levels .before .if2 .left) (levels .levels-allowed .ensures) (c .before .if3 .left) (c .labels-allowed .ensures)
 
 pub session-ok-spec : {M : Type 1} → statement M
 session-ok-spec =

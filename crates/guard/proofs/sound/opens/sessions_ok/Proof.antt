@@ -14,10 +14,10 @@ use Rattle.guard.proofs.sound.opens.sessions_ok.Statement.{statement}
 use Rattle.guard.proofs.sound.opens.sessions_ok.Tie as tie
 
 abbrev Inv-loop : tie.InvT-loop
-Inv-loop labels roles sessions s₀ s = (s ≤ 16) × (all s (λ k. sessionTest labels roles (sessionLevel k) (getD sessions k noSession)) ≡ true)
+Inv-loop labels roles edition sessions s₀ s = (s ≤ 16) × (all s (λ k. sessionTest labels roles edition (sessionLevel k) (getD sessions k noSession)) ≡ true)
 
 abbrev μ-loop : tie.MeasureT-loop
-μ-loop labels roles sessions s₀ s = 16 - s
+μ-loop labels roles edition sessions s₀ s = 16 - s
 
 loop-holds : tie.Need-loop-holds Inv-loop μ-loop
 loop-holds c = (omega arith, all-none _)
