@@ -29,11 +29,8 @@ impl Tables {
         ensures { λ r. ⌜ r ≡ sound self ⌝ }
     {
         let edition = self.edition;
-        if !record::edition_in_range(edition) {
-            return false;
-        }
         let users = self.users;
-        if !record::users_in_range(users) {
+        if !(record::users_in_range(users) & record::edition_in_range(edition)) {
             return false;
         }
         let entities = self.entities;
