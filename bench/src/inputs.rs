@@ -103,7 +103,7 @@ impl Day {
     fn new(seed: u64) -> Day {
         Day {
             random: Random::new(seed),
-            tables: Tables::fresh(&users()).0,
+            tables: Tables::fresh(&users(), 1).0,
             next: Vec::new(),
         }
     }

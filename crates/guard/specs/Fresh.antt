@@ -43,8 +43,8 @@ fresh us edition =
       edition = edition;
     }
 
--- A number past its range gives answer 2, an edition other than 1 or 2 too, with fresh tables over sixteen users of ceiling 0 and
--- clearance 0/0: a refused build hands back edition 1.
+-- A number past its range gives answer 2, with fresh tables over sixteen users of ceiling 0 and clearance 0/0; an edition other than
+-- 1 or 2 gives 2 when building, and a refused build hands back edition 1.
 unfoldable pub build : List User → ℕ → Outcome
 build us edition =
     cond (every (usersInRange us ∷ editionInRange edition ∷ []))

@@ -56,7 +56,7 @@ entityInRangeIn width e =
 unfoldable pub usersInRangeIn : ℕ → List User → Bool
 usersInRangeIn width us = every (eqb (length us) userCount ∷ all userCount (λ u. userInRangeIn width (getD us u noUser)) ∷ [])
 
--- edition (1 or 2)
+-- an edition other than 1 or 2 gives 2 when building and 1 afterwards
 unfoldable pub editionInRange : ℕ → Bool
 editionInRange edition = every (leb edition1 edition ∷ leb edition edition2 ∷ [])
 

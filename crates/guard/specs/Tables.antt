@@ -44,7 +44,7 @@ roleAt t r = getD (t .roles) r noRole
 abbrev pub entityAt : Tables → ℕ → Entity
 entityAt t e = getD (t .entities) e noEntity
 
--- Tables carry an edition, 1 or 2, chosen when built. Edition 1 is the rule so far.
+-- Tables carry an edition (1 or 2), chosen when built. Edition 1 is the rule so far.
 abbrev pub edition1 : ℕ
 edition1 = 1
 

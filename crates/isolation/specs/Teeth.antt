@@ -21,6 +21,7 @@ use Rattle.guard.specs.Tables.{edition1, edition2, noSession, noRole, noEntity,
 use Rattle.guard.specs.Sound.{sound}
 use Rattle.guard.specs.Fresh.{fresh}
 use Rattle.guard.proofs.Laws.Morning.{morningUsers}
+use Rattle.guard.proofs.Laws.Edition.{withEdition}
 use Rattle.guard.specs.Edits.{atSession, atEntity}
 use Rattle.guard.specs.Refusals.{Refusal, _when_, first}
 use Rattle.guard.specs.Conditions.{recordedParent}
@@ -151,13 +152,10 @@ lower-opens-differ e = true≢false (ap (λ (v : Tables). has (getD (v .sessions
 
 -- ---- two tables that differ in the edition alone: an upper request that names only what is upper, openr by seat 8 of root 16, is
 -- answered 10 in edition 1 and 0 in edition 2. So the rule needs the edition in the upper part
-abbrev pub withoutEdition : Tables → Tables
-withoutEdition t = record { users = t .users; sessions = t .sessions; roles = t .roles; entities = t .entities; edition = 0 }
-
 abbrev pub log-e : List Request
 log-e = ask 0 8 0 0 0 ∷ ask 2 8 4 0 0 ∷ ask 4 8 0 16 0 ∷ []
 
-pub edition-counts : (withoutEdition (upper 1 start) ≡ withoutEdition (upper 1 start-2))
+pub edition-counts : (withEdition 0 (upper 1 start) ≡ withEdition 0 (upper 1 start-2))
     × (upperAnswers 1 start log-e ≡ 0 ∷ 0 ∷ 10 ∷ []) × (upperAnswers 1 start-2 log-e ≡ 0 ∷ 0 ∷ 0 ∷ [])
 unfolding computing morningUsers startIn upper upperSession upperRole from isUpper fieldUpper namesUpper upperAnswers
 edition-counts = (refl, refl, refl)

@@ -2,7 +2,7 @@
 
 use crate::generator::Writer;
 use crate::lines;
-use crate::program::{optional, sample_order, LAST_LINE};
+use crate::program::{optional, sample_order, EDITION, LAST_LINE};
 use crate::random::Random;
 
 pub struct Made {
@@ -411,7 +411,7 @@ pub fn file(seed: u64, index: usize, long: bool) -> Made {
     let names: Vec<&'static str> = order.iter().map(|column| column.word()).collect();
     let names_line = names.join(" ").into_bytes();
 
-    let mut writer = Writer::new(random, &names_line);
+    let mut writer = Writer::new(random, &names_line, EDITION);
     writer.forms.push((0, name));
     match shape {
         Shape::Bytes(bytes) => writer.bytes = bytes.to_vec(),
@@ -432,8 +432,7 @@ pub fn file(seed: u64, index: usize, long: bool) -> Made {
             writer.bytes.extend(rest);
         }
         Shape::End(end) => {
-            let most = if long { 3_000 } else { 1_400 };
-            let count = writer.random.between(150, most);
+            let count = length(&mut writer.random, long);
             writer.body(count);
             writer.end(end);
         }
@@ -474,6 +473,21 @@ pub fn file(seed: u64, index: usize, long: bool) -> Made {
         bytes: writer.bytes,
         forms: writer.forms,
     }
+}
+
+/// A plain file with all names, over tables of an edition.
+pub fn plain(mut random: Random, edition: usize, long: bool) -> Vec<u8> {
+    let mut order = [sample_order(), optional()].concat();
+    random.shuffle(&mut order);
+    let names: Vec<&'static str> = order.iter().map(|column| column.word()).collect();
+    let mut writer = Writer::new(random, names.join(" ").as_bytes(), edition);
+    let count = length(&mut writer.random, long);
+    writer.body(count);
+    writer.bytes
+}
+
+fn length(random: &mut Random, long: bool) -> usize {
+    random.between(150, if long { 3_000 } else { 1_400 })
 }
 
 impl Writer {
@@ -538,7 +552,8 @@ mod tests {
         for index in SHAPES.len()..SHAPES.len() + 60 {
             let made = file(1, index, false);
             let mut lines = made.bytes.split(|&byte| byte == b'\n');
-            let Some(mut program) = lines.next().and_then(Program::start) else {
+            let names = lines.next();
+            let Some(mut program) = names.and_then(|names| Program::start(names, EDITION)) else {
                 continue;
             };
             for line in lines.take(2_000) {

@@ -43,7 +43,8 @@ pub struct Habits {
 }
 
 impl Writer {
-    pub fn new(mut random: Random, names_line: &[u8]) -> Writer {
+    /// A file that begins with these names, over tables of the edition.
+    pub fn new(mut random: Random, names_line: &[u8], edition: usize) -> Writer {
         let habits = Habits {
             labels: some_labels(&mut random),
             names: random.pick(&[3, 6, 12, 40]),
@@ -57,7 +58,7 @@ impl Writer {
         };
         let mut bytes = names_line.to_vec();
         bytes.push(b'\n');
-        let program = Program::start(names_line).expect("good names");
+        let program = Program::start(names_line, edition).expect("good names");
         let named = |field: &Field| program.order.contains(&Column::Field(*field));
         let (calls, nameless) = CALLS.iter().partition(|call| call.uses().iter().all(named));
         Writer {
@@ -83,6 +84,11 @@ impl Writer {
 
     pub fn tables(&self) -> &Tables {
         &self.program.tables
+    }
+
+    /// "A master may read counter notes" (document 02, A.13).
+    pub fn reads_down(&self) -> bool {
+        self.tables().edition == 2
     }
 
     /// The request that was written last.
@@ -240,6 +246,12 @@ impl Writer {
             Field::Entity if call == Call::Share && way < 6 => self.one_of(64, |t, e| {
                 t.entities[e].kind == paper::CONTAINER && paper::has_right(t, seat, e, paper::OWN)
             }),
+            Field::Entity if call == Call::Openr && way < 5 && self.reads_down() => {
+                self.one_of(64, |t, e| {
+                    paper::entity_level(e) < paper::seat_level(seat)
+                        && paper::has_right(t, seat, e, paper::READ)
+                })
+            }
             Field::Entity if way < 3 => self.one_of(64, |t, e| {
                 t.entities[e].live && t.seats[seat].writing[t.entities[e].parent]
             }),
@@ -463,7 +475,8 @@ impl Writer {
         loop {
             let (call, side) = (self.random.pick(&self.calls), self.random.below(22));
             if let Some(found) = paper::sides(call).get(side) {
-                if found.number != 2 || self.random.chance(1, 3) {
+                let applies = paper::applies(self.tables().edition, call, found.number);
+                if applies && (found.number != 2 || self.random.chance(1, 3)) {
                     return (call, side);
                 }
             }

@@ -1,17 +1,26 @@
 //! Compares two programs that read request files, `requests` and `reference`, with each other and with the papers as
-//! `paper` and `program` have them, on generated files and on one case for each refusal.
+//! `paper` and `program` have them, on generated files and on one case for each refusal; and the guard in both editions
+//! through the test program `guard_cases`.
 
 mod alone;
+mod builds;
+mod cases;
 mod coverage;
+mod down;
+mod editions;
 mod files;
 mod generator;
 mod lines;
+mod logs;
 mod marks;
 mod paper;
 mod program;
 mod programs;
 mod random;
+mod records;
 mod scenes;
+mod unsound;
+mod upper;
 
 use std::fs;
 use std::path::PathBuf;
@@ -22,17 +31,22 @@ use coverage::Coverage;
 use programs::Feeding;
 use random::Random;
 
-const USE: &str = "differential [--alone [--list]] [--files N] [--seed S] [--long] [--keep DIR]
-             [--requests PATH --reference PATH]
+const USE: &str =
+    "differential [--alone [--list]] [--files N] [--editions N] [--seed S] [--long] [--keep DIR]
+             [--requests PATH] [--reference PATH] [--cases PATH]
   --alone      each refusal alone: the cases, by the paper and by both programs
   --list       prints the cases as a table; needs no programs
   --files N    compares N generated files (0 without it)
+  --editions N compares edition 2, and edition 1, on N generated files (0 without it)
   --seed S     the seed of the files (1 without it)
   --long       longer files
-  --keep DIR   where a differing file and its outputs are put (target/differential without it)";
+  --keep DIR   where a differing file and its outputs are put (target/differential without it)
+  --alone and --files need the programs `requests` and `reference`; --editions needs `reference` and,
+  as --cases, `guard_cases`";
 
 struct Options {
     files: usize,
+    editions: usize,
     seed: u64,
     long: bool,
     alone: bool,
@@ -40,11 +54,13 @@ struct Options {
     keep: PathBuf,
     requests: Option<PathBuf>,
     reference: Option<PathBuf>,
+    cases: Option<PathBuf>,
 }
 
 fn options() -> Result<Options, String> {
     let mut options = Options {
         files: 0,
+        editions: 0,
         seed: 1,
         long: false,
         alone: false,
@@ -52,6 +68,7 @@ fn options() -> Result<Options, String> {
         keep: PathBuf::from("target/differential"),
         requests: None,
         reference: None,
+        cases: None,
     };
     let mut words = std::env::args().skip(1);
     while let Some(word) = words.next() {
@@ -59,6 +76,7 @@ fn options() -> Result<Options, String> {
         let number = |text: String| text.parse().map_err(|_| format!("{text} is no number"));
         match word.as_str() {
             "--files" => options.files = number(value()?)? as usize,
+            "--editions" => options.editions = number(value()?)? as usize,
             "--seed" => options.seed = number(value()?)?,
             "--long" => options.long = true,
             "--alone" => options.alone = true,
@@ -66,13 +84,14 @@ fn options() -> Result<Options, String> {
             "--keep" => options.keep = PathBuf::from(value()?),
             "--requests" => options.requests = Some(PathBuf::from(value()?)),
             "--reference" => options.reference = Some(PathBuf::from(value()?)),
+            "--cases" => options.cases = Some(PathBuf::from(value()?)),
             _ => return Err(format!("{word} is not known")),
         }
     }
     if options.list && !options.alone {
         return Err(String::from("--list goes with --alone"));
     }
-    if !options.alone && options.files == 0 {
+    if !options.alone && options.files + options.editions == 0 {
         return Err(String::from("nothing to do"));
     }
     Ok(options)
@@ -92,6 +111,9 @@ fn main() -> ExitCode {
     }
     if good && options.files > 0 {
         good = generated(&options);
+    }
+    if good && options.editions > 0 {
+        good = editions::run(&options);
     }
     if good {
         ExitCode::SUCCESS
@@ -170,8 +192,8 @@ fn compare(
     }
     let paper = report.output();
     let outputs = [
-        ("requests", programs::run(requests, input, feeding)),
-        ("reference", programs::run(reference, input, feeding)),
+        ("requests", programs::run(requests, &[], input, feeding)),
+        ("reference", programs::run(reference, &[], input, feeding)),
     ];
     if outputs
         .iter()

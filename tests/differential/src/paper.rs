@@ -1,6 +1,7 @@
 //! Document 01 written down as it reads: the tables, the refusals that apply to each request, and what a done request
 //! changes. Of document 02 it has A.1: "Categories become a set of sixteen, 0 to 65,535, in users, seats and entities";
-//! and A.2, shared drawers. Nothing here is made for speed or shared between requests beyond what the papers share.
+//! A.2, shared drawers; and A.13, reading down: "Tables carry an edition, chosen when built". Nothing here is made for
+//! speed or shared between requests beyond what the papers share.
 //!
 //! A refusal whose condition has parts joined by "or" is written as several sides of the same number. A side is a
 //! plain question about the tables and the request. Each one can be asked whatever the others say: the record of
@@ -210,7 +211,11 @@ pub struct Tables {
     pub seats: [SeatRecord; 16],
     pub roles: [RoleRecord; 16],
     pub entities: [EntityRecord; 64],
+    /// No request changes it.
+    pub edition: usize,
 }
+
+pub const EDITIONS: [usize; 2] = [1, 2];
 
 /// "Every field zero or empty".
 pub const EMPTY_SEAT: SeatRecord = SeatRecord {
@@ -312,12 +317,13 @@ pub fn reaches(tables: &Tables, seat: usize, entity: usize) -> bool {
     true
 }
 
-pub fn fresh(users: &[UserRecord; 16]) -> Tables {
+pub fn fresh(users: &[UserRecord; 16], edition: usize) -> Tables {
     let mut tables = Tables {
         users: *users,
         seats: [EMPTY_SEAT; 16],
         roles: [EMPTY_ROLE; 16],
         entities: [EMPTY_ENTITY; 64],
+        edition,
     };
     for root in [0, 16, 32, 48] {
         tables.entities[root] = EntityRecord {
@@ -335,10 +341,20 @@ pub fn fresh(users: &[UserRecord; 16]) -> Tables {
     tables
 }
 
+/// "A number past its range gives answer 2, with fresh tables over sixteen users of ceiling 0 and clearance 0/0." "An
+/// edition other than 1 or 2 gives 2 when building", and "a refused build hands back edition 1".
+pub fn build(users: &[UserRecord; 16], edition: usize) -> (Tables, usize) {
+    if users_in_range(users) && EDITIONS.contains(&edition) {
+        (fresh(users, edition), 0)
+    } else {
+        (fresh(&[UserRecord::default(); 16], 1), 2)
+    }
+}
+
 // ---- Sound tables
 
-/// The six points on sound tables, in the paper's order, and that of A.2. Tables reached from fresh ones are sound; a
-/// run checks it.
+/// The six points on sound tables, in the paper's order, that of A.2 and that of A.13. Tables reached from fresh ones
+/// are sound; a run checks it.
 pub fn sound(tables: &Tables) -> bool {
     in_range(tables)
         && live_entities_placed(tables)
@@ -347,14 +363,21 @@ pub fn sound(tables: &Tables) -> bool {
         && reading_allowed(tables)
         && writing_allowed(tables)
         && objects_unshared(tables)
+        && edition_known(tables)
+}
+
+fn label_in_range(label: Label) -> bool {
+    label.grade <= 3 && label.cats <= 65_535
+}
+
+fn users_in_range(users: &[UserRecord; 16]) -> bool {
+    users
+        .iter()
+        .all(|user| user.ceiling <= 3 && label_in_range(user.clearance))
 }
 
 fn in_range(tables: &Tables) -> bool {
-    let label_in_range = |label: Label| label.grade <= 3 && label.cats <= 65_535;
-    tables
-        .users
-        .iter()
-        .all(|user| user.ceiling <= 3 && label_in_range(user.clearance))
+    users_in_range(&tables.users)
         && tables
             .seats
             .iter()
@@ -446,12 +469,13 @@ fn rights_not_upward(tables: &Tables) -> bool {
     })
 }
 
+/// In edition 2 "soundness drops the level condition on reading".
 fn reading_allowed(tables: &Tables) -> bool {
     (0..16).all(|seat| {
         let record = &tables.seats[seat];
         (0..64).all(|entity| {
             !record.reading[entity]
-                || (entity_level(entity) >= seat_level(seat)
+                || ((tables.edition == 2 || entity_level(entity) >= seat_level(seat))
                     && dominates(record.label, tables.entities[entity].label))
         })
     })
@@ -474,6 +498,11 @@ fn objects_unshared(tables: &Tables) -> bool {
         .entities
         .iter()
         .all(|entity| entity.kind != OBJECT || entity.shared == 0)
+}
+
+/// "An edition other than 1 or 2 gives 2 when building and 1 afterwards."
+fn edition_known(tables: &Tables) -> bool {
+    EDITIONS.contains(&tables.edition)
 }
 
 // ---- The refusals that apply to each request
@@ -933,8 +962,13 @@ pub fn numbers(call: Call) -> Vec<usize> {
     numbers
 }
 
+/// "Edition 1 is the rule so far. In edition 2 openr has no condition 10".
+pub fn applies(edition: usize, call: Call, number: usize) -> bool {
+    !(edition == 2 && call == Openr && number == 10)
+}
+
 /// The sides that are met, as bits: bit i for `sides(call)[i]`. Those that look at a number past its range are not
-/// asked.
+/// asked, nor those of a number that does not apply in the edition.
 pub fn met(tables: &Tables, request: &Request) -> u32 {
     let mut met = 0;
     let mut past = [false; FIELDS.len()];
@@ -946,7 +980,9 @@ pub fn met(tables: &Tables, request: &Request) -> u32 {
         }
     }
     for (bit, side) in sides.iter().enumerate() {
-        let asked = side.number != 2 && side.looks.iter().all(|&field| !past[field as usize]);
+        let asked = side.number != 2
+            && side.looks.iter().all(|&field| !past[field as usize])
+            && applies(tables.edition, request.call, side.number);
         if asked && (side.holds)(tables, request) {
             met |= 1 << bit;
         }
@@ -1102,12 +1138,14 @@ mod tests {
 
     #[test]
     fn fresh_tables_are_sound() {
-        assert!(sound(&fresh(&[UserRecord::default(); 16])));
+        for edition in EDITIONS {
+            assert!(sound(&fresh(&[UserRecord::default(); 16], edition)));
+        }
     }
 
     #[test]
     fn marks_of_sound_tables() {
-        let mut fresh = fresh(&[UserRecord::default(); 16]);
+        let mut fresh = fresh(&[UserRecord::default(); 16], 1);
         assert!(fresh.entities.iter().all(|entity| entity.shared == 0));
         for (entity, kind) in [(1, CONTAINER), (2, OBJECT)] {
             fresh.entities[entity] = EntityRecord {
@@ -1123,6 +1161,89 @@ mod tests {
                 let mut tables = fresh.clone();
                 tables.entities[entity].shared = mark;
                 assert_eq!(sound(&tables), mark <= most);
+            }
+        }
+    }
+
+    const NOBODY: [UserRecord; 16] = [UserRecord {
+        ceiling: 0,
+        clearance: Label { grade: 0, cats: 0 },
+    }; 16];
+
+    fn request(call: Call, fields: &[(Field, usize)]) -> Request {
+        let mut request = Request::new(call);
+        for &(field, value) in fields {
+            request.set(field, value);
+        }
+        request
+    }
+
+    fn step(tables: &mut Tables, request: &Request) -> usize {
+        let answer = if sound(tables) {
+            answer(request.call, met(tables, request))
+        } else {
+            1
+        };
+        if answer == 0 {
+            done(tables, request);
+        }
+        answer
+    }
+
+    #[test]
+    fn builds() {
+        let mut good = NOBODY;
+        good[0].ceiling = 3;
+        for edition in EDITIONS {
+            assert_eq!(build(&good, edition), (fresh(&good, edition), 0));
+        }
+        for edition in [0, 3, 255, 257, 258] {
+            assert_eq!(build(&good, edition), (fresh(&NOBODY, 1), 2));
+        }
+        let mut bad = good;
+        bad[15].clearance.grade = 4;
+        for edition in 0..4 {
+            assert_eq!(build(&bad, edition), (fresh(&NOBODY, 1), 2));
+        }
+    }
+
+    #[test]
+    fn other_editions_are_unsound() {
+        let login = request(Login, &[]);
+        for edition in [0, 3, 255] {
+            let mut tables = fresh(&NOBODY, edition);
+            assert!(!sound(&tables));
+            assert_eq!(step(&mut tables, &login), 1);
+            assert_eq!(tables, fresh(&NOBODY, edition));
+        }
+    }
+
+    /// A seat of each level and the root of each: what openr and openw answer to one who has the rights.
+    #[test]
+    fn reading_down() {
+        let mut users = NOBODY;
+        users[0].ceiling = 3;
+        for edition in EDITIONS {
+            for (seat, root) in (0..16).map(|pair| (pair / 4 * 4, pair % 4 * 16)) {
+                let mut tables = fresh(&users, edition);
+                let (level, other) = (seat_level(seat), entity_level(root));
+                let keeper = 4 * other;
+                let named = [(Seat, seat), (Entity, root)];
+                let down = usize::from(edition == 1 && other < level);
+                let up = usize::from(level < other);
+                let login = request(Login, &[(Seat, seat)]);
+                let take = request(Take, &[(Seat, seat), (Role, keeper)]);
+                let (openr, openw) = (request(Openr, &named), request(Openw, &named));
+                let lacking = if down == 1 { 10 } else { 13 };
+                assert_eq!(step(&mut tables, &login), 0);
+                assert_eq!(step(&mut tables, &openr), lacking);
+                assert_eq!(step(&mut tables, &take), 0);
+                assert_eq!(step(&mut tables, &openr), 10 * down);
+                assert_eq!(step(&mut tables, &openw), 10 * up);
+                assert!(sound(&tables));
+                // "Edition 1 is the rule so far": there nobody reads down.
+                tables.edition = 1;
+                assert_eq!(sound(&tables), edition == 1 || other >= level);
             }
         }
     }

@@ -1,5 +1,6 @@
 //! The request program as the papers describe it, over the tables of `paper`: from the bytes of an input to what is
-//! to be printed for each line.
+//! to be printed for each line. Of the editions "the program uses 1" (document 02, A.13). It can be asked for another
+//! here, which the request program cannot: so one file serves for both.
 
 use crate::marks;
 use crate::paper::{
@@ -8,6 +9,9 @@ use crate::paper::{
 
 pub const LAST_LINE: usize = 65_535;
 pub const LONGEST_LINE: usize = 255;
+
+/// "The program uses 1".
+pub const EDITION: usize = 1;
 
 #[derive(Clone, Copy, Debug, PartialEq, Eq)]
 pub enum Column {
@@ -74,7 +78,7 @@ pub struct Program {
 
 impl Program {
     /// None if the line of names is bad.
-    pub fn start(line: &[u8]) -> Option<Program> {
+    pub fn start(line: &[u8], edition: usize) -> Option<Program> {
         if line.len() > LONGEST_LINE {
             return None;
         }
@@ -97,7 +101,7 @@ impl Program {
             order,
             users,
             shut: false,
-            tables: paper::fresh(&users),
+            tables: paper::fresh(&users, edition),
         })
     }
 
@@ -167,7 +171,7 @@ impl Program {
                             cats: at(Field::Cats),
                         },
                     };
-                    self.tables = paper::fresh(&self.users);
+                    self.tables = paper::fresh(&self.users, self.tables.edition);
                 }
                 Seen {
                     what: What::User,
@@ -221,9 +225,15 @@ pub struct Report {
     pub names_good: bool,
     /// The tables were sound after every done request.
     pub sound: bool,
+    /// The users that the tables were built from.
+    pub users: [UserRecord; 16],
 }
 
 pub fn report(input: &[u8]) -> Report {
+    report_in(EDITION, input)
+}
+
+pub fn report_in(edition: usize, input: &[u8]) -> Report {
     let mut lines: Vec<&[u8]> = input.split(|&byte| byte == b'\n').collect();
     // A closing byte 10 ends the last line and begins no other.
     if lines.last().is_some_and(|last| last.is_empty()) {
@@ -233,8 +243,10 @@ pub fn report(input: &[u8]) -> Report {
         seen: Vec::new(),
         names_good: false,
         sound: true,
+        users: [UserRecord::default(); 16],
     };
-    let Some(mut program) = lines.first().and_then(|names| Program::start(names)) else {
+    let names = lines.first();
+    let Some(mut program) = names.and_then(|names| Program::start(names, edition)) else {
         return report;
     };
     report.names_good = true;
@@ -245,6 +257,7 @@ pub fn report(input: &[u8]) -> Report {
         }
         report.seen.push(seen);
     }
+    report.users = program.users;
     report
 }
 
@@ -395,6 +408,22 @@ mod tests {
         let lines = "user - 0 - - - - - 0 0 - 0\nuser - 0 - - - - - 0 0 - 0 0\n\
              user - 0 - - - - - 0 0 - 0 -\n";
         assert_eq!(answers_below(NAMES_SHARED, lines), [17, 17, 0]);
+    }
+
+    /// One file in both editions (document 02, A.13).
+    #[test]
+    fn reading_down() {
+        let lines = "user - 0 - - - - - 3 255 - 3\nlogin 12 0 - - - - - 0 0 - -\n\
+             openr 12 - - 0 - - - - - - -\ntake 12 - 0 - - - - - - - -\n\
+             openr 12 - - 0 - - - - - - -\nopenr 12 - - 0 - - - - - - -\n\
+             openw 12 - - 0 - - - - - - -\nclose 12 - - 0 - - - - - - -\n\
+             login 0 0 - - - - - 0 0 - -\ntake 0 - 12 - - - - - - - -\n\
+             openw 0 - - 48 - - - - - - -\nopenr 0 - - 48 - - - - - - -\n";
+        assert_eq!(answers(lines), [0, 0, 10, 0, 10, 10, 0, 0, 0, 0, 10, 0]);
+        let report = report_in(2, format!("{NAMES}{lines}").as_bytes());
+        assert!(report.sound && report.users[0].ceiling == 3);
+        let answers: Vec<usize> = report.seen.iter().map(|seen| seen.answer).collect();
+        assert_eq!(answers, [0, 0, 13, 0, 0, 16, 0, 0, 0, 0, 10, 0]);
     }
 
     #[test]

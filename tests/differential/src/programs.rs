@@ -1,8 +1,8 @@
-//! Runs a program on an input and hands back what it printed.
+//! Runs a program, on an input or in a folder, and hands back what it printed.
 
 use std::io::{Read, Write};
 use std::path::Path;
-use std::process::{Command, Stdio};
+use std::process::{Child, Command, Stdio};
 use std::sync::mpsc;
 use std::thread;
 use std::time::Duration;
@@ -19,15 +19,16 @@ pub enum Feeding {
 /// Longer than any input here needs.
 const LIMIT: Duration = Duration::from_secs(30);
 
-pub fn run(program: &Path, input: &[u8], feeding: Feeding) -> Result<Vec<u8>, String> {
-    let title = program.display();
-    let mut child = Command::new(program)
-        .stdin(Stdio::piped())
-        .stdout(Stdio::piped())
-        .spawn()
-        .map_err(|fault| format!("{title} does not start: {fault}"))?;
+/// Runs the program with these words on the input.
+pub fn run(
+    program: &Path,
+    words: &[&str],
+    input: &[u8],
+    feeding: Feeding,
+) -> Result<Vec<u8>, String> {
+    let mut command = Command::new(program);
+    let mut child = start(program, command.args(words).stdin(Stdio::piped()))?;
     let mut stdin = child.stdin.take().expect("piped");
-    let mut stdout = child.stdout.take().expect("piped");
     let bytes = input.to_vec();
     let feeder = thread::spawn(move || {
         // A program may end before it has read everything; what it printed then decides.
@@ -49,6 +50,32 @@ pub fn run(program: &Path, input: &[u8], feeding: Feeding) -> Result<Vec<u8>, St
             }
         }
     });
+    let output = finish(program, child);
+    let _ = feeder.join();
+    output
+}
+
+/// Runs the program, which reads no input, in the folder.
+pub fn run_in(program: &Path, folder: &Path) -> Result<Vec<u8>, String> {
+    let whole = program
+        .canonicalize()
+        .map_err(|fault| format!("{}: {fault}", program.display()))?;
+    let mut command = Command::new(whole);
+    let child = start(program, command.current_dir(folder).stdin(Stdio::null()))?;
+    finish(program, child)
+}
+
+fn start(program: &Path, command: &mut Command) -> Result<Child, String> {
+    command
+        .stdout(Stdio::piped())
+        .spawn()
+        .map_err(|fault| format!("{} does not start: {fault}", program.display()))
+}
+
+/// What the program prints until it ends.
+fn finish(program: &Path, mut child: Child) -> Result<Vec<u8>, String> {
+    let title = program.display();
+    let mut stdout = child.stdout.take().expect("piped");
     let (sender, receiver) = mpsc::channel();
     let reader = thread::spawn(move || {
         let mut output = Vec::new();
@@ -60,7 +87,6 @@ pub fn run(program: &Path, input: &[u8], feeding: Feeding) -> Result<Vec<u8>, St
         let _ = child.kill();
     }
     let status = child.wait().map_err(|fault| format!("{title}: {fault}"))?;
-    let _ = feeder.join();
     let _ = reader.join();
     let output = received
         .map_err(|_| format!("{title} did not end within {} s", LIMIT.as_secs()))?

@@ -3,7 +3,7 @@
 
 use crate::generator::{Writer, DONE};
 use crate::lines;
-use crate::paper::{self, Call, Field, Label, Values};
+use crate::paper::{self, Call, Field, Label, Tables, Values};
 use crate::program::What;
 
 impl Writer {
@@ -12,6 +12,9 @@ impl Writer {
         let end = self.line_count + count;
         self.settle();
         while self.line_count < end {
+            if self.reads_down() && self.random.chance(1, 10) {
+                self.read_down();
+            }
             match self.random.below(100) {
                 0..=3 => self.deepen(),
                 4..=6 => self.put_under_label(),
@@ -552,6 +555,75 @@ impl Writer {
                 };
             }
         }
+    }
+
+    /// A note below, a role by which a seat above may read it, and what becomes of the open. The seat asks at every
+    /// step, so that it is refused for what is still missing.
+    fn read_down(&mut self) {
+        let owned = |t: &Tables, e| (0..16).any(|seat| paper::has_right(t, seat, e, paper::OWN));
+        let fill = self.random.chance(1, 3);
+        let seat = self.one_of(16, |t, seat| {
+            paper::seat_level(seat) > 0 && t.seats[seat].live != fill
+        });
+        let note = self.one_of(64, |t, e| {
+            paper::entity_level(e) < paper::seat_level(seat) && t.entities[e].live && owned(t, e)
+        });
+        let (level, label) = (
+            paper::entity_level(note),
+            self.tables().entities[note].label,
+        );
+        let read = [(Field::Seat, seat), (Field::Entity, note)];
+        if !self.tables().seats[seat].live {
+            self.ask(Call::Openr, &read);
+            let as_the_note = [
+                (Field::Seat, seat),
+                (Field::Level, label.grade),
+                (Field::Cats, label.cats),
+            ];
+            self.wish(Call::Login, &as_the_note);
+        }
+        let role = self.one_of(16, |t, role| {
+            paper::role_level(role) >= level && !t.seats[seat].roles[role]
+        });
+        if !self.tables().roles[role].live {
+            self.wish(Call::Make, &[(Field::Role, role)]);
+        }
+        let user = self.tables().seats[seat].user;
+        self.wish(Call::List, &[(Field::Role, role), (Field::User, user)]);
+        self.wish(Call::Take, &[(Field::Seat, seat), (Field::Role, role)]);
+        self.ask(Call::Openr, &read);
+        let give = |entity, rights| {
+            [
+                (Field::Role, role),
+                (Field::Entity, entity),
+                (Field::Rights, rights),
+            ]
+        };
+        let rights = self.random.pick(&[1, 1, 3, 5, 9]);
+        self.wish(Call::Grant, &give(note, rights));
+        let mut at = note;
+        while !paper::is_root(at) {
+            self.ask(Call::Openr, &read);
+            at = self.tables().entities[at].parent;
+            if !paper::has_right(self.tables(), seat, at, paper::EXECUTE) {
+                self.wish(Call::Grant, &give(at, paper::EXECUTE));
+            }
+        }
+        self.ask(Call::Openr, &read);
+        if !self.tables().seats[seat].reading[note] {
+            return;
+        }
+        match self.random.below(8) {
+            0 => self.ask(Call::Openr, &read),
+            1 => self.wish(Call::Close, &read),
+            2 => self.wish(Call::Revoke, &give(note, paper::READ)),
+            3 => self.wish(Call::Drop, &[(Field::Seat, seat), (Field::Role, role)]),
+            4 => self.wish(Call::Unmake, &[(Field::Role, role)]),
+            5 => self.wish(Call::Delete, &[(Field::Entity, note)]),
+            6 => self.wish(Call::Logout, &[(Field::Seat, seat)]),
+            _ => false,
+        };
+        self.ask(Call::Openr, &read);
     }
 
     /// Hands rights on one entity to another role, and lets a seat with that role open it.

@@ -1,8 +1,8 @@
-//! The access guard of document 01 in plain Rust, with the categories and the
-//! shared drawers of document 02, A.1 and A.2: the tables are changed in place,
-//! sets are bit sets and no request touches the heap. It follows the papers alone
-//! and shares no line with the proved guard, so that the two can be held against
-//! each other.
+//! The access guard of document 01 in plain Rust, with the categories, the
+//! shared drawers and the editions of document 02, A.1, A.2 and A.13: the tables
+//! are changed in place, sets are bit sets and no request touches the heap. It
+//! follows the papers alone and shares no line with the proved guard, so that the
+//! two can be held against each other.
 //!
 //! Numbers handed back are those of the paper: 0 for done, otherwise the
 //! refusal. The refusals of a request stand in the order in which they are
@@ -23,6 +23,11 @@ pub const OWN: u8 = 8;
 
 pub const OBJECT: u8 = 0;
 pub const CONTAINER: u8 = 1;
+
+/// "Edition 1 is the rule so far. In edition 2 openr has no condition 10, and
+/// soundness drops the level condition on reading" (document 02, A.13).
+pub const EDITION_1: u8 = 1;
+pub const EDITION_2: u8 = 2;
 
 /// The numbers of the seventeen requests.
 pub mod call {
@@ -133,6 +138,8 @@ pub struct Tables {
     pub seats: [Seat; SEATS],
     pub roles: [Role; ROLES],
     pub entities: [Entity; ENTITIES],
+    /// "Chosen when built"; no request changes it.
+    pub edition: u8,
 }
 
 /// A request as the host brings it: any number may stand in any field, and a
@@ -222,15 +229,22 @@ fn mark(number: u32) -> Option<u8> {
     (number <= 1).then_some(number as u8)
 }
 
+fn edition(number: u32) -> Option<u8> {
+    let known = [EDITION_1, EDITION_2];
+    known.into_iter().find(|&known| number == known.into())
+}
+
 impl Tables {
-    /// Fresh tables over the users, with answer 0, or over sixteen users
-    /// without anything, with answer 2, when a number is out of range.
-    pub fn fresh(records: &[UserRecord; USERS]) -> (Tables, u8) {
+    /// Fresh tables over the users, of the edition, with answer 0; or, when a
+    /// number is out of range or the edition is "other than 1 or 2", over sixteen
+    /// users without anything, of edition 1, with answer 2.
+    pub fn fresh(records: &[UserRecord; USERS], edition_asked: u32) -> (Tables, u8) {
         let mut tables = Tables {
             users: [User::default(); USERS],
             seats: [Seat::default(); SEATS],
             roles: [Role::EMPTY; ROLES],
             entities: [Entity::default(); ENTITIES],
+            edition: EDITION_1,
         };
         for level in 0..4 {
             let root = 16 * level;
@@ -245,6 +259,9 @@ impl Tables {
             keeper.users = 1;
             keeper.rights[root] = READ | WRITE | EXECUTE | OWN;
         }
+        let Some(edition) = edition(edition_asked) else {
+            return (tables, 2);
+        };
         let mut users = [User::default(); USERS];
         for (user, record) in users.iter_mut().zip(records) {
             match record.user() {
@@ -253,6 +270,7 @@ impl Tables {
             }
         }
         tables.users = users;
+        tables.edition = edition;
         (tables, 0)
     }
 
@@ -353,7 +371,7 @@ impl Tables {
         if !entity.live {
             return 7;
         }
-        if entity_level(e) < level(x) {
+        if self.edition == EDITION_1 && entity_level(e) < level(x) {
             return 10;
         }
         if !seat.label.dominates(entity.label) {
@@ -725,7 +743,8 @@ impl Tables {
     }
 
     pub fn is_sound(&self) -> bool {
-        self.users_are_sound()
+        edition(self.edition.into()).is_some()
+            && self.users_are_sound()
             && self.entities_are_sound()
             && self.roles_are_sound()
             && self.seats_are_sound()
@@ -833,12 +852,17 @@ impl Tables {
             if !seat.live {
                 return *seat == Seat::default();
             }
+            // In edition 2 any level may be read.
+            let lowest = match self.edition {
+                EDITION_1 => level(x),
+                _ => 0,
+            };
             usize::from(seat.user) < USERS
                 && seat.label.grade <= 3
                 && seat.roles & !live_roles == 0
                 && members(seat.reading).all(|e| {
                     let entity = &self.entities[e];
-                    entity.live && entity_level(e) >= level(x) && seat.label.dominates(entity.label)
+                    entity.live && entity_level(e) >= lowest && seat.label.dominates(entity.label)
                 })
                 && members(seat.writing).all(|e| {
                     let entity = &self.entities[e];

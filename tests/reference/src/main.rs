@@ -7,11 +7,15 @@
 //! The tables start fresh and only the guard changes them, so that they stay
 //! sound, and the program does not test them again before each request. With
 //! the word `--test-each` it does, which is there to be measured.
+//!
+//! "Tables carry an edition, chosen when built; the program uses 1" (A.13). With
+//! the words `--edition 2` this one uses 2, so that answers of that edition can be
+//! compared as well.
 
 use std::io::{self, BufRead, ErrorKind, Read, Write};
 use std::process::ExitCode;
 
-use reference::{call, Request, Tables, UserRecord, USERS};
+use reference::{call, Request, Tables, UserRecord, EDITION_1, EDITION_2, USERS};
 
 /// The number of the last line that is read, the names line being 1.
 const LAST_LINE: u32 = 65_535;
@@ -313,6 +317,8 @@ impl Answers {
 struct Program {
     /// Whether the tables are tested before each request.
     test_each: bool,
+    /// That of the tables.
+    edition: u8,
     /// Nothing before the names line has been read.
     columns: Option<Columns>,
     values: [u32; NAMES],
@@ -323,9 +329,10 @@ struct Program {
 }
 
 impl Program {
-    fn new(test_each: bool) -> Program {
+    fn new(test_each: bool, edition: u8) -> Program {
         Program {
             test_each,
+            edition,
             columns: None,
             values: [0; NAMES],
             users: [UserRecord::default(); USERS],
@@ -397,7 +404,7 @@ impl Program {
         };
         let tables = self
             .tables
-            .get_or_insert_with(|| Tables::fresh(&self.users).0);
+            .get_or_insert_with(|| Tables::fresh(&self.users, self.edition.into()).0);
         if self.test_each {
             tables.step(&request)
         } else {
@@ -458,10 +465,19 @@ impl Program {
 }
 
 fn main() -> ExitCode {
-    let test_each = std::env::args_os()
-        .skip(1)
-        .any(|word| word == "--test-each");
-    match Program::new(test_each).run() {
+    let words: Vec<String> = std::env::args().skip(1).collect();
+    let words: Vec<&str> = words.iter().map(String::as_str).collect();
+    let (test_each, edition) = match words[..] {
+        [] => (false, EDITION_1),
+        ["--test-each"] => (true, EDITION_1),
+        ["--edition", "2"] => (false, EDITION_2),
+        ["--test-each", "--edition", "2"] => (true, EDITION_2),
+        _ => {
+            eprintln!("reference [--test-each] [--edition 2]");
+            return ExitCode::from(2);
+        }
+    };
+    match Program::new(test_each, edition).run() {
         Ok(()) => ExitCode::SUCCESS,
         // Nobody reads the answers any more.
         Err(error) if error.kind() == ErrorKind::BrokenPipe => ExitCode::SUCCESS,

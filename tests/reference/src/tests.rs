@@ -18,11 +18,16 @@ fn records(set: &[(usize, u32, u32, u32)]) -> [UserRecord; USERS] {
     records
 }
 
-/// Fresh tables over the users of the paper's morning.
-fn morning() -> Tables {
-    let (tables, answer) = Tables::fresh(&records(&[(0, 3, 3, 255), (1, 1, 1, 0)]));
+/// Fresh tables of an edition over the users of the paper's morning.
+fn morning_in(edition: u32) -> Tables {
+    let (tables, answer) = Tables::fresh(&records(&[(0, 3, 3, 255), (1, 1, 1, 0)]), edition);
     assert_eq!(answer, 0);
     tables
+}
+
+/// In that of the program.
+fn morning() -> Tables {
+    morning_in(1)
 }
 
 /// What a field that the request does not use is filled with: no range has it.
@@ -205,7 +210,7 @@ fn at_work() -> Tables {
 
 #[test]
 fn the_sample() {
-    let mut tables = Tables::fresh(&records(&[(0, 3, 3, 255)])).0;
+    let mut tables = Tables::fresh(&records(&[(0, 3, 3, 255)]), 1).0;
     run(
         &mut tables,
         &[
@@ -303,7 +308,7 @@ fn edges() {
 
 #[test]
 fn fresh_tables() {
-    let (tables, answer) = Tables::fresh(&records(&[(14, 0, 0, 256), (15, 3, 3, 65_535)]));
+    let (tables, answer) = Tables::fresh(&records(&[(14, 0, 0, 256), (15, 3, 3, 65_535)]), 1);
     assert_eq!(answer, 0);
     assert!(tables.is_sound());
     assert_eq!(tables.users[15].ceiling, 3);
@@ -318,7 +323,7 @@ fn fresh_tables() {
             assert_eq!(*rights, if own_root { 15 } else { 0 });
         }
     }
-    let empty = Tables::fresh(&[NONE; USERS]);
+    let empty = Tables::fresh(&[NONE; USERS], 1);
     assert_eq!(empty.1, 0);
     for past in [
         (3, 4, 0, 0),
@@ -328,7 +333,7 @@ fn fresh_tables() {
         (3, 0, 0, 99_999),
         (3, 0, 0, u32::MAX),
     ] {
-        let (tables, answer) = Tables::fresh(&records(&[(0, 3, 3, 65_535), past]));
+        let (tables, answer) = Tables::fresh(&records(&[(0, 3, 3, 65_535), past]), 1);
         assert_eq!(answer, 2);
         assert_eq!(tables, empty.0);
     }
@@ -336,7 +341,7 @@ fn fresh_tables() {
 
 #[test]
 fn categories_are_sets() {
-    let (mut tables, _) = Tables::fresh(&records(&[(0, 3, 3, 4), (1, 3, 3, 7)]));
+    let (mut tables, _) = Tables::fresh(&records(&[(0, 3, 3, 4), (1, 3, 3, 7)]), 1);
     run(
         &mut tables,
         &[
@@ -366,7 +371,7 @@ fn both_halves_of_a_set_count() {
         (0xff7f, 0xff00, 0x0080),
     ];
     for (set, inside, outside) in sets {
-        let (mut tables, _) = Tables::fresh(&records(&[(0, 3, 3, set)]));
+        let (mut tables, _) = Tables::fresh(&records(&[(0, 3, 3, set)]), 1);
         run(
             &mut tables,
             &[
@@ -379,7 +384,7 @@ fn both_halves_of_a_set_count() {
         );
     }
     // 65,535 contains them all.
-    let (mut tables, _) = Tables::fresh(&records(&[(0, 3, 3, 65_535)]));
+    let (mut tables, _) = Tables::fresh(&records(&[(0, 3, 3, 65_535)]), 1);
     for (set, _, outside) in sets {
         for cats in [set, outside, 65_535] {
             run(&mut tables, &[(login(0, 0, 3, cats), 0), (logout(0), 0)]);
@@ -561,7 +566,7 @@ fn labels() {
 
 #[test]
 fn labels_that_differ_in_the_upper_half() {
-    let (mut tables, _) = Tables::fresh(&records(&[(0, 3, 3, 65_535)]));
+    let (mut tables, _) = Tables::fresh(&records(&[(0, 3, 3, 65_535)]), 1);
     run(
         &mut tables,
         &[
@@ -903,6 +908,10 @@ fn unsound_tables_give_1() {
     let changes: &[fn(&mut Tables)] = &[
         |t| t.users[5].ceiling = 4,
         |t| t.users[5].clearance.grade = 4,
+        // Editions.
+        |t| t.edition = 0,
+        |t| t.edition = 3,
+        |t| t.edition = 255,
         // Roots and keepers.
         |t| t.entities[16] = Entity::default(),
         |t| t.entities[16].live = false,
@@ -1012,6 +1021,7 @@ fn what_soundness_does_not_ask() {
             }
         },
         |t| t.users[0].clearance.cats = 65_535,
+        |t| t.edition = 2,
         |t| t.entities[16].shared = 1,
         |t| t.entities[50].shared = 1,
         |t| t.roles[12].rights[0] = 15,
@@ -1030,5 +1040,320 @@ fn what_soundness_does_not_ask() {
         change(&mut changed);
         assert!(changed.is_sound(), "change {place}");
         assert_eq!(changed.step(&logout(12)), 0);
+    }
+}
+
+#[test]
+fn builds() {
+    let good = records(&[(0, 3, 3, 255), (1, 1, 1, 0)]);
+    let (nobody, _) = Tables::fresh(&[NONE; USERS], 1);
+    assert_eq!(nobody.edition, 1);
+    for edition in [1, 2] {
+        let (tables, answer) = Tables::fresh(&good, edition);
+        assert_eq!(answer, 0);
+        assert!(tables.is_sound());
+        let wanted = Tables {
+            edition: edition as u8,
+            ..morning()
+        };
+        assert_eq!(tables, wanted);
+    }
+    // A bad edition, a bad user, or both.
+    for edition in [0, 3, 255, 256, 257, 258, 65_537, 65_538, u32::MAX] {
+        assert_eq!(Tables::fresh(&good, edition), (nobody.clone(), 2));
+    }
+    for past in [(3, 4, 0, 0), (3, 0, 4, 0), (15, 0, 0, 65_536)] {
+        for edition in [1, 2, 0, 3, 255] {
+            let bad = records(&[(0, 3, 3, 255), past]);
+            assert_eq!(Tables::fresh(&bad, edition), (nobody.clone(), 2));
+        }
+    }
+}
+
+#[test]
+fn other_editions_give_1() {
+    let requests = [
+        login(13, 0, 0, 0),
+        logout(12),
+        openr(12, 48),
+        openr(12, 64),
+        close(12, 48),
+        share(12, 48, 1),
+        of(17, 0),
+    ];
+    for edition in [0, 3, 4, 128, 254, 255] {
+        let mut tables = at_work();
+        tables.edition = edition;
+        assert!(!tables.is_sound());
+        let before = tables.clone();
+        for request in &requests {
+            assert_eq!(tables.step(request), 1);
+        }
+        assert_eq!(tables, before);
+    }
+}
+
+/// The morning's tables of an edition, seat 15 (user 0, label 0/0) holding the keepers
+/// of levels 0 and 3 and having roots 0 and 48 open for writing. In root 0 are the
+/// container 1 and in it the object 2, both of label 0/0 and with all rights for role
+/// 0, and the object 3 of label 1/3, with read for role 0.
+fn counter(edition: u32) -> Tables {
+    let mut tables = morning_in(edition);
+    let grade_1 = Request {
+        level: 1,
+        cats: 3,
+        ..create(15, 3, OBJECT, 0, 3, 0)
+    };
+    run(
+        &mut tables,
+        &[
+            (login(15, 0, 0, 0), 0),
+            (take(15, 0), 0),
+            (take(15, 12), 0),
+            (openw(15, 0), 0),
+            (openw(15, 48), 0),
+            (create(15, 1, CONTAINER, 0, 1, 0), 0),
+            (grant(15, 0, 1, 15), 0),
+            (openw(15, 1), 0),
+            (create(15, 2, OBJECT, 1, 2, 0), 0),
+            (grant(15, 0, 2, 15), 0),
+            (grade_1, 0),
+            (grant(15, 0, 3, 1), 0),
+        ],
+    );
+    tables
+}
+
+#[test]
+fn reading_down() {
+    // From level 3 at level 0.
+    let mut tables = counter(2);
+    run(
+        &mut tables,
+        &[
+            (openr(15, 0), 0),
+            (openr(15, 1), 0),
+            (openr(15, 2), 0),
+            (openr(15, 2), 16),
+        ],
+    );
+    assert_eq!(tables.seats[15].reading, 0b111);
+    assert_eq!(tables.edition, 2);
+    let mut tables = counter(1);
+    run(
+        &mut tables,
+        &[
+            (openr(15, 0), 10),
+            (openr(15, 1), 10),
+            (openr(15, 2), 10),
+            // 5 and 7 before it, 11 and 13 behind it.
+            (openr(14, 2), 5),
+            (openr(15, 4), 7),
+            (openr(15, 3), 10),
+            (drop(15, 0), 0),
+            (openr(15, 2), 10),
+            // At its own level.
+            (openr(15, 48), 0),
+        ],
+    );
+    assert_eq!(tables.seats[15].reading, 1 << 48);
+}
+
+#[test]
+fn every_pair_of_levels() {
+    for edition in [1, 2] {
+        for upper in 0..4 {
+            for lower in 0..4 {
+                let mut tables = morning_in(edition);
+                let x = 4 * upper + 1;
+                let down = lower < upper;
+                let answer = if down && edition == 1 { 10 } else { 0 };
+                run(
+                    &mut tables,
+                    &[
+                        (login(x, 0, 0, 0), 0),
+                        (take(x, 4 * lower), 0),
+                        (openr(x, 16 * lower), answer),
+                        // Writing is as it was.
+                        (openw(x, 16 * lower), if upper < lower { 10 } else { 0 }),
+                    ],
+                );
+            }
+        }
+    }
+}
+
+#[test]
+fn what_reading_down_still_asks() {
+    run(
+        &mut counter(2),
+        &[
+            (openr(14, 2), 5),
+            (openr(15, 4), 7),
+            // The label.
+            (openr(15, 3), 11),
+            (login(14, 0, 1, 1), 0),
+            (take(14, 0), 0),
+            (openr(14, 3), 11),
+            (login(13, 0, 0, 3), 0),
+            (take(13, 0), 0),
+            (openr(13, 3), 11),
+            (login(12, 0, 1, 3), 0),
+            (openr(12, 3), 13),
+            (take(12, 0), 0),
+            (openr(12, 3), 0),
+            // The right, by a role held.
+            (drop(15, 0), 0),
+            (openr(15, 2), 13),
+            (openr(15, 0), 13),
+            (take(15, 0), 0),
+            (revoke(15, 0, 2, 1), 0),
+            (openr(15, 2), 13),
+            (grant(15, 0, 2, 1), 0),
+            // And each container above.
+            (revoke(15, 0, 1, 4), 0),
+            (openr(15, 2), 13),
+            (openr(15, 1), 0),
+            (grant(15, 0, 1, 4), 0),
+            (revoke(15, 0, 0, 4), 0),
+            (openr(15, 2), 13),
+            (grant(15, 0, 0, 4), 0),
+            (openr(15, 2), 0),
+            (openr(15, 2), 16),
+        ],
+    );
+}
+
+#[test]
+fn the_role_behind_a_read_down() {
+    // Of any level from the entity's on.
+    for role in [1, 5, 9, 13] {
+        let keeper = role - 1;
+        let mut tables = counter(2);
+        if tables.seats[15].roles >> keeper & 1 == 0 {
+            run(&mut tables, &[(take(15, keeper), 0)]);
+        }
+        run(
+            &mut tables,
+            &[
+                (make(15, role), 0),
+                (list(15, role, 0), 0),
+                (login(12, 0, 0, 0), 0),
+                (take(12, role), 0),
+                (openr(12, 2), 13),
+                (grant(15, role, 2, 1), 0),
+                (openr(12, 2), 13),
+                (grant(15, role, 0, 4), 0),
+                (grant(15, role, 1, 4), 0),
+                (openr(12, 2), 0),
+                // The open outlives the right and the role.
+                (revoke(15, role, 2, 1), 0),
+                (drop(12, role), 0),
+                (unmake(15, role), 0),
+                (openr(12, 2), 13),
+            ],
+        );
+        assert_eq!(tables.seats[12].reading, 1 << 2);
+        run(&mut tables, &[(close(12, 2), 0), (close(12, 2), 16)]);
+        assert_eq!(tables.seats[12].reading, 0);
+    }
+}
+
+#[test]
+fn what_ends_a_read_down() {
+    let mut tables = counter(2);
+    run(
+        &mut tables,
+        &[
+            (openr(15, 1), 0),
+            (openr(15, 2), 0),
+            // Both ways at once.
+            (openw(15, 2), 0),
+            (close(15, 2), 0),
+            (close(15, 2), 16),
+            (openr(15, 2), 0),
+            (delete(15, 2), 0),
+        ],
+    );
+    assert_eq!(tables.seats[15].reading, 1 << 1);
+    run(
+        &mut tables,
+        &[
+            // The number made again is not read.
+            (create(15, 2, OBJECT, 1, 2, 0), 0),
+            (close(15, 2), 16),
+            (logout(15), 0),
+            (login(15, 0, 0, 0), 0),
+        ],
+    );
+    assert_eq!(tables.seats[15].reading, 0);
+}
+
+#[test]
+fn soundness_of_reads_down() {
+    let mut tables = counter(2);
+    run(&mut tables, &[(openr(15, 2), 0), (openr(15, 48), 0)]);
+    let requests = [logout(15), close(15, 2), openr(15, 2), of(17, 0)];
+    // "Edition 1 is the rule so far."
+    tables.edition = 1;
+    assert!(!tables.is_sound());
+    let before = tables.clone();
+    for request in &requests {
+        assert_eq!(tables.step(request), 1);
+    }
+    assert_eq!(tables, before);
+    tables.edition = 2;
+    run(&mut tables, &[(openr(15, 2), 16), (close(15, 2), 0)]);
+    tables.edition = 1;
+    run(&mut tables, &[(openr(15, 2), 10), (close(15, 48), 0)]);
+    // Of reading the level condition alone goes; the others stay, and those on writing.
+    let changes: &[fn(&mut Tables)] = &[
+        |t| t.seats[15].reading |= 1 << 3,
+        |t| t.seats[15].reading |= 1 << 4,
+        |t| t.seats[15].writing |= 1 << 3,
+        |t| {
+            t.seats[11] = Seat {
+                live: true,
+                writing: 1 << 48,
+                ..Seat::default()
+            }
+        },
+        |t| t.seats[14].reading = 1 << 2,
+        |t| t.roles[11].rights[2] = READ,
+        |t| t.roles[8].rights[48] = READ,
+    ];
+    for (place, change) in changes.iter().enumerate() {
+        let mut changed = counter(2);
+        change(&mut changed);
+        assert!(!changed.is_sound(), "change {place}");
+        assert_eq!(changed.step(&logout(15)), 1);
+    }
+}
+
+#[test]
+fn no_request_changes_the_edition() {
+    for edition in [1, 2] {
+        let mut tables = full();
+        tables.edition = edition;
+        for call in 0..=17 {
+            for seat in [12, 13] {
+                let request = Request {
+                    call,
+                    seat,
+                    user: 0,
+                    role: 13,
+                    entity: 51,
+                    parent: 48,
+                    kind: 0,
+                    name: 9,
+                    level: 0,
+                    cats: 0,
+                    rights: 15,
+                    shared: 1,
+                };
+                tables.step(&request);
+                assert_eq!(tables.edition, edition);
+            }
+        }
     }
 }

@@ -517,6 +517,44 @@ fn long_lines() {
     assert_eq!(run(&input), output);
 }
 
+/// "The program uses 1" (document 02, A.13).
+#[test]
+fn editions() {
+    let lines = "\
+user - 0 - - - - - 3 255 - 3
+login 12 0 - - - - - 0 0 - -
+take 12 - 0 - - - - - - - -
+openr 12 - - 0 - - - - - - -
+openr 12 - - 0 - - - - - - -
+openr 12 - - 48 - - - - - - -
+close 12 - - 0 - - - - - - -
+login 0 0 - - - - - 0 0 - -
+take 0 - 12 - - - - - - - -
+openw 0 - - 48 - - - - - - -
+openr 0 - - 48 - - - - - - -
+";
+    let input = format!("{NAMES}\n{lines}");
+    let first = "line answer\n2 0\n3 0\n4 0\n5 10\n6 10\n7 13\n8 16\n9 0\n10 0\n11 10\n12 0\n";
+    let second = "line answer\n2 0\n3 0\n4 0\n5 0\n6 16\n7 13\n8 0\n9 0\n10 0\n11 10\n12 0\n";
+    assert_eq!(run(input.as_bytes()), first);
+    for words in [&["--edition", "2"][..], &["--test-each", "--edition", "2"]] {
+        assert_eq!(run_with(words, input.as_bytes()), second);
+    }
+}
+
+#[test]
+fn words_that_are_not_known() {
+    for words in [&["--edition"][..], &["--edition", "3"], &["--other"]] {
+        let output = Command::new(env!("CARGO_BIN_EXE_reference"))
+            .args(words)
+            .stdin(Stdio::null())
+            .output()
+            .unwrap();
+        assert_eq!(output.status.code(), Some(2));
+        assert!(output.stdout.is_empty());
+    }
+}
+
 /// Nobody reads the answers: the program ends without a word.
 #[test]
 fn a_closed_output() {

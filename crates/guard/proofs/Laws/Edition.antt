@@ -1,6 +1,6 @@
 -- The edition: chosen when built, changed by no request, and looked at by openr and soundness alone.
 --     next-edition, run-edition     tables have the edition after a request, and after a log, that they had before it
---     inEdition                     the same records in an edition
+--     withEdition                   the same records in an edition
 --     sound-in-2                    sound in edition 1: sound in edition 2
 --     openr-never-10                openr has no condition 10 in edition 2
 --     editions-agree                a request other than an openr of what is below its seat is answered alike in both, and does the same
@@ -50,14 +50,14 @@ run-edition t [] = refl
 run-edition t (q ∷ log) = run-edition (next t q) log ∙ next-edition t q
 
 -- ---- nothing else differs
-abbrev pub inEdition : ℕ → Tables → Tables
-inEdition edition t = record { users = t .users; sessions = t .sessions; roles = t .roles; entities = t .entities; edition = edition }
+abbrev pub withEdition : ℕ → Tables → Tables
+withEdition edition t = record { users = t .users; sessions = t .sessions; roles = t .roles; entities = t .entities; edition = edition }
 
 ranged-2 : editionInRange edition2 ≡ true
 unfolding editionInRange every
 ranged-2 = refl
 
-pub sound-in-2 : (t : Tables) → sound (inEdition edition1 t) ≡ true → sound (inEdition edition2 t) ≡ true
+pub sound-in-2 : (t : Tables) → sound (withEdition edition1 t) ≡ true → sound (withEdition edition2 t) ≡ true
 sound-in-2 t h =
     let ok = sound-e _ h in
     sound-i _
@@ -100,7 +100,7 @@ each-at P (r ∷ rs) d (here, rest) p (suc n) = each-at (λ n. P (suc n)) rs d r
 module _ (t : Tables) (q : Request) where
   -- the rule at number n refuses alike in both editions, unless it is an openr of what is below the seat
   abbrev Alike : ℕ → Rule → Type 0
-  Alike n rule = (n ≡ kind.openr → entityBelowSeat t q ≡ false) → rule .refusals (inEdition edition1 t) q ≡ rule .refusals (inEdition edition2 t) q
+  Alike n rule = (n ≡ kind.openr → entityBelowSeat t q ≡ false) → rule .refusals (withEdition edition1 t) q ≡ rule .refusals (withEdition edition2 t) q
 
   each-alike : EachAt Alike rules
   unfolding rules login logout take drop openr openw close create delete rename grant revoke list unlist make unmake share userTooLow createOutOfLevel grantBelow cannotOpen cannotChangeIn cannotChange notOpen nameTaken hasChildren hasRight isChild reaches every
@@ -112,7 +112,7 @@ module _ (t : Tables) (q : Request) where
 
   -- .. and does the same in both
   abbrev Does : Rule → Type 0
-  Does rule = rule .effect q (inEdition edition1 t) ≡ inEdition edition1 (rule .effect q (inEdition edition2 t))
+  Does rule = rule .effect q (withEdition edition1 t) ≡ withEdition edition1 (rule .effect q (withEdition edition2 t))
 
   each-does : Each Does rules
   unfolding rules login logout take drop openr openw close create delete rename grant revoke list unlist make unmake share atSession atRole atEntity eachSession eachRole
@@ -122,20 +122,20 @@ module _ (t : Tables) (q : Request) where
   unfolding unknown
   unknown-does = refl
 
-  answers-agree : sound (inEdition edition1 t) ≡ true → (q .call ≡ kind.openr → entityBelowSeat t q ≡ false)
-      → answer (inEdition edition1 t) q ≡ answer (inEdition edition2 t) q
+  answers-agree : sound (withEdition edition1 t) ≡ true → (q .call ≡ kind.openr → entityBelowSeat t q ≡ false)
+      → answer (withEdition edition1 t) q ≡ answer (withEdition edition2 t) q
   unfolding answerIn ruleOf
   answers-agree h above = rw (h, sound-in-2 t h, each-at Alike rules unknown each-alike unknown-alike (q .call) above)
 
-  pub editions-agree : sound (inEdition edition1 t) ≡ true → (q .call ≡ kind.openr → entityBelowSeat t q ≡ false)
-      → (answer (inEdition edition1 t) q ≡ answer (inEdition edition2 t) q)
-      × (next (inEdition edition1 t) q ≡ inEdition edition1 (next (inEdition edition2 t) q))
+  pub editions-agree : sound (withEdition edition1 t) ≡ true → (q .call ≡ kind.openr → entityBelowSeat t q ≡ false)
+      → (answer (withEdition edition1 t) q ≡ answer (withEdition edition2 t) q)
+      × (next (withEdition edition1 t) q ≡ withEdition edition1 (next (withEdition edition2 t) q))
   unfolding nextIn
-  editions-agree h above = (answers-agree h above, rw (answers-agree h above) (go (eqb (answer (inEdition edition2 t) q) 0)))
+  editions-agree h above = (answers-agree h above, rw (answers-agree h above) (go (eqb (answer (withEdition edition2 t) q) 0)))
     where
       go : (b : Bool)
-          → cond b (ruleOf q .effect q (inEdition edition1 t)) (inEdition edition1 t)
-          ≡ inEdition edition1 (cond b (ruleOf q .effect q (inEdition edition2 t)) (inEdition edition2 t))
+          → cond b (ruleOf q .effect q (withEdition edition1 t)) (withEdition edition1 t)
+          ≡ withEdition edition1 (cond b (ruleOf q .effect q (withEdition edition2 t)) (withEdition edition2 t))
       go true = each-rule Does each-does unknown-does q
       go false = refl
 

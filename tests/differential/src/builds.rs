@@ -1,0 +1,179 @@
+//! Builds and editions, case by case: "an edition other than 1 or 2 gives 2 when building and 1
+//! afterwards", "a refused build hands back edition 1", and in edition 2 "soundness drops the level
+//! condition on reading" (document 02, A.13).
+
+use crate::cases::Script;
+use crate::logs::Asked;
+use crate::paper::{Call, Field, Request, CALLS};
+
+/// The editions that there are, and some that there are not.
+const EDITIONS: [usize; 7] = [0, 1, 2, 3, 4, 128, 255];
+
+/// A user by number: ceiling, grade and categories.
+type User = (usize, [u64; 3]);
+
+/// Users set in a case, all of them in range or not.
+const USERS: [(&str, &[User]); 7] = [
+    ("nobody set", &[]),
+    ("good users", &[(0, [3, 3, 65_535]), (15, [1, 2, 256])]),
+    ("a ceiling of 4", &[(0, [3, 3, 255]), (7, [4, 0, 0])]),
+    ("a ceiling of 255", &[(0, [255, 0, 0])]),
+    ("a grade of 4", &[(0, [3, 3, 255]), (15, [0, 4, 0])]),
+    ("a grade of 255", &[(8, [0, 255, 0])]),
+    ("two bad users", &[(0, [4, 0, 0]), (15, [0, 4, 0])]),
+];
+
+/// Labels of a seat and of an entity: grade and categories of each.
+const LABELS: [[u64; 4]; 6] = [
+    [0, 0, 0, 0],
+    [1, 3, 1, 3],
+    [1, 3, 1, 1],
+    [1, 1, 1, 3],
+    [2, 256, 1, 256],
+    [1, 256, 2, 256],
+];
+
+fn request(call: Call, fields: &[(Field, usize)]) -> Asked {
+    let mut request = Request::new(call);
+    for &(field, value) in fields {
+        request.set(field, value);
+    }
+    Asked::Request(request)
+}
+
+pub fn script() -> Script {
+    let mut script = Script::new();
+    for edition in EDITIONS {
+        for (title, users) in USERS {
+            script.clear();
+            for (user, record) in users {
+                script.set("user", *user, "ceiling", record);
+            }
+            script.set_edition(edition);
+            script.fresh(&format!("edition {edition}, {title}"));
+            script.show();
+        }
+    }
+    for edition in EDITIONS {
+        every_call(&mut script, edition);
+    }
+    for edition in EDITIONS {
+        every_open(&mut script, edition);
+    }
+    for (seat, entity) in [(4, 0), (8, 0), (8, 16), (12, 0), (12, 16), (12, 32)] {
+        reading(&mut script, seat, entity);
+    }
+    script
+}
+
+/// Every request on tables that are sound but, maybe, for their edition.
+fn every_call(script: &mut Script, edition: usize) {
+    for call in CALLS {
+        script.clear();
+        script.ask(&request(Call::Login, &[]), "login before");
+        script.ask(&request(Call::Take, &[]), "take before");
+        script.set_edition(edition);
+        let name = |what: &str| format!("{}{what} in edition {edition}", call.word());
+        script.ask(&request(call, &[]), &name(""));
+        script.ask(&request(call, &[(Field::Seat, 16)]), &name(" past a range"));
+        let no_kind = Asked::NoKind { call: 17, seat: 0 };
+        script.ask(&no_kind, &name(" and one of no kind"));
+        script.show();
+    }
+}
+
+/// A seat of each level has an object of each level open, for reading or for writing, with labels of all
+/// kinds: sound or not, nothing else being open.
+fn every_open(script: &mut Script, edition: usize) {
+    for (seat, entity) in (0..16).map(|pair| (pair / 4 * 4 + 1, pair % 4 * 16 + 2)) {
+        for [grade, cats, of_entity, cats_of_entity] in LABELS {
+            for (way, opens) in [("reads", [1 << entity, 0]), ("writes", [0, 1 << entity])] {
+                script.clear();
+                let root = entity as u64 / 16 * 16;
+                let object = [1, 0, root, 1, of_entity, cats_of_entity, 0];
+                script.set("entity", entity, "live", &object);
+                let [reading, writing] = opens;
+                let session = [1, 0, grade, cats, 0, reading, writing];
+                script.set("seat", seat, "live", &session);
+                script.set_edition(edition);
+                let label = format!("{grade}/{cats} at {of_entity}/{cats_of_entity}");
+                let name = format!("seat {seat} {way} {entity}, {label} in edition {edition}");
+                script.ask(&request(Call::Logout, &[(Field::Seat, seat)]), &name);
+            }
+        }
+    }
+}
+
+/// A seat reads down in edition 2; then the edition is another.
+fn reading(script: &mut Script, seat: usize, entity: usize) {
+    script.clear();
+    script.set("user", 0, "ceiling", &[3, 3, 255]);
+    script.set_edition(2);
+    script.fresh(&format!("edition 2, for seat {seat}"));
+    let read = [(Field::Seat, seat), (Field::Entity, entity)];
+    let (openr, close) = (request(Call::Openr, &read), request(Call::Close, &read));
+    let login = request(Call::Login, &[(Field::Seat, seat)]);
+    let keeper = [(Field::Seat, seat), (Field::Role, entity / 4)];
+    for asked in [login, request(Call::Take, &keeper), openr] {
+        script.ask(&asked, &format!("seat {seat} at {entity}"));
+    }
+    for edition in [1, 3, 0, 2] {
+        script.set_edition(edition);
+        let name = format!("seat {seat} reading {entity} in edition {edition}");
+        for asked in [
+            openr,
+            login,
+            request(Call::Close, &[(Field::Entity, 64)]),
+            request(Call::Logout, &[(Field::Seat, 15)]),
+            Asked::NoKind { call: 17, seat },
+        ] {
+            script.ask(&asked, &name);
+        }
+        script.show();
+    }
+    // Closed, the tables are sound in edition 1 too.
+    script.ask(&close, "close");
+    for edition in [1, 2, 1] {
+        script.set_edition(edition);
+        script.ask(&openr, &format!("openr in edition {edition}"));
+        script.ask(&openr, &format!("openr again in edition {edition}"));
+    }
+    script.show();
+}
+
+#[cfg(test)]
+mod tests {
+    #[test]
+    fn by_the_paper() {
+        let script = super::script();
+        let text = std::str::from_utf8(script.expected()).unwrap();
+        let lines: Vec<&str> = text.lines().collect();
+        for line in [
+            "edition 1, nobody set: 0 kept",
+            "edition 2, nobody set: 0 changed edition",
+            "edition 2, good users: 0 changed users { 0 15 } edition",
+            "edition 2, a ceiling of 4: 2 kept",
+            "edition 1, a grade of 255: 2 kept",
+            "edition 0, good users: 2 kept",
+            "edition 3, two bad users: 2 kept",
+            "edition 255, good users: 2 kept",
+            "openr in edition 1: 0",
+            "openr in edition 3: 1",
+            "share past a range in edition 0: 1",
+            "share past a range in edition 2: 2",
+            "login and one of no kind in edition 255: 1",
+            "seat 13 reads 2, 0/0 at 0/0 in edition 1: 1",
+            "seat 13 reads 2, 0/0 at 0/0 in edition 2: 0",
+            "seat 13 reads 2, 0/0 at 0/0 in edition 3: 1",
+            "seat 13 reads 2, 1/1 at 1/3 in edition 2: 1",
+            "seat 13 reads 2, 1/3 at 1/1 in edition 2: 0",
+            "seat 13 writes 2, 1/3 at 1/1 in edition 2: 1",
+            "seat 1 writes 50, 0/0 at 0/0 in edition 2: 1",
+            "seat 12 reading 0 in edition 1: 1",
+            "seat 12 reading 0 in edition 2: 16",
+            "  tables, edition 255",
+        ] {
+            assert!(lines.contains(&line), "{line}");
+        }
+    }
+}
