@@ -1,5 +1,5 @@
 -- One file a subject, named after the file of specs/ whose definitions it speaks of (Pigeons: what Chain needs of numbers;
--- Rights: the four sets of a role, of Tables and Edits).
+-- Rights: the four sets of a role, of Tables and Edits; Edition: what it decides and what not, of Requests, Sound and Step).
 pub mod Label
 pub mod Pigeons
 pub mod Chain

@@ -1,9 +1,9 @@
 -- The edition: chosen when built, changed by no request, and looked at by openr and soundness alone.
---     next-edition, run-edition     tables have the edition after a request, and after a log, that they had before it
 --     withEdition                   the same records in an edition
+--     next-edition, run-edition     tables have the edition after a request, and after a log, that they had before it
 --     sound-in-2                    sound in edition 1: sound in edition 2
---     openr-never-10                openr has no condition 10 in edition 2
 --     editions-agree                a request other than an openr of what is below its seat is answered alike in both, and does the same
+--     openr-never-10                openr has no condition 10 in edition 2
 -- Assumes nothing.
 use Prim.Native.Nat.{ℕ, zero, suc}
 use mathlib.Core.Path.{_≡_, refl, sym, ap, _∙_}
@@ -29,20 +29,27 @@ use Rattle.guard.proofs.Laws.Refusals.{conditionOf}
 use Rattle.guard.proofs.Laws.Requests.{conditions, numbered, answer-met}
 use Rattle.guard.proofs.Laws.Step.{next-by, Each, each-rule}
 
--- ---- no request changes it
-abbrev Stays : Rule → Type 0
-Stays rule = (q : Request) (t : Tables) → rule .effect q t .edition ≡ t .edition
+-- the same records in an edition
+abbrev pub withEdition : ℕ → Tables → Tables
+withEdition edition t = record { users = t .users; sessions = t .sessions; roles = t .roles; entities = t .entities; edition = edition }
 
-each-stays : Each Stays rules
+-- ---- what a rule does, it does in every edition, and leaves it as it is
+abbrev Does : Rule → Type 0
+Does rule = (edition : ℕ) (q : Request) (t : Tables) → rule .effect q (withEdition edition t) ≡ withEdition edition (rule .effect q t)
+
+each-does : Each Does rules
 unfolding rules login logout take drop openr openw close create delete rename grant revoke list unlist make unmake share atSession atRole atEntity eachSession eachRole
-each-stays = (λ q t. refl, (λ q t. refl, (λ q t. refl, (λ q t. refl, (λ q t. refl, (λ q t. refl, (λ q t. refl, (λ q t. refl, (λ q t. refl, (λ q t. refl, (λ q t. refl, (λ q t. refl, (λ q t. refl, (λ q t. refl, (λ q t. refl, (λ q t. refl, (λ q t. refl, tt)))))))))))))))))
+each-does = (λ n q t. refl, (λ n q t. refl, (λ n q t. refl, (λ n q t. refl, (λ n q t. refl, (λ n q t. refl, (λ n q t. refl, (λ n q t. refl, (λ n q t. refl, (λ n q t. refl, (λ n q t. refl, (λ n q t. refl, (λ n q t. refl, (λ n q t. refl, (λ n q t. refl, (λ n q t. refl, (λ n q t. refl, tt)))))))))))))))))
 
-unknown-stays : Stays unknown
+unknown-does : Does unknown
 unfolding unknown
-unknown-stays q t = refl
+unknown-does edition q t = refl
+
+does : (edition : ℕ) (q : Request) (t : Tables) → ruleOf q .effect q (withEdition edition t) ≡ withEdition edition (ruleOf q .effect q t)
+does edition q t = each-rule Does each-does unknown-does q edition q t
 
 pub next-edition : (t : Tables) (q : Request) → next t q .edition ≡ t .edition
-next-edition t q = next-by (λ u. u .edition ≡ t .edition) t q refl (λ d. each-rule Stays each-stays unknown-stays q q t)
+next-edition t q = next-by (λ u. u .edition ≡ t .edition) t q refl (λ d. ap (λ (u : Tables). u .edition) (does (t .edition) q t))
 
 pub run-edition : (t : Tables) (log : List Request) → run t log .edition ≡ t .edition
 unfolding runIn
@@ -50,9 +57,6 @@ run-edition t [] = refl
 run-edition t (q ∷ log) = run-edition (next t q) log ∙ next-edition t q
 
 -- ---- nothing else differs
-abbrev pub withEdition : ℕ → Tables → Tables
-withEdition edition t = record { users = t .users; sessions = t .sessions; roles = t .roles; entities = t .entities; edition = edition }
-
 ranged-2 : editionInRange edition2 ≡ true
 unfolding editionInRange every
 ranged-2 = refl
@@ -110,18 +114,6 @@ module _ (t : Tables) (q : Request) where
   unfolding unknown
   unknown-alike n h = refl
 
-  -- .. and does the same in both
-  abbrev Does : Rule → Type 0
-  Does rule = rule .effect q (withEdition edition1 t) ≡ withEdition edition1 (rule .effect q (withEdition edition2 t))
-
-  each-does : Each Does rules
-  unfolding rules login logout take drop openr openw close create delete rename grant revoke list unlist make unmake share atSession atRole atEntity eachSession eachRole
-  each-does = (refl, (refl, (refl, (refl, (refl, (refl, (refl, (refl, (refl, (refl, (refl, (refl, (refl, (refl, (refl, (refl, (refl, tt)))))))))))))))))
-
-  unknown-does : Does unknown
-  unfolding unknown
-  unknown-does = refl
-
   answers-agree : sound (withEdition edition1 t) ≡ true → (q .call ≡ kind.openr → entityBelowSeat t q ≡ false)
       → answer (withEdition edition1 t) q ≡ answer (withEdition edition2 t) q
   unfolding answerIn ruleOf
@@ -136,7 +128,7 @@ module _ (t : Tables) (q : Request) where
       go : (b : Bool)
           → cond b (ruleOf q .effect q (withEdition edition1 t)) (withEdition edition1 t)
           ≡ withEdition edition1 (cond b (ruleOf q .effect q (withEdition edition2 t)) (withEdition edition2 t))
-      go true = each-rule Does each-does unknown-does q
+      go true = does edition1 q (withEdition edition2 t)
       go false = refl
 
 -- In edition 2 openr has no condition 10.
