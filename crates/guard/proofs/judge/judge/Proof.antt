@@ -110,7 +110,7 @@ returns-6 : tie.Need-returns-6
 unfolding rules openr cannotOpen asksRights asksWay asksName either
 returns-6 c = λ t seen.
     let r = in-openr _ (fits (c .before .before)) (c .before .match .keys5) in
-    by-rule t _ _ 4 (c .before .match .keys5) (fits (c .before .before)) (c .openr-refusal .ensures ∙ rw (seen .edition, seen .session (r .0), seen .entity (r .1), seen .rights (ap asksRights (c .before .match .keys5)) (r .0) .reads _ (r .1), seen .reached (ap asksWay (c .before .match .keys5)) (r .0) (r .1)))
+    by-rule t _ _ 4 (c .before .match .keys5) (fits (c .before .before)) (c .openr-refusal .ensures ∙ rw (seen .session (r .0), seen .entity (r .1), seen .rights (ap asksRights (c .before .match .keys5)) (r .0) .reads _ (r .1), seen .reached (ap asksWay (c .before .match .keys5)) (r .0) (r .1), seen .edition))
 
 returns-7 : tie.Need-returns-7
 unfolding rules openw cannotOpen asksRights asksWay asksName either
