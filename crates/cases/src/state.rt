@@ -86,8 +86,8 @@ impl State {
         self
     }
 
-    // `clear`, `keep` and `back`: fresh tables of edition 1 over sixteen users of 0, with no request gathered; the tables are kept; and the
-    // tables are those that were kept.
+    // `clear`, `keep` and `back`: fresh tables of edition 1 over sixteen users of 0, with no request gathered; the tables are
+    // kept; and the tables are those that were kept.
     pub fn tables(mut self, verb: usize) -> State {
         if verb == 0 {
             self.batch.count = 0;

@@ -14,8 +14,8 @@ ghost use Rattle.guard.specs.Label.{dominates, sameLabel};
 ghost use Rattle.guard.specs.Tables.{edition1};
 ghost use Rattle.guard.specs.Refusals.{first, _when_};
 
-// Whether it would be reading down, in edition 1: in edition 2 openr has no condition 10.
-fn reads_down(edition: u8, e: u32, x: u32) -> bool
+// Condition 10 of openr: in edition 1, the entity is below the session. In edition 2 there is none.
+fn too_low(edition: u8, e: u32, x: u32) -> bool
     ensures { λ b. ⌜ b ≡ every (eqb edition edition1 ∷ ltb (entityLevel e) (sessionLevel x) ∷ []) ⌝ }
 {
     (edition == sizes::EDITION_1) & (e / sizes::LEVEL_ENTITIES < x / sizes::LEVEL_SEATS)
@@ -30,7 +30,7 @@ pub fn openr_refusal(q: Request, v: View) -> u8
     if !v.entity.live {
         return 7;
     }
-    if reads_down(v.edition, q.entity, q.seat) {
+    if too_low(v.edition, q.entity, q.seat) {
         return 10;
     }
     if !labels::dominates(v.session.label, v.entity.label) {

@@ -34,11 +34,7 @@ const LABELS: [[u64; 4]; 6] = [
 ];
 
 fn request(call: Call, fields: &[(Field, usize)]) -> Asked {
-    let mut request = Request::new(call);
-    for &(field, value) in fields {
-        request.set(field, value);
-    }
-    Asked::Request(request)
+    Asked::Request(Request::with(call, fields))
 }
 
 pub fn script() -> Script {

@@ -155,6 +155,15 @@ impl Request {
         }
     }
 
+    /// With these numbers, and 0 in the other fields.
+    pub fn with(call: Call, fields: &[(Field, usize)]) -> Request {
+        let mut request = Request::new(call);
+        for &(field, value) in fields {
+            request.set(field, value);
+        }
+        request
+    }
+
     pub fn at(&self, field: Field) -> usize {
         self.values[field as usize]
     }
@@ -1170,14 +1179,6 @@ mod tests {
         clearance: Label { grade: 0, cats: 0 },
     }; 16];
 
-    fn request(call: Call, fields: &[(Field, usize)]) -> Request {
-        let mut request = Request::new(call);
-        for &(field, value) in fields {
-            request.set(field, value);
-        }
-        request
-    }
-
     fn step(tables: &mut Tables, request: &Request) -> usize {
         let answer = if sound(tables) {
             answer(request.call, met(tables, request))
@@ -1209,7 +1210,7 @@ mod tests {
 
     #[test]
     fn other_editions_are_unsound() {
-        let login = request(Login, &[]);
+        let login = Request::with(Login, &[]);
         for edition in [0, 3, 255] {
             let mut tables = fresh(&NOBODY, edition);
             assert!(!sound(&tables));
@@ -1231,9 +1232,9 @@ mod tests {
                 let named = [(Seat, seat), (Entity, root)];
                 let down = usize::from(edition == 1 && other < level);
                 let up = usize::from(level < other);
-                let login = request(Login, &[(Seat, seat)]);
-                let take = request(Take, &[(Seat, seat), (Role, keeper)]);
-                let (openr, openw) = (request(Openr, &named), request(Openw, &named));
+                let login = Request::with(Login, &[(Seat, seat)]);
+                let take = Request::with(Take, &[(Seat, seat), (Role, keeper)]);
+                let (openr, openw) = (Request::with(Openr, &named), Request::with(Openw, &named));
                 let lacking = if down == 1 { 10 } else { 13 };
                 assert_eq!(step(&mut tables, &login), 0);
                 assert_eq!(step(&mut tables, &openr), lacking);

@@ -112,11 +112,7 @@ mod tests {
     use crate::paper::{fresh, Call, Request, UserRecord};
 
     fn request(call: Call, fields: &[(Field, usize)]) -> Asked {
-        let mut request = Request::new(call);
-        for &(field, value) in fields {
-            request.set(field, value);
-        }
-        Asked::Request(request)
+        Asked::Request(Request::with(call, fields))
     }
 
     /// Changes of tables, and the last level for which each shows.

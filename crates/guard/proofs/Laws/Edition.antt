@@ -5,7 +5,7 @@
 --     editions-agree                a request other than an openr of what is below its seat is answered alike in both, and does the same
 --     openr-never-10                openr has no condition 10 in edition 2
 -- Assumes nothing.
-use Prim.Native.Nat.{ℕ, zero, suc}
+use Prim.Native.Nat.{ℕ}
 use mathlib.Core.Path.{_≡_, refl, sym, ap, _∙_}
 use mathlib.Core.Bool.{Bool, true, false, cond}
 use mathlib.Core.List.{List, [], _∷_}
@@ -27,7 +27,7 @@ use Rattle.guard.specs.declared.Request.{Request}
 use Rattle.guard.proofs.Laws.Sound.{sound-e, sound-i}
 use Rattle.guard.proofs.Laws.Refusals.{conditionOf}
 use Rattle.guard.proofs.Laws.Requests.{conditions, numbered, answer-met}
-use Rattle.guard.proofs.Laws.Step.{next-by, Each, each-rule}
+use Rattle.guard.proofs.Laws.Step.{next-by, Each, EachAt, each-rule, each-numbered}
 
 -- the same records in an edition
 abbrev pub withEdition : ℕ → Tables → Tables
@@ -91,16 +91,6 @@ sound-in-2 t h =
       entity = ok .entity;
     })
 
--- one entry for each rule, which may speak of its number
-abbrev EachAt : (ℕ → Rule → Type 0) → List Rule → Type 0
-EachAt P [] = Unit {0}
-EachAt P (r ∷ rs) = P 0 r × EachAt (λ n. P (suc n)) rs
-
-each-at : (P : ℕ → Rule → Type 0) (rs : List Rule) (d : Rule) → EachAt P rs → ((n : ℕ) → P n d) → (n : ℕ) → P n (getD rs n d)
-each-at P [] d ps p n = p n
-each-at P (r ∷ rs) d (here, rest) p zero = here
-each-at P (r ∷ rs) d (here, rest) p (suc n) = each-at (λ n. P (suc n)) rs d rest (λ n. p (suc n)) n
-
 module _ (t : Tables) (q : Request) where
   -- the rule at number n refuses alike in both editions, unless it is an openr of what is below the seat
   abbrev Alike : ℕ → Rule → Type 0
@@ -116,8 +106,8 @@ module _ (t : Tables) (q : Request) where
 
   answers-agree : sound (withEdition edition1 t) ≡ true → (q .call ≡ kind.openr → entityBelowSeat t q ≡ false)
       → answer (withEdition edition1 t) q ≡ answer (withEdition edition2 t) q
-  unfolding answerIn ruleOf
-  answers-agree h above = rw (h, sound-in-2 t h, each-at Alike rules unknown each-alike unknown-alike (q .call) above)
+  unfolding answerIn
+  answers-agree h above = rw (h, sound-in-2 t h, each-numbered Alike each-alike unknown-alike q above)
 
   pub editions-agree : sound (withEdition edition1 t) ≡ true → (q .call ≡ kind.openr → entityBelowSeat t q ≡ false)
       → (answer (withEdition edition1 t) q ≡ answer (withEdition edition2 t) q)

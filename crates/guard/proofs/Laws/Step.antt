@@ -3,6 +3,7 @@
 --     done            answer 0, as DoneIn
 --     next-by         a property of the tables that holds now, and after the effect where the request is done, holds next
 --     each-rule       what holds of each of the seventeen rules and of the unknown one holds of every request's rule
+--     each-numbered   .. and may speak of the rule's number
 -- Assumes nothing.
 use Prim.Native.Nat.{ℕ, zero, suc}
 use mathlib.Core.Path.{_≡_, refl}
@@ -46,16 +47,22 @@ next-by {width} P t q now after = go (eqb (answerIn width t q) 0) refl
     go true e = after (done t q (eqb-true _ _ e))
     go false e = now
 
--- ---- one entry for each rule
-abbrev pub Each : (Rule → Type 0) → List Rule → Type 0
-Each P [] = Unit {0}
-Each P (r ∷ rs) = P r × Each P rs
+-- ---- one entry for each rule, which may speak of the rule's number
+abbrev pub EachAt : (ℕ → Rule → Type 0) → List Rule → Type 0
+EachAt P [] = Unit {0}
+EachAt P (r ∷ rs) = P 0 r × EachAt (λ n. P (suc n)) rs
 
-each-at : (P : Rule → Type 0) (rs : List Rule) (d : Rule) → Each P rs → P d → (n : ℕ) → P (getD rs n d)
-each-at P [] d ps p n = p
+abbrev pub Each : (Rule → Type 0) → List Rule → Type 0
+Each P = EachAt (λ n. P)
+
+each-at : (P : ℕ → Rule → Type 0) (rs : List Rule) (d : Rule) → EachAt P rs → ((n : ℕ) → P n d) → (n : ℕ) → P n (getD rs n d)
+each-at P [] d ps p n = p n
 each-at P (r ∷ rs) d (here, rest) p zero = here
-each-at P (r ∷ rs) d (here, rest) p (suc n) = each-at P rs d rest p n
+each-at P (r ∷ rs) d (here, rest) p (suc n) = each-at (λ n. P (suc n)) rs d rest (λ n. p (suc n)) n
+
+pub each-numbered : (P : ℕ → Rule → Type 0) → EachAt P rules → ((n : ℕ) → P n unknown) → (q : Request) → P (q .call) (ruleOf q)
+unfolding ruleOf
+each-numbered P ps p q = each-at P rules unknown ps p (q .call)
 
 pub each-rule : (P : Rule → Type 0) → Each P rules → P unknown → (q : Request) → P (ruleOf q)
-unfolding ruleOf
-each-rule P ps p q = each-at P rules unknown ps p (q .call)
+each-rule P ps p = each-numbered (λ n. P) ps (λ n. p)

@@ -1,5 +1,6 @@
-// Tests of one record that soundness asks, of the edition, and of each user and entity in turn. Each is the definition of specs/Sound or specs/Label that its contract cites;
-// what holds of every value of a field's type, as that a `u16` is at most 65,535, is not tested.
+// Tests of one record that soundness asks, of the edition, and of each user and entity in turn. Each is the definition of
+// specs/Sound or specs/Label that its contract cites; what holds of every value of a field's type, as that a `u16` is at most
+// 65,535, is not tested.
 ghost use Prim.Native.Nat.{_%_};
 ghost use mathlib.Core.Path.{_≡_};
 ghost use lib.ListN.{getD};

@@ -103,8 +103,8 @@ module _ (L : ℕ) (q : Request) (t u : Tables) (same : Same L t u) (st : sound 
   notOpen-same s e = rw (reading-as s e, writing-as s e)
 
   -- the condition 10 of openr, by the edition
-  readsDown-same : every (inEdition1 t ∷ entityBelowSeat t q ∷ []) ≡ every (inEdition1 u ∷ entityBelowSeat u q ∷ [])
-  readsDown-same = ap (λ n. every (eqb n edition1 ∷ entityBelowSeat t q ∷ [])) (same .edition)
+  tooLow-same : every (inEdition1 t ∷ entityBelowSeat t q ∷ []) ≡ every (inEdition1 u ∷ entityBelowSeat u q ∷ [])
+  tooLow-same = ap (λ n. every (eqb n edition1 ∷ entityBelowSeat t q ∷ [])) (same .edition)
 
   right-same : (right e : ℕ) → Seat → firstEntity L ≤ e → hasRight t (q .seat) right e ≡ hasRight u (q .seat) right e
   right-same right e s = hasRight-same L t u same (q .seat) right e (upper-seat L (q .seat) s)
@@ -230,7 +230,7 @@ module _ (L : ℕ) (q : Request) (t u : Tables) (same : Same L t u) (st : sound 
       and (λ r n. seatDead-same (every-at _ n 0) also tt)  -- logout
       and (λ r n. let s = every-at _ n 0 in let o = every-at _ n 1 in seatDead-same s also roleDead-same o also userUnlisted-same s o also roleHeld-same s o also tt)  -- take
       and (λ r n. let s = every-at _ n 0 in let o = every-at _ n 1 in seatDead-same s also roleDead-same o also ap not (roleHeld-same s o) also tt)  -- drop
-      and (λ r n. open-agrees _ _ dominates read _ _ (every-at _ n 0) (every-at _ n 1) (every-at _ r 1) readsDown-same (reading-as (every-at _ n 0) (every-at _ n 1)))  -- openr
+      and (λ r n. open-agrees _ _ dominates read _ _ (every-at _ n 0) (every-at _ n 1) (every-at _ r 1) tooLow-same (reading-as (every-at _ n 0) (every-at _ n 1)))  -- openr
       and (λ r n. open-agrees _ _ sameLabel write _ _ (every-at _ n 0) (every-at _ n 1) (every-at _ r 1) refl (writing-as (every-at _ n 0) (every-at _ n 1)))  -- openw
       and (λ r n. seatDead-same (every-at _ n 0) also entityDead-same (every-at _ n 1) also notOpen-same (every-at _ n 0) (every-at _ n 1) also tt)  -- close
       and create-agrees  -- create

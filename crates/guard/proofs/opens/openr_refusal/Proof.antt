@@ -11,8 +11,8 @@ returns c = search refusing depth 14 fits 4000
 returns-2 : tie.Need-returns-2
 returns-2 c = search refusing depth 14 fits 4000
 
-reads-down-requires : tie.Need-reads-down-requires
-reads-down-requires c κs = search needs
+too-low-requires : tie.Need-too-low-requires
+too-low-requires c κs = search needs
 
 returns-3 : tie.Need-returns-3
 returns-3 c = search refusing depth 14 fits 4000
@@ -47,7 +47,7 @@ openr-refusal-spec =
     (tie.spec
     returns
     returns-2
-    reads-down-requires
+    too-low-requires
     returns-3
     dominates-requires
     returns-4
