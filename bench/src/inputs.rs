@@ -143,7 +143,7 @@ impl Day {
                 ask(call::LIST, 4 * level, user);
             }
             for request in requests {
-                assert_eq!(self.tables.step(&request), 0);
+                assert_eq!(self.tables.step(&request).number(), 0);
                 lines.push(line(&request));
             }
         }
@@ -153,7 +153,7 @@ impl Day {
     /// A request that is done, and is done here.
     fn done(&mut self) -> Vec<u8> {
         while let Some(request) = self.next.pop() {
-            if self.tables.act(&request) == 0 {
+            if self.tables.act(&request).number() == 0 {
                 return line(&request).into_bytes();
             }
         }
@@ -161,7 +161,7 @@ impl Day {
             let call = self.random.weighted(&WEIGHTS) as u32;
             for _ in 0..400 {
                 let request = self.request(call);
-                if !would_lock_out(&request) && self.tables.act(&request) == 0 {
+                if !would_lock_out(&request) && self.tables.act(&request).number() == 0 {
                     self.follow_up(request);
                     return line(&request).into_bytes();
                 }
@@ -200,7 +200,7 @@ impl Day {
                 if wanted == 2 {
                     self.put_out_of_range(&mut request);
                 }
-                match tables.act(&request) {
+                match tables.act(&request).number() {
                     0 => tables = self.tables.clone(),
                     answer if answer == wanted => return line(&request).into_bytes(),
                     _ => {}

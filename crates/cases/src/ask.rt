@@ -5,6 +5,8 @@ use crate::text;
 use guard::Outcome;
 use guard::Request;
 use guard::Tables;
+use guard::Told;
+use guard::sizes::NO_ROLE;
 
 // The largest number that a field can hold: what the fields hold that a request does not use, and that are not looked at.
 const MOST: u32 = 4294967295;
@@ -150,14 +152,26 @@ fn by_method(t: Tables, q: Request) -> Outcome {
     }
 }
 
+// A role told as one number, 255 for none, to compare two.
+fn role_number(role: Told) -> u64 {
+    match role {
+        Told::By(r) => r as u64,
+        Told::None => NO_ROLE as u64,
+    }
+}
+
 // What `step` hands back. Where the method of the same name hands back anything else, a line says so.
 pub fn made(t: Tables, q: Request) -> Outcome {
     let o = t.step(q);
     let m = by_method(t, q);
-    if (o.answer != m.answer) | !record::same_tables(o.tables, m.tables) {
+    let role = o.role;
+    let told = role_number(role);
+    let role = m.role;
+    let other = role_number(role);
+    if ((o.answer != m.answer) | (told != other)) | !record::same_tables(o.tables, m.tables) {
         show::form(
             show::BY_METHOD,
-            [m.answer as u64, o.answer as u64, 0, 0, 0, 0, 0, 0],
+            [m.answer as u64, other, o.answer as u64, told, 0, 0, 0, 0],
         );
         show::changes(o.tables, m.tables);
         show::say(show::END);

@@ -3,6 +3,7 @@ use crate::ask;
 use crate::show;
 use guard::Request;
 use guard::Tables;
+use guard::sizes::NO_ROLE;
 ghost use Prim.Native.Nat.{_≤_};
 
 // Rows, and how many numbers they have. There is room for 256 rows.
@@ -11,10 +12,11 @@ pub struct Batch {
     pub count: usize,
 }
 
-// The tables after a batch, and the answers. Where none was written there is 255.
+// The tables after a batch, the answers and the roles. Where no answer was written there is 255, where no role was, 254.
 pub struct Done {
     pub tables: Tables,
     pub answers: [u8; 256],
+    pub roles: [u8; 256],
 }
 
 // So many rows more, as long as there is room.
@@ -33,37 +35,47 @@ pub fn with(mut b: Batch, q: Request, times: u64) -> Batch {
     b
 }
 
-// The first `n` numbers of the rows, with so much room for answers.
-fn ran(t: Tables, rows: [u32; 3072], n: usize, room: usize) -> Done
+// The first `n` numbers of the rows, with so much room for answers and for roles.
+fn ran(t: Tables, rows: [u32; 3072], n: usize, room: usize, told: usize) -> Done
     requires { ⌜ n ≤ 3072 ⌝ }
     requires { ⌜ room ≤ 256 ⌝ }
+    requires { ⌜ told ≤ 256 ⌝ }
 {
     let mut answers = [255u8; 256];
-    let tables = t.run(&rows[..n], &mut answers[..room]);
-    Done { tables, answers }
+    let mut roles = [254u8; 256];
+    let tables = t.run(&rows[..n], &mut answers[..room], &mut roles[..told]);
+    Done {
+        tables,
+        answers,
+        roles,
+    }
 }
 
-fn answers(list: [u8; 256], room: usize)
+// The first bytes, behind a text. One of them stands for none, as a dash.
+fn bytes(text: usize, list: [u8; 256], room: usize, none: u64)
     requires { ⌜ room ≤ 256 ⌝ }
 {
-    show::say(show::ANSWERS);
+    show::say(text);
     let mut i = 0usize;
     while i < room {
-        show::form(show::ONE, show::one(list[i] as u64));
+        show::number(list[i] as u64, none);
         i += 1;
     }
-    show::say(show::END);
 }
 
-// What the batch changes, and its answers, of which there are at most 256; hands on the tables.
-pub fn told(name: &[u8], t: Tables, b: Batch, n: u64, room: u64) -> Tables {
+// What the batch changes, its answers and its roles, of which there are at most 256 each; hands on the tables.
+pub fn told(name: &[u8], t: Tables, b: Batch, n: u64, room: u64, told: u64) -> Tables {
     let rows = b.rows;
     let room = (room % 257) as usize;
-    let r = ran(t, rows, (n % 3073) as usize, room);
+    let told = (told % 257) as usize;
+    let r = ran(t, rows, (n % 3073) as usize, room, told);
     show::word(name);
     show::say(show::COLON);
     show::changes(t, r.tables);
-    let list = r.answers;
-    answers(list, room);
+    let answers = r.answers;
+    bytes(show::ANSWERS, answers, room, 256);
+    let roles = r.roles;
+    bytes(show::ROLES, roles, told, NO_ROLE as u64);
+    show::say(show::END);
     r.tables
 }

@@ -31,7 +31,8 @@ fn each(t: Tables, q: Request, most: bool) {
 // of a user that no seat has.
 pub fn edge(name: &[u8], t: Tables, q: Request) -> Tables {
     let o = ask::made(t, q);
-    show::answer(name, o.answer);
+    let role = o.role;
+    show::answer(name, o.answer, role);
     show::say(show::PAST);
     each(t, q, false);
     show::say(show::MOST);

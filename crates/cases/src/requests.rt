@@ -15,7 +15,8 @@ impl State {
         let users = self.now.users;
         let o = Tables::fresh(users, self.now.edition);
         if name.len() != 0 {
-            show::answer(name, o.answer);
+            let role = o.role;
+            show::answer(name, o.answer, role);
             show::changes(self.kept, o.tables);
             show::say(show::END);
             return self.on(o.tables);
@@ -53,7 +54,8 @@ impl State {
             b.good = o.answer == 0;
             return b;
         }
-        show::answer(name, o.answer);
+        let role = o.role;
+        show::answer(name, o.answer, role);
         show::say(show::END);
         b
     }
@@ -61,7 +63,8 @@ impl State {
     // `do` 0, `ask` 1 and `broken` 2
     fn told(self, verb: usize, q: Request, name: &[u8]) -> State {
         let o = ask::made(self.now, q);
-        show::answer(name, o.answer);
+        let role = o.role;
+        show::answer(name, o.answer, role);
         show::changes(self.now, o.tables);
         if verb == 2 {
             show::say(show::BROKEN);
@@ -106,14 +109,23 @@ impl State {
         b
     }
 
-    // `run NUMBERS ROOM`: so many numbers of the rows, with room for so many answers.
+    // `run NUMBERS ROOM ROLES`: so many numbers of the rows, with room for so many answers and so many roles.
     pub fn run(self, s: &[u8], from: usize, name: &[u8]) -> State {
         let n = text::next(s, from);
         let room = text::next(s, n.end);
-        if !((n.decimal & (n.number <= 3072)) & (room.decimal & (room.number <= 256))) {
+        let told = text::next(s, room.end);
+        let fits = (room.decimal & (room.number <= 256)) & (told.decimal & (told.number <= 256));
+        if !((n.decimal & (n.number <= 3072)) & fits) {
             return self.unread();
         }
-        let t = batch::told(name, self.now, self.batch, n.number, room.number);
+        let t = batch::told(
+            name,
+            self.now,
+            self.batch,
+            n.number,
+            room.number,
+            told.number,
+        );
         self.on(t)
     }
 }

@@ -1,6 +1,7 @@
 // What is printed.
 use crate::record;
 use guard::Tables;
+use guard::Told;
 
 // Texts by number, in the list of `form`.
 const ANSWER: usize = 0;
@@ -35,6 +36,12 @@ pub const ANSWERS: usize = 25;
 pub const UNREAD: usize = 26;
 
 pub const BY_METHOD: usize = 27;
+
+const BY_ROLE: usize = 28;
+
+pub const ROLES: usize = 29;
+
+const DASH: usize = 30;
 
 pub fn word(text: &[u8]) {
     io::write_all(libc::STDOUT_FILENO, text);
@@ -115,7 +122,7 @@ pub fn form(k: usize, row: [u64; 8]) {
         *, users #, reads #, writes #, executes #, owns #\n|\
         *, kind @, parent @, name @, label @/@, shared @\n|\
         , edition @\n|\
-        \n|; broken|; past|; most|; unsound @\n| @|:|; answers| line @: not read, or not done\n|by the method @, by step @;|";
+        \n|; broken|; past|; most|; unsound @\n| @|:|; answers| line @: not read, or not done\n|by the method @, role @, by step @, role @;| by role @|; roles| -|";
     let mut p = Place { left: k, at: 0 };
     let mut i = 0usize;
     while i < list.len() {
@@ -135,6 +142,15 @@ pub fn one(n: u64) -> [u64; 8] {
 // A text with no number in it.
 pub fn say(k: usize) {
     form(k, [0; 8]);
+}
+
+// One number of a list, or a dash where it stands for none.
+pub fn number(n: u64, none: u64) {
+    if n == none {
+        say(DASH);
+    } else {
+        form(ONE, one(n));
+    }
 }
 
 pub fn record(t: Tables, kind: usize, i: usize) {
@@ -164,8 +180,12 @@ pub fn changes(a: Tables, b: Tables) {
     }
 }
 
-// A case's name, and an answer.
-pub fn answer(name: &[u8], n: u8) {
+// A case's name, an answer, and the role where one is told.
+pub fn answer(name: &[u8], n: u8, role: Told) {
     word(name);
     form(ANSWER, one(n as u64));
+    match role {
+        Told::By(r) => form(BY_ROLE, one(r as u64)),
+        Told::None => {}
+    }
 }

@@ -3,13 +3,15 @@
 --     grants-role, grants-each, grants-other      a role stored, with its sets; an entity taken out of every role; no role stored
 --     put-four, cleared-all, Sides, sides-..      the code's stores into `grants`
 --     Gathering, gathering-..               the rights gathered role by role
+--     Giver, giver-..                       the lowest role held that gives a right
 --     rights-of                             the rights gathered over the roles held are those of the session
+--     role-of                               the lowest role held that gives the right, by the columns, is the one that the check tells
 --     way-of                                the climb by keys is "reaches"
 --     name-of, child-of                     a name among the children, a child
 -- Assumes nothing.
 use Prim.Native.Nat.{ℕ, _+_, _*_, _/_, _%_, _≤_, _<_}
 use mathlib.Core.Path.{_≡_, refl, sym, ap, _∙_}
-use mathlib.Core.Bool.{Bool, true, false, not, _||_, or-false, or-assoc}
+use mathlib.Core.Bool.{Bool, true, false, not, _||_, cond, or-false, or-assoc}
 use mathlib.Core.List.{List, [], _∷_, map}
 use native.Mathlib.Decide.{ℕ-discrete}
 use native.Mathlib.Nat.{add-zero}
@@ -23,20 +25,25 @@ use Rattle.bitset.specs.Tests.Laws.{both, clash, is-false, not-of-false, of-not
 use Rattle.bitset.specs.Sets.{has, contains, without, join}
 use Rattle.bitset.specs.Sets.Laws.{has-none, has-join, has-without, has-without-other, without-none}
 use Rattle.guard.specs.Level.{roleLevel, entityLevel, isRoot}
-use Rattle.guard.specs.Tables.{noRole, noEntity, sessionAt, roleAt, entityAt, read, write, execute, own, rightsOf, hasRight, isChild}
+use Rattle.guard.specs.Told.{lowest}
+use Rattle.guard.specs.Kind as kind
+use Rattle.guard.specs.Tables.{noRole, noEntity, sessionAt, roleAt, entityAt, read, write, execute, own, rightsOf, roleFor, hasRight, isChild}
 use Rattle.guard.specs.Chain.{reaches}
 use Rattle.guard.specs.Sound.{sound}
 use Rattle.guard.specs.Edits.{clearRights, setRights, putIn}
 use Rattle.guard.specs.Conditions.{nameTaken, hasChildren}
 use Rattle.guard.specs.Private.Tested.{keyOf}
 use Rattle.guard.specs.Private.Inside.{RightsOf}
-use Rattle.guard.specs.Private.Scan.{Keys, side, Grants, Granted, Cleared, given, Gathered, climbsBy, nameBy, childBy}
+use Rattle.guard.specs.Private.Scan.{Keys, side, Grants, Granted, Cleared, gives, given, openedBy, Gathered, climbsBy, nameBy, childBy}
 use Rattle.guard.specs.declared.Role.{Role}
 use Rattle.guard.specs.declared.Entity.{Entity}
 use Rattle.guard.specs.declared.Tables.{Tables}
 use Rattle.guard.specs.declared.Request.{Request}
 use Rattle.guard.specs.declared.scan.Rights.{Rights}
+use Rattle.guard.specs.declared.Told.{Told}
+use Rattle.guard.specs.declared.Told.the-variants.{By, None}
 use Rattle.guard.proofs.Laws.Rights.{contains-read, contains-write, contains-execute, contains-own}
+use Rattle.guard.proofs.Laws.Told.{lowest-at, lowest-none, lowest-cong, Gives, right-some}
 use Rattle.guard.proofs.Laws.Sound.{sound-e, parent-level}
 use Rattle.guard.proofs.Soundness.Climb.{climbs-cong}
 use Rattle.guard.proofs.Soundness.Keys.{key-live, key-dead, parent-of-key}
@@ -249,35 +256,80 @@ module _ (grants : List ℕ) (held k : ℕ) where
       none : (r : ℕ) → every (has 0 r ∷ has (getD grants (4 * r + k) 0) e ∷ []) ≡ false
       none r = rw (has-none r)
 
+-- the lowest role of those left that gives the right: it is found, or the search goes on without it, or there is none
+module _ (grants : List ℕ) (k e : ℕ) where
+  abbrev pub Giver : ℕ → Told
+  Giver left = lowest 16 (gives grants left k e)
+
+  pub giver-found : (left r : ℕ) → r < 16 → has left r ≡ true → ((i : ℕ) → i < r → has left i ≡ false) → has (getD grants (4 * r + k) 0) e ≡ true
+      → Giver left ≡ By r
+  unfolding every
+  giver-found left r l on none met =
+      lowest-at 16 (gives grants left k e) r l (every-i (has left r ∷ has (getD grants (4 * r + k) 0) e ∷ []) (on, (met, tt))) (λ i m. rw (none i m))
+
+  pub giver-next : (left r : ℕ) → has (getD grants (4 * r + k) 0) e ≡ false → Giver (without left r) ≡ Giver left
+  giver-next left r lacks = lowest-cong 16 _ _ (λ i l. go i (ℕ-discrete i r))
+    where
+      go : (i : ℕ) → Dec (i ≡ r) → gives grants (without left r) k e i ≡ gives grants left k e i
+      go i (yes s) =
+          is-false _ (λ h. clash _ (every-at _ h 1) (rw s lacks)) ∙ sym (is-false (gives grants left k e i) (λ h. clash _ (every-at _ h 1) (rw s lacks)))
+      go i (no s) = rw (has-without-other left r i s)
+
+  pub giver-none : Giver 0 ≡ None
+  unfolding every
+  giver-none = lowest-none 16 _ (λ i l. rw (has-none i))
+
 module _ (t : Tables) (ok : sound t ≡ true) (grants : List ℕ) (G : Grants (t .roles) grants) (x : ℕ) where
   module _ (right k : ℕ) (small : k < 4) (same : (p : Role) (e : ℕ) → contains (rightsOf p e) right ≡ has (side p k) e)
       (within : (r e : ℕ) → r < 16 → e < 64 → has (side (roleAt t r) k) e ≡ true → leb (entityLevel e) (roleLevel r) ≡ true)
     where
-      given-right : (e : ℕ) → e < 64 → given grants (sessionAt t x .roles) k e ≡ hasRight t x right e
-      unfolding given hasRight
-      given-right e l = some-cong 16 _ _ (λ r b. both _ _ (forth r b) (back r b))
+      gives-right : (e : ℕ) → e < 64 → (r : ℕ) → r < 16 → gives grants (sessionAt t x .roles) k e r ≡ Gives t x right e r
+      gives-right e l r b = both _ _ forth back
         where
-          forth : (r : ℕ) → r < 16 → every (has (sessionAt t x .roles) r ∷ has (getD grants (4 * r + k) 0) e ∷ []) ≡ true
-              → every (leb (entityLevel e) (roleLevel r) ∷ has (sessionAt t x .roles) r ∷ contains (rightsOf (roleAt t r) e) right ∷ []) ≡ true
-          forth r b h =
+          forth : gives grants (sessionAt t x .roles) k e r ≡ true → Gives t x right e r ≡ true
+          forth h =
               let inside = ap (λ (s : ℕ). has s e) (sym (G .at r k b small)) ∙ every-at _ h 1 in
               every-i _ (within r e b l inside, (every-at _ h 0, (same (roleAt t r) e ∙ inside, tt)))
 
-          back : (r : ℕ) → r < 16 → every (leb (entityLevel e) (roleLevel r) ∷ has (sessionAt t x .roles) r ∷ contains (rightsOf (roleAt t r) e) right ∷ []) ≡ true
-              → every (has (sessionAt t x .roles) r ∷ has (getD grants (4 * r + k) 0) e ∷ []) ≡ true
-          back r b h =
+          back : Gives t x right e r ≡ true → gives grants (sessionAt t x .roles) k e r ≡ true
+          back h =
               every-i _ (every-at _ h 1, (ap (λ (s : ℕ). has s e) (G .at r k b small) ∙ sym (same (roleAt t r) e) ∙ every-at _ h 2, tt))
+
+      given-right : (e : ℕ) → e < 64 → given grants (sessionAt t x .roles) k e ≡ hasRight t x right e
+      unfolding given
+      given-right e l = some-cong 16 _ _ (gives-right e l) ∙ sym (right-some t x right e)
+
+      giver-right : (e : ℕ) → e < 64 → lowest 16 (gives grants (sessionAt t x .roles) k e) ≡ roleFor t x right e
+      unfolding roleFor
+      giver-right e l = lowest-cong 16 _ _ (gives-right e l)
+
+  -- of sound tables: a role has rights on no entity above its level
+  reads-within : (r e : ℕ) → r < 16 → e < 64 → has (side (roleAt t r) 0) e ≡ true → leb (entityLevel e) (roleLevel r) ≡ true
+  unfolding side
+  reads-within r e b c m = every-at _ (sound-e t ok .role r b .reads .members e c m) 1
+
+  writes-within : (r e : ℕ) → r < 16 → e < 64 → has (side (roleAt t r) 1) e ≡ true → leb (entityLevel e) (roleLevel r) ≡ true
+  unfolding side
+  writes-within r e b c m = every-at _ (sound-e t ok .role r b .writes .members e c m) 1
 
   pub rights-of : (g : Rights) → Gathered grants (sessionAt t x .roles) g → RightsOf t x g
   unfolding side
   rights-of g h =
       let role = sound-e t ok .role in
       record {
-        reads = λ e l. h .reads e ∙ given-right read 0 (omega arith) contains-read (λ r f b c m. every-at _ (role r b .reads .members f c m) 1) e l;
-        writes = λ e l. h .writes e ∙ given-right write 1 (omega arith) contains-write (λ r f b c m. every-at _ (role r b .writes .members f c m) 1) e l;
+        reads = λ e l. h .reads e ∙ given-right read 0 (omega arith) contains-read reads-within e l;
+        writes = λ e l. h .writes e ∙ given-right write 1 (omega arith) contains-write writes-within e l;
         executes = λ e l. h .executes e ∙ given-right execute 2 (omega arith) contains-execute (λ r f b c m. every-at _ (role r b .executes .members f c m) 1) e l;
         owns = λ e l. h .owns e ∙ given-right own 3 (omega arith) contains-own (λ r f b c m. every-at _ (role r b .owns .members f c m) 1) e l;
       }
+
+  -- the role that openr and openw tell
+  pub role-of : (call e : ℕ) → e < 64
+      → openedBy grants call (sessionAt t x .roles) e
+      ≡ cond (eqb call kind.openr) (roleFor t x read e) (cond (eqb call kind.openw) (roleFor t x write e) None)
+  unfolding openedBy side
+  role-of call e l =
+      rw (giver-right read 0 (omega arith) contains-read reads-within e l, giver-right write 1 (omega arith) contains-write writes-within e l)
 
 -- ---- the way up, and the children
 module _ (t : Tables) (ok : sound t ≡ true) (keys : List ℕ) (K : Keys (t .entities) keys) where

@@ -1,14 +1,15 @@
 -- Logs, request by request, as a run over rows goes.
---     run-append, answers-append    one log after the other
---     run-snoc, answers-snoc, length-answers      one request more at the end of a log
---     store-more, ones-store        the next answer, stored in its place
---     batch-room, batch-rows        a batch has room for its answers, and each of its rows is whole
---     all-refused                   on unsound tables every answer is 1, and the tables stay
+--     each                              what each request of a log gets: the answers, or the roles told
+--     run-append, each-append           one log after the other
+--     run-snoc, each-snoc, length-each  one request more at the end of a log
+--     store-more, set-again, same-store the next byte, stored in its place
+--     batch-room, batch-space, batch-rows      a batch has room for its answers and its roles, and each of its rows is whole
+--     all-refused                       on unsound tables every answer is 1, no role is told, and the tables stay
 -- Assumes nothing.
-use Prim.Native.Nat.{ℕ, suc, _+_, _*_, _/_, _≤_, _<_}
+use Prim.Native.Nat.{ℕ, zero, suc, _+_, _-_, _*_, _/_, _≤_, _<_}
 use mathlib.Core.Path.{_≡_, refl, sym, ap, _∙_}
 use mathlib.Core.Bool.{Bool, true, false, cond}
-use mathlib.Core.List.{List, [], _∷_, _++_}
+use mathlib.Core.List.{List, [], _∷_, _++_, map}
 use native.Mathlib.Numerals.{add-one}
 use native.Mathlib.Omega.{arith}
 use lib.Dec.{leb}
@@ -16,69 +17,101 @@ use lib.ListN.{length, getD, set, drop, replicate, length-replicate, replicate-a
 use lib.Seq.{drop-cons, set-at, append-snoc}
 use borrow.Author.Tests.{leb-true, leb-false}
 use Rattle.guard.specs.Sound.{sound}
-use Rattle.guard.specs.Step.{answer, next, nextIn, run, runIn, answers, answersIn}
-use Rattle.guard.specs.Batch.{rowLength, batchLength}
+use Rattle.guard.specs.Label.{allCategories}
+use Rattle.guard.specs.Told.{roleByte}
+use Rattle.guard.specs.Step.{next, nextIn, run, runIn, roleToldIn, eachIn, answers, rolesTold}
+use Rattle.guard.specs.Batch.{rowLength, shorter, batchLength}
 use Rattle.guard.specs.declared.Tables.{Tables}
 use Rattle.guard.specs.declared.Request.{Request}
 use Rattle.guard.proofs.Laws.Requests.{unsound-answer}
+
+abbrev pub each : {A : Type 0} → (Tables → Request → A) → Tables → List Request → List A
+each = eachIn allCategories
 
 pub run-append : (t : Tables) (a b : List Request) → run t (a ++ b) ≡ run (run t a) b
 unfolding runIn
 run-append t [] b = refl
 run-append t (p ∷ a) b = run-append (next t p) a b
 
-pub answers-append : (t : Tables) (a b : List Request) → answers t (a ++ b) ≡ answers t a ++ answers (run t a) b
-unfolding runIn answersIn
-answers-append t [] b = refl
-answers-append t (p ∷ a) b = ap (λ (l : List ℕ). answer t p ∷ l) (answers-append (next t p) a b)
+pub each-append : {A : Type 0} (f : Tables → Request → A) (t : Tables) (a b : List Request) → each f t (a ++ b) ≡ each f t a ++ each f (run t a) b
+unfolding runIn eachIn
+each-append f t [] b = refl
+each-append {A = A} f t (p ∷ a) b = ap (λ (l : List A). f t p ∷ l) (each-append f (next t p) a b)
 
 pub run-snoc : (t : Tables) (log : List Request) (q : Request) → run t (log ++ (q ∷ [])) ≡ next (run t log) q
 unfolding runIn
 run-snoc t log q = run-append t log (q ∷ [])
 
-pub answers-snoc : (t : Tables) (log : List Request) (q : Request) → answers t (log ++ (q ∷ [])) ≡ answers t log ++ (answer (run t log) q ∷ [])
-unfolding answersIn
-answers-snoc t log q = answers-append t log (q ∷ [])
+pub each-snoc : {A : Type 0} (f : Tables → Request → A) (t : Tables) (log : List Request) (q : Request)
+    → each f t (log ++ (q ∷ [])) ≡ each f t log ++ (f (run t log) q ∷ [])
+unfolding eachIn
+each-snoc f t log q = each-append f t log (q ∷ [])
 
-pub length-answers : (t : Tables) (log : List Request) → length (answers t log) ≡ length log
-unfolding answersIn
-length-answers t [] = refl
-length-answers t (q ∷ log) = ap suc (length-answers (next t q) log)
+pub length-each : {A : Type 0} (f : Tables → Request → A) (t : Tables) (log : List Request) → length (each f t log) ≡ length log
+unfolding eachIn
+length-each f t [] = refl
+length-each f t (q ∷ log) = ap suc (length-each f (next t q) log)
 
 -- the next answer, stored behind those that are there
 pub store-more : (l old : List ℕ) (i v : ℕ) → length l ≡ i → i < length old → set (l ++ drop i old) i v ≡ (l ++ (v ∷ [])) ++ drop (i + 1) old
 store-more l old i v long low =
     rw (add-one, drop-cons old i 0) (set-at l (getD old i 0) (drop (suc i) old) v i long ∙ sym (append-snoc l v (drop (suc i) old)))
 
-ones-more : (old : List ℕ) (i : ℕ) → i < length old → set {A = ℕ} (replicate i 1 ++ drop i old) i 1 ≡ replicate (i + 1) 1 ++ drop (i + 1) old
-ones-more old i low =
-    store-more (replicate i 1) old i 1 (length-replicate i 1) low
-    ∙ ap (λ (l : List ℕ). l ++ drop (i + 1) old) (replicate-append-replicate i 1 1)
+-- the byte before the next one, stored anew
+pub set-again : (l : List ℕ) (i a b : ℕ) → set (set l i a) (i + 1 - 1) b ≡ set l i b
+set-again l i a b = let same : i + 1 - 1 ≡ i = omega arith in rw same (go l i)
+  where
+    go : (l : List ℕ) (i : ℕ) → set (set l i a) i b ≡ set l i b
+    go [] i = refl
+    go (x ∷ l) zero = refl
+    go (x ∷ l) (suc i) = ap (λ (m : List ℕ). x ∷ m) (go l i)
 
-pub ones-store : (old new : List ℕ) (i : ℕ) → new ≡ replicate i 1 ++ drop i old → i < length old → set new i 1 ≡ replicate (i + 1) 1 ++ drop (i + 1) old
-ones-store old new i h low = rw h (ones-more old i low)
+same-more : (old : List ℕ) (i v : ℕ) → i < length old → set {A = ℕ} (replicate i v ++ drop i old) i v ≡ replicate (i + 1) v ++ drop (i + 1) old
+same-more old i v low =
+    store-more (replicate i v) old i v (length-replicate i v) low
+    ∙ ap (λ (l : List ℕ). l ++ drop (i + 1) old) (replicate-append-replicate i 1 v)
+
+pub same-store : (old new : List ℕ) (i v : ℕ) → new ≡ replicate i v ++ drop i old → i < length old → set new i v ≡ replicate (i + 1) v ++ drop (i + 1) old
+same-store old new i v h low = rw h (same-more old i v low)
 
 -- ---- how many requests a batch has
-pub batch-room : (numbers room : ℕ) → batchLength numbers room ≤ room
-unfolding batchLength
-batch-room numbers room = go (leb (numbers / rowLength) room) refl
+shorter-l : (a b : ℕ) → shorter a b ≤ a
+unfolding shorter
+shorter-l a b = go (leb a b) refl
   where
-    go : (b : Bool) → leb (numbers / rowLength) room ≡ b → cond (leb (numbers / rowLength) room) (numbers / rowLength) room ≤ room
-    go true h = rw h (leb-true _ _ h)
-    go false h = rw h (omega arith)
+    go : (c : Bool) → leb a b ≡ c → cond c a b ≤ a
+    go true h = omega arith
+    go false h = let k = leb-false a b h in omega arith
 
-pub batch-rows : (numbers room i : ℕ) → i < batchLength numbers room → rowLength * i + rowLength ≤ numbers
-unfolding batchLength
-batch-rows numbers room i = go (leb (numbers / rowLength) room) refl
+shorter-r : (a b : ℕ) → shorter a b ≤ b
+unfolding shorter
+shorter-r a b = go (leb a b) refl
   where
-    go : (b : Bool) → leb (numbers / rowLength) room ≡ b → i < cond (leb (numbers / rowLength) room) (numbers / rowLength) room → rowLength * i + rowLength ≤ numbers
-    go true h l = let k : i < numbers / rowLength = rw h at l in omega arith
-    go false h l = let k : i < room = rw h at l in let m = leb-false (numbers / rowLength) room h in omega arith
+    go : (c : Bool) → leb a b ≡ c → cond c a b ≤ b
+    go true h = leb-true a b h
+    go false h = omega arith
+
+module _ (numbers answers roles : ℕ) where
+  pub batch-room : batchLength numbers answers roles ≤ answers
+  unfolding batchLength
+  batch-room = omega (arith, shorter-r (numbers / rowLength) (shorter answers roles), shorter-l answers roles)
+
+  pub batch-space : batchLength numbers answers roles ≤ roles
+  unfolding batchLength
+  batch-space = omega (arith, shorter-r (numbers / rowLength) (shorter answers roles), shorter-r answers roles)
+
+  pub batch-rows : (i : ℕ) → i < batchLength numbers answers roles → rowLength * i + rowLength ≤ numbers
+  unfolding batchLength
+  batch-rows i l = let k = shorter-l (numbers / rowLength) (shorter answers roles) in omega arith
 
 -- ---- on unsound tables
-pub all-refused : (t : Tables) (log : List Request) → sound t ≡ false → (run t log ≡ t) × (answers t log ≡ replicate (length log) 1)
-unfolding runIn answersIn nextIn
-all-refused t [] h = (refl, refl)
+pub all-refused : (t : Tables) (log : List Request) → sound t ≡ false
+    → (run t log ≡ t) × (answers t log ≡ replicate (length log) 1) × (map roleByte (rolesTold t log) ≡ replicate (length log) 255)
+unfolding runIn eachIn nextIn roleToldIn roleByte
+all-refused t [] h = (refl, refl, refl)
 all-refused t (q ∷ log) h =
-    let (r, a) = all-refused t log h in
-    (rw (unsound-answer t q h) r, rw (unsound-answer t q h) (ap (λ (l : List ℕ). 1 ∷ l) a))
+    let (r, a, m) = all-refused t log h in (
+      rw (unsound-answer t q h) r,
+      rw (unsound-answer t q h) (ap (λ (l : List ℕ). 1 ∷ l) a),
+      rw (unsound-answer t q h) (ap (λ (l : List ℕ). 255 ∷ l) m),
+    )

@@ -1,111 +1,178 @@
 -- One turn of a run: from the tables before a request to those after it.
---     Stepped, refuses, does        a number, and where it is 0 what the rule does, are the request's step
+--     Stepped, refuses, does        a number, a role's byte, and where the number is 0 what the rule does, are the request's step
+--     opens-nothing, opens-by       .. where no role is told, and where the columns tell one
 --     Held, held-none, held-more    after i requests of a batch
---     held-length, held-all         .. the answers' room stays, and after all of them the batch is run
+--     held-length, held-roles, held-all      .. the room stays, and after all of them the batch is run
 --     no-batch, unsound-batch       of no request; on unsound tables
---     rowOf, one-request            a batch of one request is its step
+--     one-request                   a batch of one request is its step
 -- Assumes nothing.
 use Prim.Native.Nat.{ℕ, _+_, _≤_, _<_}
 use mathlib.Core.Path.{_≡_, refl, sym, ap, _∙_}
-use mathlib.Core.Bool.{true, false}
-use mathlib.Core.List.{List, [], _∷_, _++_}
+use mathlib.Core.Bool.{Bool, true, false, cond}
+use mathlib.Core.List.{List, [], _∷_, _++_, map, map-append}
 use native.Mathlib.Numerals.{add-one}
 use native.Mathlib.Omega.{arith}
-use lib.ListN.{length, getD, set, drop, replicate, length-append, length-drop}
-use borrow.Author.Tests.{eq-eqb, ne-eqb}
+use lib.Dec.{eqb}
+use lib.ListN.{length, getD, set, drop, replicate, length-append, length-drop, length-map}
+use borrow.Author.Tests.{eq-eqb, ne-eqb, eqb-true}
 use Rattle.guard.specs.Fresh.{tabulate}
+use Rattle.guard.specs.Level.{roleCount}
+use Rattle.guard.specs.Told.{roleByte}
+use Rattle.guard.specs.Tables.{sessionAt, read, write, roleFor}
 use Rattle.guard.specs.Sound.{sound}
 use Rattle.guard.specs.Refusals.{first}
 use Rattle.guard.specs.Requests.{ruleOf}
-use Rattle.guard.specs.Step.{inRangesIn, answer, answerIn, next, nextIn, step, run, runIn, answers, answersIn}
-use Rattle.guard.specs.Private.Inside.{rowOf, number}
-use Rattle.guard.specs.Batch.{requestAt, requests, batchLength, RunsBatch}
-use Rattle.guard.specs.Private.Scan.{Keys, Grants}
+use Rattle.guard.specs.Step.{inRangesIn, answer, answerIn, next, nextIn, roleOpening, roleTold, roleToldIn, step, run, runIn, eachIn, answers, rolesTold}
+use Rattle.guard.specs.Kind as kind
+use Rattle.guard.specs.Private.Inside.{rowOf, number, Placed}
+use Rattle.guard.specs.Batch.{requestAt, requests, shorter, batchLength, batchCount, RunsBatch}
+use Rattle.guard.specs.Private.Scan.{Keys, Grants, openedBy, readByte}
+use Rattle.guard.specs.Private.InForce.{inRanges}
 use Rattle.guard.specs.declared.Tables.{Tables}
 use Rattle.guard.specs.declared.Request.{Request}
 use Rattle.guard.specs.declared.Outcome.{Outcome}
+use Rattle.guard.specs.declared.look.Places.{Places}
+use Rattle.guard.specs.declared.Told.{Told}
+use Rattle.guard.specs.declared.Told.the-variants.{None}
+use Rattle.guard.proofs.Laws.Told.{byte-read}
+use Rattle.guard.proofs.Ranges.{in-openr, in-openw}
+use Rattle.guard.proofs.Columns.{role-of}
 use Rattle.guard.proofs.Kept.{sound-next}
 use Rattle.guard.proofs.Filling.{length-tabulate}
-use Rattle.guard.proofs.Logs.{run-snoc, answers-snoc, length-answers, store-more, all-refused}
+use Rattle.guard.proofs.Logs.{each, run-snoc, each-snoc, length-each, store-more, all-refused}
 
--- ---- a number, and where it is 0 what the rule does, are the step
-pub record Stepped (t : Tables) (q : Request) (u : Tables) (n : ℕ) : Type 0 where
+-- ---- a number, the byte of a role, and where the number is 0 what the rule does, are the step
+pub record Stepped (t : Tables) (q : Request) (u : Tables) (n b : ℕ) : Type 0 where
   pub tables : u ≡ next t q
   pub answered : n ≡ answer t q
+  pub told : b ≡ roleByte (roleTold t q)
 
 module _ (t : Tables) (q : Request) (n : ℕ) (h : sound t ≡ true) (judged : n ≡ number (ruleOf q) t q) where
-  told : answer t q ≡ n
+  said : answer t q ≡ n
   unfolding answerIn first inRangesIn number
-  told = rw h (sym judged)
+  said = rw h (sym judged)
 
-  pub refuses : (n ≡ 0 → ⊥) → Stepped t q t n
-  unfolding nextIn
-  refuses k = record { tables = rw (told, ne-eqb n 0 k); answered = sym told }
+  pub refuses : (n ≡ 0 → ⊥) → Stepped t q t n 255
+  unfolding nextIn roleToldIn roleByte
+  refuses k = record { tables = rw (said, ne-eqb n 0 k); answered = sym said; told = rw (said, ne-eqb n 0 k) }
 
-  pub does : n ≡ 0 → (u : Tables) → u ≡ ruleOf q .effect q t → Stepped t q u n
-  unfolding nextIn
-  does z u e = record { tables = rw (told, eq-eqb n 0 z) e; answered = sym told }
+  pub does : n ≡ 0 → (u : Tables) → u ≡ ruleOf q .effect q t → (b : ℕ) → b ≡ roleByte (roleOpening t q) → Stepped t q u n b
+  unfolding nextIn roleToldIn
+  does z u e b r = record { tables = rw (said, eq-eqb n 0 z) e; answered = sym said; told = rw (said, eq-eqb n 0 z) r }
+
+-- what is no openr and no openw tells none
+pub opens-nothing : (t : Tables) (q : Request) → (q .call ≡ kind.openr → ⊥) → (q .call ≡ kind.openw → ⊥) → 255 ≡ roleByte (roleOpening t q)
+unfolding roleOpening roleByte
+opens-nothing t q r w = rw (ne-eqb (q .call) kind.openr r, ne-eqb (q .call) kind.openw w)
+
+-- what the columns tell for an accepted request is what it tells
+pub opens-by : (t : Tables) → sound t ≡ true → (grants : List ℕ) → Grants (t .roles) grants → (q : Request) → inRanges q ≡ true → (p : Places) → Placed q p
+    → (b : ℕ) → b ≡ roleByte (openedBy grants (q .call) (sessionAt t (p .seat) .roles) (p .entity)) → b ≡ roleByte (roleOpening t q)
+unfolding roleOpening
+opens-by t ok grants G q fits p near b h =
+    h ∙ ap roleByte (role-of t ok grants G (p .seat) (q .call) (p .entity) (near .entity .small) ∙ go (eqb (q .call) kind.openr) refl (eqb (q .call) kind.openw) refl)
+  where
+    go : (r : Bool) → eqb (q .call) kind.openr ≡ r → (w : Bool) → eqb (q .call) kind.openw ≡ w
+        → cond r (roleFor t (p .seat) read (p .entity)) (cond w (roleFor t (p .seat) write (p .entity)) None)
+        ≡ cond r (roleFor t (q .seat) read (q .entity)) (cond w (roleFor t (q .seat) write (q .entity)) None)
+    go true e w f = let (s, l) = in-openr q fits (eqb-true _ _ e) in rw (near .seat .same s, near .entity .same l)
+    go false e true f = let (s, l) = in-openw q fits (eqb-true _ _ f) in rw (near .seat .same s, near .entity .same l)
+    go false e false f = refl
 
 -- ---- after i requests
-pub record Held (t₀ : Tables) (rows old : List ℕ) (i : ℕ) (t : Tables) (said k g : List ℕ) : Type 0 where
+pub record Held (t₀ : Tables) (rows old unsaid : List ℕ) (i : ℕ) (t : Tables) (said roles k g : List ℕ) : Type 0 where
   pub ran : t ≡ run t₀ (requests i rows)
   pub isSound : sound t ≡ true
   pub answered : said ≡ answers t₀ (requests i rows) ++ drop i old
+  pub told : roles ≡ map roleByte (rolesTold t₀ (requests i rows)) ++ drop i unsaid
   pub keys : Keys (t .entities) k
   pub grants : Grants (t .roles) g
 
-pub held-none : (t : Tables) (rows old keys grants : List ℕ) → sound t ≡ true → Keys (t .entities) keys → Grants (t .roles) grants → Held t rows old 0 t old keys grants
-unfolding runIn answersIn tabulate
-held-none t rows old keys grants h K G = record { ran = refl; isSound = h; answered = refl; keys = K; grants = G }
+pub held-none : (t : Tables) (rows old unsaid keys grants : List ℕ) → sound t ≡ true → Keys (t .entities) keys → Grants (t .roles) grants
+    → Held t rows old unsaid 0 t old unsaid keys grants
+unfolding runIn eachIn tabulate
+held-none t rows old unsaid keys grants h K G = record { ran = refl; isSound = h; answered = refl; told = refl; keys = K; grants = G }
 
-module _ (t₀ : Tables) (rows old : List ℕ) (i : ℕ) (t : Tables) (said keys grants : List ℕ) (held : Held t₀ rows old i t said keys grants) where
+module _ (t₀ : Tables) (rows old unsaid : List ℕ) (i : ℕ) (t : Tables) (said roles keys grants : List ℕ) (held : Held t₀ rows old unsaid i t said roles keys grants) where
   one-more : requests (i + 1) rows ≡ requests i rows ++ (requestAt rows i ∷ [])
   unfolding tabulate
   one-more = rw add-one
 
-  passed : length (answers t₀ (requests i rows)) ≡ i
-  passed = length-answers t₀ (requests i rows) ∙ length-tabulate (requestAt rows) i
+  passed : {A : Type 0} (f : Tables → Request → A) → length (each f t₀ (requests i rows)) ≡ i
+  passed f = length-each f t₀ (requests i rows) ∙ length-tabulate (requestAt rows) i
 
-  pub held-more : (q : Request) → q ≡ requestAt rows i → i < length old → (u : Tables) (n : ℕ) → Stepped t q u n → (keys′ grants′ : List ℕ) → Keys (u .entities) keys′ → Grants (u .roles) grants′
-      → Held t₀ rows old (i + 1) u (set said i n) keys′ grants′
-  held-more q asked low u n step keys′ grants′ K G =
+  passed-roles : length (map roleByte (rolesTold t₀ (requests i rows))) ≡ i
+  passed-roles = length-map (rolesTold t₀ (requests i rows)) roleByte ∙ passed roleTold
+
+  pub held-more : (q : Request) → q ≡ requestAt rows i → i < length old → i < length unsaid → (u : Tables) (n b : ℕ) → Stepped t q u n b
+      → (keys′ grants′ : List ℕ) → Keys (u .entities) keys′ → Grants (u .roles) grants′
+      → Held t₀ rows old unsaid (i + 1) u (set said i n) (set roles i b) keys′ grants′
+  held-more q asked low low′ u n b step keys′ grants′ K G =
       let after : u ≡ next t (requestAt rows i) = step .tables ∙ ap (next t) asked in
-      let told : n ≡ answer t (requestAt rows i) = step .answered ∙ ap (answer t) asked in
+      let number : n ≡ answer t (requestAt rows i) = step .answered ∙ ap (answer t) asked in
+      let role : b ≡ roleByte (roleTold t (requestAt rows i)) = step .told ∙ ap (λ (q : Request). roleByte (roleTold t q)) asked in
       record {
         ran = after ∙ rw (one-more, run-snoc t₀ (requests i rows) (requestAt rows i), ← held .ran);
         isSound = rw after (sound-next t (requestAt rows i) (held .isSound));
-        answered = rw (held .answered, one-more, answers-snoc t₀ (requests i rows) (requestAt rows i), ← held .ran, told)
-            (store-more (answers t₀ (requests i rows)) old i _ passed low);
+        answered = rw (held .answered, one-more, each-snoc answer t₀ (requests i rows) (requestAt rows i), ← held .ran, number)
+            (store-more (answers t₀ (requests i rows)) old i _ (passed answer) low);
+        told = rw (held .told, one-more, each-snoc roleTold t₀ (requests i rows) (requestAt rows i), map-append, ← held .ran, role)
+            (store-more (map roleByte (rolesTold t₀ (requests i rows))) unsaid i _ passed-roles low′);
         keys = K;
         grants = G;
       }
 
   pub held-length : i ≤ length old → length said ≡ length old
-  held-length low = ap length (held .answered) ∙ length-append (answers t₀ (requests i rows)) (drop i old) ∙ simp length-drop (omega (arith, passed))
+  held-length low = ap length (held .answered) ∙ length-append (answers t₀ (requests i rows)) (drop i old) ∙ simp length-drop (omega (arith, passed answer))
 
-  pub held-all : i ≡ batchLength (length rows) (length old) → RunsBatch t₀ rows old said t
-  held-all e = record { tables = held .ran ∙ ap (λ (n : ℕ). run t₀ (requests n rows)) e; answered = held .answered ∙ ap (λ (n : ℕ). answers t₀ (requests n rows) ++ drop n old) e }
+  pub held-roles : i ≤ length unsaid → length roles ≡ length unsaid
+  held-roles low =
+      ap length (held .told) ∙ length-append (map roleByte (rolesTold t₀ (requests i rows))) (drop i unsaid) ∙ simp length-drop (omega (arith, passed-roles))
+
+  pub held-all : i ≡ batchCount rows old unsaid → RunsBatch t₀ rows old said unsaid roles t
+  held-all e =
+      record {
+        tables = held .ran ∙ ap (λ (n : ℕ). run t₀ (requests n rows)) e;
+        answered = held .answered ∙ ap (λ (n : ℕ). answers t₀ (requests n rows) ++ drop n old) e;
+        told = held .told ∙ ap (λ (n : ℕ). map roleByte (rolesTold t₀ (requests n rows)) ++ drop n unsaid) e;
+      }
 
 -- ---- of no request
-pub no-batch : (t : Tables) (rows old : List ℕ) → 0 ≡ batchLength (length rows) (length old) → RunsBatch t rows old old t
-unfolding tabulate runIn answersIn
-no-batch t rows old h = record { tables = rw (← h); answered = rw (← h) }
+pub no-batch : (t : Tables) (rows old unsaid : List ℕ) → 0 ≡ batchCount rows old unsaid → RunsBatch t rows old old unsaid unsaid t
+unfolding tabulate runIn eachIn
+no-batch t rows old unsaid h = record { tables = rw (← h); answered = rw (← h); told = rw (← h) }
 
 -- ---- on unsound tables
-pub unsound-batch : (t : Tables) (rows old new : List ℕ) (n : ℕ) → sound t ≡ false → n ≡ batchLength (length rows) (length old)
-    → new ≡ replicate n 1 ++ drop n old → RunsBatch t rows old new t
-unsound-batch t rows old new n h e same =
-    let (stays, ones) = all-refused t (requests (batchLength (length rows) (length old)) rows) h in
+pub unsound-batch : (t : Tables) (rows old new unsaid said : List ℕ) (n : ℕ) → sound t ≡ false → n ≡ batchCount rows old unsaid
+    → new ≡ replicate n 1 ++ drop n old → said ≡ replicate n 255 ++ drop n unsaid → RunsBatch t rows old new unsaid said t
+unsound-batch t rows old new unsaid said n h e ones-are nones-are =
+    let count = batchCount rows old unsaid in
+    let (stays, ones, nones) = all-refused t (requests count rows) h in
     record {
       tables = sym stays;
-      answered = same ∙ rw (e, ones, length-tabulate (requestAt rows) (batchLength (length rows) (length old)));
+      answered = ones-are ∙ rw (e, ones, length-tabulate (requestAt rows) count);
+      told = nones-are ∙ rw (e, nones, length-tabulate (requestAt rows) count);
     }
 
 -- ---- a batch of one request
-pub one-request : (t u : Tables) (q : Request) (rows old new : List ℕ) (o : ℕ) → rows ≡ rowOf q → old ≡ 0 ∷ [] → RunsBatch t rows old new u → o ≡ getD new 0 0
-    → _≡_ {A = Outcome} (record { tables = u; answer = o }) (step t q)
-unfolding batchLength tabulate requestAt runIn answersIn step
-one-request t u q rows old new o row room h first =
-    let after : u ≡ next t q = h .tables ∙ rw (row, room) in
-    let told : new ≡ answer t q ∷ [] = h .answered ∙ rw (row, room) in
-    rw (after, first, told)
+role-back : (t : Tables) (q : Request) → readByte (roleByte (roleTold t q)) ≡ roleTold t q
+unfolding roleToldIn roleOpening roleFor readByte roleByte
+role-back t q = go (eqb (answer t q) 0) (eqb (q .call) kind.openr) (eqb (q .call) kind.openw)
+  where
+    go : (a r w : Bool)
+        → readByte (roleByte (cond a (cond r (roleFor t (q .seat) read (q .entity)) (cond w (roleFor t (q .seat) write (q .entity)) None)) None))
+        ≡ cond a (cond r (roleFor t (q .seat) read (q .entity)) (cond w (roleFor t (q .seat) write (q .entity)) None)) None
+    go true true w = byte-read roleCount _ (omega arith)
+    go true false true = byte-read roleCount _ (omega arith)
+    go true false false = refl
+    go false r w = refl
+
+pub one-request : (t u : Tables) (q : Request) (rows old new unsaid said : List ℕ) (o : ℕ) (r : Told) → rows ≡ rowOf q → old ≡ 0 ∷ [] → unsaid ≡ 0 ∷ []
+    → RunsBatch t rows old new unsaid said u → o ≡ getD new 0 0 → r ≡ readByte (getD said 0 0)
+    → _≡_ {A = Outcome} (record { tables = u; answer = o; role = r }) (step t q)
+unfolding shorter batchLength tabulate requestAt runIn eachIn step
+one-request t u q rows old new unsaid said o r row room space h first role =
+    let after : u ≡ next t q = h .tables ∙ rw (row, room, space) in
+    let number : new ≡ answer t q ∷ [] = h .answered ∙ rw (row, room, space) in
+    let byte : said ≡ roleByte (roleTold t q) ∷ [] = h .told ∙ rw (row, room, space) in
+    rw (after, first, number, role, byte, role-back t q)

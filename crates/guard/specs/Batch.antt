@@ -2,11 +2,12 @@
 use Prim.Native.Nat.{ℕ, _+_, _*_, _/_}
 use mathlib.Core.Path.{_≡_}
 use mathlib.Core.Bool.{cond}
-use mathlib.Core.List.{List, _++_}
+use mathlib.Core.List.{List, _++_, map}
 use lib.Dec.{leb}
 use lib.ListN.{length, getD, drop}
 use Rattle.guard.specs.Fresh.{tabulate}
-use Rattle.guard.specs.Step.{run, answers}
+use Rattle.guard.specs.Told.{roleByte}
+use Rattle.guard.specs.Step.{run, answers, rolesTold}
 use Rattle.guard.specs.Methods.{request}
 use Rattle.guard.specs.declared.Tables.{Tables}
 use Rattle.guard.specs.declared.Request.{Request}
@@ -27,16 +28,23 @@ requestAt rows i =
 abbrev pub requests : ℕ → List ℕ → List Request
 requests n rows = tabulate n (requestAt rows)
 
--- as many as stand whole in so many numbers and have room for their answers
-unfoldable pub batchLength : ℕ → ℕ → ℕ
-batchLength numbers room = cond (leb (numbers / rowLength) room) (numbers / rowLength) room
+unfoldable pub shorter : ℕ → ℕ → ℕ
+shorter a b = cond (leb a b) a b
 
--- the log that a host hands over with room for so many answers
-abbrev pub batch : List ℕ → ℕ → List Request
-batch rows room = requests (batchLength (length rows) room) rows
+-- as many as stand whole in so many numbers and have room for their answers and for their roles
+unfoldable pub batchLength : ℕ → ℕ → ℕ → ℕ
+batchLength numbers answers roles = shorter (numbers / rowLength) (shorter answers roles)
 
--- What a host gets: the tables u after the log, and in the place of the first bytes of `old` the answer to each request; the
--- bytes behind them are as they were.
-pub record RunsBatch (t : Tables) (rows old new : List ℕ) (u : Tables) : Type 0 where
-  pub tables : u ≡ run t (batch rows (length old))
-  pub answered : new ≡ answers t (batch rows (length old)) ++ drop (batchLength (length rows) (length old)) old
+-- how many requests a host hands over in `rows`, lending `old` for the answers and `unsaid` for the roles; and their log
+abbrev pub batchCount : List ℕ → List ℕ → List ℕ → ℕ
+batchCount rows old unsaid = batchLength (length rows) (length old) (length unsaid)
+
+abbrev pub batch : List ℕ → List ℕ → List ℕ → List Request
+batch rows old unsaid = requests (batchCount rows old unsaid) rows
+
+-- What the host gets: the tables u after the log, in the place of the first bytes of `old` the answer to each request, and in the
+-- place of those of `unsaid` the role that it tells; the bytes behind them are as they were.
+pub record RunsBatch (t : Tables) (rows old new unsaid said : List ℕ) (u : Tables) : Type 0 where
+  pub tables : u ≡ run t (batch rows old unsaid)
+  pub answered : new ≡ answers t (batch rows old unsaid) ++ drop (batchCount rows old unsaid) old
+  pub told : said ≡ map roleByte (rolesTold t (batch rows old unsaid)) ++ drop (batchCount rows old unsaid) unsaid

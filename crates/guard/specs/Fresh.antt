@@ -15,6 +15,7 @@ use Rattle.guard.specs.declared.Role.{Role}
 use Rattle.guard.specs.declared.Entity.{Entity}
 use Rattle.guard.specs.declared.Tables.{Tables}
 use Rattle.guard.specs.declared.Outcome.{Outcome}
+use Rattle.guard.specs.declared.Told.the-variants.{None}
 
 -- f at each number below n, in order
 unfoldable pub tabulate : {A : Type 0} → ℕ → (ℕ → A) → List A
@@ -44,9 +45,9 @@ fresh us edition =
     }
 
 -- A number past its range gives answer 2, with fresh tables over sixteen users of ceiling 0 and clearance 0/0; an edition other than
--- 1 or 2 gives 2 when building, and a refused build hands back edition 1.
+-- 1 or 2 gives 2 when building, and a refused build hands back edition 1. No role is told.
 unfoldable pub build : List User → ℕ → Outcome
 build us edition =
     cond (every (usersInRange us ∷ editionInRange edition ∷ []))
-    (record { tables = fresh us edition; answer = 0 })
-    (record { tables = fresh (replicate userCount noUser) edition1; answer = 2 })
+    (record { tables = fresh us edition; answer = 0; role = None })
+    (record { tables = fresh (replicate userCount noUser) edition1; answer = 2; role = None })

@@ -3,6 +3,7 @@
 -- need not read.
 pub mod Level
 pub mod Label
+pub mod Told
 pub mod Tables
 pub mod Chain
 pub mod Sound

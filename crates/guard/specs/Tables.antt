@@ -1,18 +1,20 @@
--- The tables: their records, and what the paper says by "has a right".
+-- The tables: their records, what the paper says by "has a right", and which role gives it.
 use Prim.Native.Nat.{ℕ, _+_}
 use mathlib.Core.Bool.{Bool, false, not, cond}
 use mathlib.Core.List.{[], _∷_}
 use lib.Dec.{leb, eqb}
 use lib.ListN.{getD}
-use Rattle.bitset.specs.Tests.{every, some}
+use Rattle.bitset.specs.Tests.{every}
 use Rattle.bitset.specs.Sets.{has, contains}
 use Rattle.guard.specs.Level.{roleCount, roleLevel, entityLevel, isRoot}
 use Rattle.guard.specs.Label.{noLabel}
+use Rattle.guard.specs.Told.{isTold, lowest}
 use Rattle.guard.specs.declared.User.{User}
 use Rattle.guard.specs.declared.Session.{Session}
 use Rattle.guard.specs.declared.Role.{Role}
 use Rattle.guard.specs.declared.Entity.{Entity}
 use Rattle.guard.specs.declared.Tables.{Tables}
+use Rattle.guard.specs.declared.Told.{Told}
 
 -- ---- the records with every field zero or empty
 abbrev pub noUser : User
@@ -109,10 +111,14 @@ rightsOf p e =
 abbrev pub rightsOn : Tables → ℕ → ℕ → ℕ
 rightsOn t r e = rightsOf (roleAt t r) e
 
--- "x has a right on e" means that a role held by x, of at least e's level, has it.
+-- The check of a right tells the lowest-numbered role held by x, of at least e's level, that gives it, or that none does.
+unfoldable pub roleFor : Tables → ℕ → ℕ → ℕ → Told
+roleFor t x right e =
+    lowest roleCount (λ r. every (leb (entityLevel e) (roleLevel r) ∷ holds t x r ∷ contains (rightsOn t r e) right ∷ []))
+
+-- "x has a right on e" means that a role held by x, of at least e's level, has it: that one is told.
 unfoldable pub hasRight : Tables → ℕ → ℕ → ℕ → Bool
-hasRight t x right e =
-    some roleCount (λ r. every (leb (entityLevel e) (roleLevel r) ∷ holds t x r ∷ contains (rightsOn t r e) right ∷ []))
+hasRight t x right e = isTold (roleFor t x right e)
 
 -- f is a child of p. A root is nobody's child.
 unfoldable pub isChild : Tables → ℕ → ℕ → Bool

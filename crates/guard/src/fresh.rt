@@ -4,6 +4,7 @@ use crate::Label;
 use crate::Outcome;
 use crate::Role;
 use crate::Tables;
+use crate::Told;
 use crate::User;
 use crate::entities;
 use crate::roles;
@@ -113,7 +114,11 @@ impl Tables {
     {
         let tables = fresh_over(users, edition);
         if record::users_in_range(users) & record::edition_in_range(edition) {
-            return Outcome { tables, answer: 0 };
+            return Outcome {
+                tables,
+                answer: 0,
+                role: Told::None,
+            };
         }
         let none = Label { cats: 0, grade: 0 };
         let nobody = User {
@@ -121,6 +126,10 @@ impl Tables {
             clearance: none,
         };
         let tables = fresh_over([nobody; USERS], EDITION_1);
-        Outcome { tables, answer: 2 }
+        Outcome {
+            tables,
+            answer: 2,
+            role: Told::None,
+        }
     }
 }

@@ -2,11 +2,12 @@
 //
 // The records below hold the papers' tables, and a request as a host hands it in. What they mean, which tables are
 // sound, what each request answers and how it changes the tables is said by the definitions in specs/, in the paper's
-// order. Sets are bit sets: member `i` is bit `i` (crate `bitset`). No record holds an enum or a reference. Tables of the old width,
-// with a set of eight categories, have records of their own (`old`).
+// order. Sets are bit sets: member `i` is bit `i` (crate `bitset`). No record of the tables holds an enum or a reference. Tables
+// of the old width, with a set of eight categories, have records of their own (`old`).
 mod change;
 mod entities;
 mod fresh;
+mod giver;
 mod judge;
 pub mod kinds;
 mod labels;
@@ -100,8 +101,16 @@ pub struct Request {
     pub shared: u32,
 }
 
-// What a request hands back: the tables after it, and its answer: 0 done, or the number of the refusal.
+// Which role let a session in: the role of that number, or none is told.
+pub enum Told {
+    By(u8),
+    None,
+}
+
+// What a request hands back: the tables after it; its answer, 0 done, or the number of the refusal; and beside the 0 of openr and
+// openw the lowest-numbered role held that gives the right on the entity. All else tells none.
 pub struct Outcome {
     pub tables: Tables,
     pub answer: u8,
+    pub role: Told,
 }

@@ -5,15 +5,20 @@ ghost use Prim.Native.Nat.{_+_, _*_, _≤_};
 ghost use mathlib.Core.Path.{_≡_};
 ghost use mathlib.Core.List.{_++_};
 ghost use lib.ListN.{length, drop, replicate};
-ghost use Rattle.guard.specs.Batch.{rowLength, requestAt, batchLength};
+ghost use Rattle.guard.specs.Batch.{rowLength, requestAt, shorter, batchLength};
 ghost use Rattle.guard.specs.Private.Inside.{rowOf};
 
-// As many requests as stand whole in so many numbers and have room for their answers.
-pub fn count(numbers: usize, room: usize) -> usize
-    ensures { λ n. ⌜ n ≡ batchLength numbers room ⌝ }
+fn shorter(a: usize, b: usize) -> usize
+    ensures { λ n. ⌜ n ≡ shorter a b ⌝ }
 {
-    let n = numbers / ROW;
-    if n <= room { n } else { room }
+    if a <= b { a } else { b }
+}
+
+// As many requests as stand whole in so many numbers and have room for their answers and their roles.
+pub fn count(numbers: usize, answers: usize, roles: usize) -> usize
+    ensures { λ n. ⌜ n ≡ batchLength numbers answers roles ⌝ }
+{
+    shorter(numbers / ROW, shorter(answers, roles))
 }
 
 // The request of row `i`.
@@ -58,14 +63,14 @@ pub fn row(q: Request) -> [u32; ROW]
     ]
 }
 
-// On tables that are not sound every request is answered 1.
-pub fn refuse(answers: &mut [u8], count: usize) -> usize
-    requires { ⌜ count ≤ length (now answers) ⌝ }
-    ensures { λ n. ⌜ (n ≡ count) × (now (answers .exit) ≡ replicate count 1 ++ drop count (now (answers .entry))) ⌝ }
+// The first bytes, `n` each: what every request of a batch is answered alike.
+pub fn fill(bytes: &mut [u8], count: usize, n: u8) -> usize
+    requires { ⌜ count ≤ length (now bytes) ⌝ }
+    ensures { λ r. ⌜ (r ≡ count) × (now (bytes .exit) ≡ replicate count n ++ drop count (now (bytes .entry))) ⌝ }
 {
     let mut i = 0usize;
     while i < count {
-        answers[i] = 1;
+        bytes[i] = n;
         i += 1;
     }
     i

@@ -3,6 +3,7 @@ use crate::Tables;
 use crate::change;
 use crate::change::Change;
 use crate::entities;
+use crate::giver;
 use crate::judge;
 use crate::kinds;
 use crate::look;
@@ -10,24 +11,26 @@ use crate::roles;
 use crate::rows;
 use crate::scan;
 use crate::sessions;
+use crate::sizes;
 use crate::sound::tree;
 use crate::view;
 ghost use Rattle.guard.specs.Batch.{RunsBatch};
 
 impl Tables {
     // The requests in `rows`, twelve numbers each in the order of `Request`'s fields, as many as stand whole there and have room
-    // in `answers`; each one's answer is stored there. Every request hands back sound tables, so soundness is tested once; where
-    // there is no request, nothing is.
-    pub fn run(mut self, rows: &[u32], answers: &mut [u8]) -> Tables
-        ensures { λ u. ⌜ RunsBatch self (now (rows .entry)) (now (answers .entry)) (now (answers .exit)) u ⌝ }
+    // in `answers` and in `roles`; each one's answer and the role that it tells are stored there. Every request hands back sound
+    // tables, so soundness is tested once; where there is no request, nothing is.
+    pub fn run(mut self, rows: &[u32], answers: &mut [u8], roles: &mut [u8]) -> Tables
+        ensures { λ u. ⌜ RunsBatch self (now (rows .entry)) (now (answers .entry)) (now (answers .exit)) (now (roles .entry)) (now (roles .exit)) u ⌝ }
     {
-        let count = rows::count(rows.len(), answers.len());
+        let count = rows::count(rows.len(), answers.len(), roles.len());
         if count == 0 {
             return self;
         }
         let mut keys = self.keys();
         if !self.sound_by(&keys) {
-            rows::refuse(answers, count);
+            rows::fill(answers, count, 1);
+            rows::fill(roles, count, sizes::NO_ROLE);
             return self;
         }
         let mut grants = self.grants();
@@ -52,6 +55,7 @@ impl Tables {
             let v = view::seen(at, session, user, role, entity, parent, found, self.edition);
             let n = judge::judge(q, v);
             answers[i] = n;
+            roles[i] = sizes::NO_ROLE;
             i += 1;
             // The stores.
             if n == 0 {
@@ -59,6 +63,7 @@ impl Tables {
                 match changed {
                     Change::Session => {
                         self.sessions[x] = sessions::after(q, session);
+                        roles[i - 1] = giver::role_told(&grants, q.call, session.roles, e);
                     }
                     Change::Entity => {
                         let f2 = entities::after(q, entity);

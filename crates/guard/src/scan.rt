@@ -19,9 +19,9 @@ ghost use Rattle.guard.specs.Level.{entityCount, roleCount};
 ghost use Rattle.guard.specs.Private.Scan.{Grants, Granted, Cleared, Gathered, climbsBy, reachedBy, nameBy, childBy, kinBy, foundNothing, FoundBy};
 
 // A role has four sets, one for each right; how many the column of the roles has.
-const SETS: usize = 4;
+pub const SETS: usize = 4;
 
-const GRANTS: usize = SETS * ROLES;
+pub const GRANTS: usize = SETS * ROLES;
 
 // The entities on which a session has each right.
 pub struct Rights {
@@ -115,7 +115,7 @@ fn gather(grants: &[u64; GRANTS], held: u16) -> Rights
 }
 
 // `i` is a member. (`bitset::has64` would test that it is below 64.)
-fn is_in(set: u64, i: usize) -> bool
+pub fn is_in(set: u64, i: usize) -> bool
     requires { ⌜ i < entityCount ⌝ }
     ensures { λ b. ⌜ b ≡ has set i ⌝ }
 {

@@ -67,5 +67,8 @@ pub const EXECUTE: u8 = 4;
 
 pub const OWN: u8 = 8;
 
+// What `run` stores in the place of a role's number where none is told.
+pub const NO_ROLE: u8 = 255;
+
 // The numbers of a request as a row.
 pub const ROW: usize = 12;

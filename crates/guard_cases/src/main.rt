@@ -23,11 +23,13 @@
 //   broken REQUEST | NAME       the same, with what is not as in the tables kept; then back to these
 //   edge REQUEST | NAME         the answer; those with one field past its range, or at 4294967295; that on unsound tables
 //   gather N REQUEST            the request as N rows more of the batch
-//   run X ROOM | NAME           the first X numbers of the batch, with room for so many answers: what changed, the answers
+//   run X ROOM ROLES | NAME     the first X numbers of the batch, with room for so many answers and so many roles: what changed, the
+//                               answers and the roles
 //
 // A request is its word, or a number for one of no kind, and the numbers of the fields that it uses in the papers' order:
 // login SEAT USER LEVEL CATS, create SEAT ENTITY KIND PARENT NAME LEVEL CATS ROLE, grant SEAT ROLE ENTITY RIGHTS, and so on.
-// It is made by the method of its name and by `step`, and a line tells where the two differ.
+// It is made by the method of its name and by `step`, and a line tells where the two differ. Behind an answer stands `by role N`
+// where a role is told.
 use bytes::scan;
 use cases::show;
 use cases::state::State;

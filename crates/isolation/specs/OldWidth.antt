@@ -1,5 +1,5 @@
 -- Taking over tables of the old width: change A.1's promise, as one statement on all logs.
--- "The same rules" are the rules in force, in the old width: soundIn, answersIn, runIn (guard/specs: Sound, Step) at oldWidth. They
+-- "The same rules" are the rules in force, in the old width: soundIn, answersIn, rolesToldIn, runIn (guard/specs: Sound, Step) at oldWidth. They
 -- speak of numbers, and the numbers of old tables o are those of takenOver o (guard/specs/Old). PastOldWidth shows that the premise
 -- on the log matters. Assumes nothing.
 use mathlib.Core.Path.{_≡_}
@@ -9,7 +9,7 @@ use Rattle.bitset.specs.Tests.{every}
 use Rattle.guard.specs.Label.{oldWidth}
 use Rattle.guard.specs.Tables.{edition1}
 use Rattle.guard.specs.Sound.{soundIn, sound}
-use Rattle.guard.specs.Step.{answersIn, runIn, answers, run}
+use Rattle.guard.specs.Step.{answersIn, rolesToldIn, runIn, answers, rolesTold, run}
 use Rattle.guard.specs.Old.{takenOver}
 use Rattle.guard.specs.declared.Tables.{Tables}
 use Rattle.guard.specs.declared.Request.{Request}
@@ -25,6 +25,8 @@ pub old-width :
     → (log : List Request) → every (map (categoriesWithin oldWidth) log) ≡ true
     -- gets, request by request, the answers that the same rules give in the old width,
     → (answers (takenOver o) log ≡ answersIn oldWidth (takenOver o) log)
+    -- with the roles that they tell there,
+    × (rolesTold (takenOver o) log ≡ rolesToldIn oldWidth (takenOver o) log)
     -- and the tables after it are those that the same rules leave in the old width, every number the same,
     × (run (takenOver o) log ≡ runIn oldWidth (takenOver o) log)
     -- and sound there.

@@ -4,6 +4,7 @@
 --     named-lower                                an upper request that names something lower, answered 12 in one log and 7 in the other
 --     reading-down, lower-opens-differ           edition 2: an upper session reads down in one log and is refused it in the other; its
 --                                                lower opens then differ, the upper parts do not
+--     lower-roles-differ                         edition 2: a read down that two logs allow by different roles
 --     edition-counts                             without the edition in the upper part the rule would be false
 --     guard-isolates                             the rule for the step by any rules: guard's isolate ..
 --     openw-fails, grant-fails, delete-fails, share-fails      .. and four misreadings do not
@@ -26,12 +27,14 @@ use Rattle.guard.specs.Edits.{atSession, atEntity}
 use Rattle.guard.specs.Refusals.{Refusal, _when_, first}
 use Rattle.guard.specs.Conditions.{recordedParent}
 use Rattle.guard.specs.Requests.{Rule, fieldInRangeIn, ruleOf}
-use Rattle.guard.specs.Step.{inRangesIn, answerIn, nextIn, answers, run, runIn}
+use Rattle.guard.specs.Step.{inRangesIn, answerIn, nextIn, roleOpening, roleToldIn, answers, rolesTold, run, runIn}
 use Rattle.guard.specs.Methods.{shareRequest}
 use Rattle.guard.specs.SameRequest.{sameField, sameRequest}
 use Rattle.isolation.specs.Upper.{upperSession, upperRole, upper, isUpper, fieldUpper, namesUpper, upperRequests, upperAnswers}
 use Rattle.guard.specs.declared.Tables.{Tables}
 use Rattle.guard.specs.declared.Request.{Request}
+use Rattle.guard.specs.declared.Told.{Told}
+use Rattle.guard.specs.declared.Told.the-variants.{By, None}
 use Rattle.guard.proofs.Compute.{computing}
 use Rattle.isolation.specs.Log.{runLog, answersOf}
 use Rattle.isolation.specs.Proof.Rule.{isolated}
@@ -150,23 +153,41 @@ pub lower-opens-differ : upper 0 (run start-2 log-c) ≡ upper 0 (run start-2 lo
 unfolding computing morningUsers startIn runIn upper upperSession upperRole from
 lower-opens-differ e = true≢false (ap (λ (v : Tables). has (getD (v .sessions) 4 noSession .reading) 0) e)
 
+-- ---- edition 2: seat 4 holds the keepers 0 and 4 and reads the root of level 0, which is lower. In one log it does so by role 0; in
+-- the other seat 0 has granted the right to role 4 and taken it from role 0 before. So the rule cannot compare the role there, and
+-- does not: the request names something lower
+abbrev pub log-f : List Request
+log-f = login-4 ∷ take-0 ∷ take-4 ∷ openr-0 ∷ []
+
+abbrev pub log-g : List Request
+log-g = ask 10 0 4 0 1 ∷ revoke-0 ∷ login-4 ∷ take-0 ∷ take-4 ∷ openr-0 ∷ []
+
+pub lower-roles-differ : (upperRequests 1 log-f ≡ upperRequests 1 log-g) × (upper 1 (run start-2 log-f) ≡ upper 1 (run start-2 log-g))
+    × (rolesTold start-2 log-f ≡ None ∷ None ∷ None ∷ By 0 ∷ []) × (rolesTold start-2 log-g ≡ None ∷ None ∷ None ∷ None ∷ None ∷ By 4 ∷ [])
+    × (namesUpper 1 openr-0 ≡ false)
+unfolding computing morningUsers startIn runIn upper upperSession upperRole from isUpper upperRequests fieldUpper namesUpper
+lower-roles-differ = (refl, refl, refl, refl, refl)
+
 -- ---- two tables that differ in the edition alone: an upper request that names only what is upper, openr by seat 8 of root 16, is
 -- answered 10 in edition 1 and 0 in edition 2. So the rule needs the edition in the upper part
 abbrev pub log-e : List Request
 log-e = ask 0 8 0 0 0 ∷ ask 2 8 4 0 0 ∷ ask 4 8 0 16 0 ∷ []
 
 pub edition-counts : (withEdition 0 (upper 1 start) ≡ withEdition 0 (upper 1 start-2))
-    × (upperAnswers 1 start log-e ≡ 0 ∷ 0 ∷ 10 ∷ []) × (upperAnswers 1 start-2 log-e ≡ 0 ∷ 0 ∷ 0 ∷ [])
+    × (upperAnswers 1 start log-e ≡ (0, None) ∷ (0, None) ∷ (10, None) ∷ []) × (upperAnswers 1 start-2 log-e ≡ (0, None) ∷ (0, None) ∷ (0, By 4) ∷ [])
 unfolding computing morningUsers startIn upper upperSession upperRole from isUpper fieldUpper namesUpper upperAnswers
 edition-counts = (refl, refl, refl)
 
 -- ---- the step by other rules, and the isolation rule for it
 module _ (rule : Request → Rule) where
-  unfoldable pub answerBy : Tables → Request → ℕ
-  answerBy t q = first (1 when not (sound t) ∷ 2 when not (every (map (fieldInRangeIn allCategories q) (rule q .uses))) ∷ rule q .refusals t q)
+  unfoldable pub numberBy : Tables → Request → ℕ
+  numberBy t q = first (1 when not (sound t) ∷ 2 when not (every (map (fieldInRangeIn allCategories q) (rule q .uses))) ∷ rule q .refusals t q)
+
+  unfoldable pub answerBy : Tables → Request → ℕ × Told
+  answerBy t q = (numberBy t q, cond (eqb (numberBy t q) 0) (roleOpening t q) None)
 
   unfoldable pub nextBy : Tables → Request → Tables
-  nextBy t q = cond (eqb (answerBy t q) 0) (rule q .effect q t) t
+  nextBy t q = cond (eqb (numberBy t q) 0) (rule q .effect q t) t
 
   abbrev pub Isolates : Type 0
   Isolates =
@@ -176,7 +197,7 @@ module _ (rule : Request → Rule) where
       × (answersOf nextBy answerBy (isUpper L) (namesUpper L) t a ≡ answersOf nextBy answerBy (isUpper L) (namesUpper L) u b)
 
 pub guard-isolates : Isolates ruleOf
-unfolding answerBy nextBy answerIn nextIn inRangesIn
+unfolding numberBy answerBy nextBy answerIn nextIn roleToldIn inRangesIn
 guard-isolates L low high = isolated L
 
 -- ---- a misreading: the rule of one call, with another condition at one number
@@ -220,20 +241,20 @@ module _ (rule : Request → Rule) (isolates : Isolates rule) (q : Request) (aft
 
 -- seat 0 opens root 16 for writing, the tables are not sound from then on, and seat 4 cannot sign in
 pub openw-fails : Isolates openw-without-10 → ⊥
-unfolding computing morningUsers startIn upper upperSession upperRole from isUpper upperRequests runLog nextBy answerBy misread instead
+unfolding computing morningUsers startIn upper upperSession upperRole from isUpper upperRequests runLog nextBy numberBy misread instead
 openw-fails h = true≢false (sym (told openw-without-10 h openw-16 (login-4 ∷ []) (λ v. getD (v .sessions) 0 noSession .live) refl))
 
 -- seat 0 gives the upper role 8 a right on root 16
 pub grant-fails : Isolates grant-without-10 → ⊥
-unfolding computing morningUsers startIn upper upperSession upperRole from isUpper upperRequests runLog nextBy answerBy misread instead
+unfolding computing morningUsers startIn upper upperSession upperRole from isUpper upperRequests runLog nextBy numberBy misread instead
 grant-fails h = true≢false (told grant-without-10 h grant-16 [] (λ v. has (getD (v .roles) 4 noRole .reads) 0) refl)
 
 -- seat 0 deletes object 17
 pub delete-fails : Isolates delete-unopened → ⊥
-unfolding computing morningUsers startIn upper upperSession upperRole from isUpper upperRequests runLog nextBy answerBy misread instead
+unfolding computing morningUsers startIn upper upperSession upperRole from isUpper upperRequests runLog nextBy numberBy misread instead
 delete-fails h = true≢false (sym (told delete-unopened h delete-17 [] (λ v. getD (v .entities) 1 noEntity .live) refl))
 
 -- seat 0 shares root 16, on which it has own by the keeper of level 1
 pub share-fails : Isolates share-without-10 → ⊥
-unfolding computing morningUsers startIn upper upperSession upperRole from isUpper upperRequests runLog nextBy answerBy misread instead
+unfolding computing morningUsers startIn upper upperSession upperRole from isUpper upperRequests runLog nextBy numberBy misread instead
 share-fails h = true≢false (told share-without-10 h share-16 [] (λ v. eqb (getD (v .entities) 0 noEntity .shared) 1) refl)

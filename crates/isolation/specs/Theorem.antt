@@ -28,6 +28,6 @@ pub isolation :
     -- then the upper parts after the two logs are equal, whatever was asked from below L, in kind, number or place.
     → (upper L (run t a) ≡ upper L (run u b))
     -- And of the requests of level L and above, each that names only seats, roles and entities of level L or above gets
-    -- the same answer in both logs.
+    -- the same answer in both logs, the role included.
     × (upperAnswers L t a ≡ upperAnswers L u b)
 isolation L low high = rule-same L

@@ -8,11 +8,12 @@ use Rattle.bitset.specs.Tests.{every}
 use Rattle.bitset.specs.Sets.{from}
 use Rattle.guard.specs.Level.{sessionCount, sessionLevel, roleLevel, entityLevel, entitiesPerLevel}
 use Rattle.guard.specs.Requests.{Field, call, seat, user, role, entity, parent, kind, name, label, rights, shared, ruleOf}
-use Rattle.guard.specs.Step.{answer, next}
+use Rattle.guard.specs.Step.{answer, next, roleTold}
 use Rattle.guard.specs.declared.Session.{Session}
 use Rattle.guard.specs.declared.Role.{Role}
 use Rattle.guard.specs.declared.Tables.{Tables}
 use Rattle.guard.specs.declared.Request.{Request}
+use Rattle.guard.specs.declared.Told.{Told}
 
 -- Upper means of level L or above, lower of a level below L. Levels are blocks of numbers, so the upper sessions and
 -- roles are those from firstSession L on, and the upper entities those from firstEntity L on.
@@ -90,11 +91,15 @@ unfoldable pub upperRequests : ℕ → List Request → List Request
 upperRequests L [] = []
 upperRequests L (q ∷ log) = cond (isUpper L q) (q ∷ upperRequests L log) (upperRequests L log)
 
+-- "The isolation rule's equal answers include the role": an answer is its number and the role that is told.
+abbrev pub answered : Tables → Request → ℕ × Told
+answered t q = (answer t q, roleTold t q)
+
 -- Answers are compared in order: the first upper request of one log with the first of the other, and so on. Of the
 -- upper requests, those that name only upper seats, roles and entities.
-unfoldable pub upperAnswers : ℕ → Tables → List Request → List ℕ
+unfoldable pub upperAnswers : ℕ → Tables → List Request → List (ℕ × Told)
 upperAnswers L t [] = []
 upperAnswers L t (q ∷ log) =
     cond (every (isUpper L q ∷ namesUpper L q ∷ []))
-    (answer t q ∷ upperAnswers L (next t q) log)
+    (answered t q ∷ upperAnswers L (next t q) log)
     (upperAnswers L (next t q) log)

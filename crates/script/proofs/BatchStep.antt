@@ -7,21 +7,22 @@
 -- Assumes nothing.
 use Prim.Native.Nat.{ℕ, _+_, _-_, _*_, _/_, _≤_, _<_}
 use mathlib.Core.Path.{_≡_, refl, ap, ap₂, sym, _∙_}
-use mathlib.Core.Bool.{Bool, false}
+use mathlib.Core.Bool.{Bool, true, false, cond}
 use mathlib.Core.List.{List, [], _∷_, _++_, append-assoc}
 use lib.ListN.{length, take, drop, getD, length-drop, length-take}
 use lib.Seq.{sets, take-suc, drop-drop, sets-eq, length-take-le}
 use native.Mathlib.Numerals.{add-one}
 use native.Mathlib.Nat.{zero-add}
 use native.Mathlib.Omega.{arith}
+use lib.Dec.{leb}
 use borrow.Author.Tests.{le-leb}
 use borrow.Rule.Slice.PartMut.{putMid}
-use Rattle.guard.specs.Step.{run, answers}
-use Rattle.guard.specs.Batch.{rowLength, requestAt, requests, batchLength, batch, RunsBatch}
+use Rattle.guard.specs.Step.{answer, run, answers}
+use Rattle.guard.specs.Batch.{rowLength, requestAt, requests, shorter, batchLength, batchCount, batch, RunsBatch}
 use Rattle.guard.specs.declared.Tables.{Tables}
 use Rattle.guard.specs.declared.Request.{Request}
 use Rattle.guard.proofs.Filling.{length-tabulate}
-use Rattle.guard.proofs.Logs.{length-answers}
+use Rattle.guard.proofs.Logs.{length-each}
 use Rattle.script.specs.Report.{lineText, lastLine}
 use Rattle.script.specs.Private.Slices.{written, Put}
 use Rattle.script.specs.Run.{atLines, bench, benchOf, toldFirst, fromLine, rest, Goes}
@@ -96,15 +97,21 @@ pub texts-all : {old out : List ℕ} {w : ℕ} (n : ℕ) (marks : List Bool) (gi
 texts-all n marks given i lines h l p = let e : lines ≡ i = omega arith in rw e p
 
 -- ---- what the guard hands back
-shorter : (n room : ℕ) → n ≤ room → batchLength (rowLength * n) room ≡ n
-unfolding batchLength
-shorter n room h = let e : (12 * n) / 12 ≡ n = omega arith in rw (e, le-leb n room h)
+all-fit : (n answers roles : ℕ) → n ≤ answers → n ≤ roles → batchLength (rowLength * n) answers roles ≡ n
+unfolding batchLength shorter
+all-fit n answers roles h k = let e : (12 * n) / 12 ≡ n = omega arith in rw e (go (leb answers roles))
+  where
+    go : (b : Bool) → cond (leb n (cond b answers roles)) n (cond b answers roles) ≡ n
+    go true = rw (le-leb n answers h)
+    go false = rw (le-leb n roles k)
 
-module _ {t u : Tables} (rows : List ℕ) {old new : List ℕ} (n : ℕ) (did : RunsBatch t (take (rowLength * n) rows) old new u) (within : rowLength * n ≤ length rows) (room : n ≤ length old) where
-  so-many : batchLength (length (take (rowLength * n) rows)) (length old) ≡ n
-  so-many = ap (λ (k : ℕ). batchLength k (length old)) (length-take-le (rowLength * n) rows within) ∙ shorter n (length old) room
+module _ {t u : Tables} (rows : List ℕ) {old new unsaid said : List ℕ} (n : ℕ) (did : RunsBatch t (take (rowLength * n) rows) old new unsaid said u)
+    (within : rowLength * n ≤ length rows) (room : n ≤ length old) (space : n ≤ length unsaid) where
+  so-many : batchCount (take (rowLength * n) rows) old unsaid ≡ n
+  so-many =
+      ap (λ (k : ℕ). batchLength k (length old) (length unsaid)) (length-take-le (rowLength * n) rows within) ∙ all-fit n (length old) (length unsaid) room space
 
-  the-log : batch (take (rowLength * n) rows) (length old) ≡ requests n rows
+  the-log : batch (take (rowLength * n) rows) old unsaid ≡ requests n rows
   the-log = ap (λ (k : ℕ). requests k (take (rowLength * n) rows)) so-many ∙ requests-take n rows
 
   pub ran-tables : u ≡ run t (requests n rows)
@@ -125,9 +132,10 @@ pub room-for : {at s rows : List ℕ} {shut : Bool} {marks : List Bool} (told : 
     → (g .lines ≡ 0 → ⊥) → length told ≡ batchLines → (g .lines ≤ length marks) × (g .lines ≤ length told) × (12 * g .lines ≤ room) × (done + 1 + g .lines ≤ lastLine + 1)
 room-for told most took some d = (took .marked, omega (arith, took .few, most .fits), omega (arith, took .few, most .space), omega (arith, some, took .few, most .last))
 
-module _ (r : Runner) (piece old new : List ℕ) (end : Bool) (g : Gathered) (u : Tables) (rows : List ℕ) (marks : List Bool) (given told : List ℕ) (m n : ℕ)
+module _ (r : Runner) (piece old new : List ℕ) (end : Bool) (g : Gathered) (u : Tables) (rows : List ℕ) (marks : List Bool) (given told unsaid roles : List ℕ) (m n : ℕ)
     (p : r .phase ≡ atLines) (k : r .skip ≡ false) (most : Most (r .done) (length old) m) (took : Batched (r .at) (r .shut) piece m rows marks g)
-    (some : g .lines ≡ 0 → ⊥) (deep : length given ≡ batchLines) (did : RunsBatch (r .tables) (take (rowLength * g .count) rows) given told u)
+    (some : g .lines ≡ 0 → ⊥) (deep : length given ≡ batchLines) (wide : length unsaid ≡ batchLines)
+    (did : RunsBatch (r .tables) (take (rowLength * g .count) rows) given told unsaid roles u)
     (puts : Put old 0 (texts (r .done + 1) (take (g .lines) marks) told) new n) where
   abbrev asks : List Bool
   asks = take (g .lines) marks
@@ -145,14 +153,14 @@ module _ (r : Runner) (piece old new : List ℕ) (end : Bool) (g : Gathered) (u 
   last = omega (arith, took .few, most .last)
 
   there : benchOf then ≡ bench (run (r .tables) log) (g .shut)
-  there = rw (ran-tables rows (g .count) did (took .stored) (omega (arith, few)))
+  there = rw (ran-tables rows (g .count) did (took .stored) (omega (arith, few)) (omega (arith, few)))
 
   enough : asked asks ≤ length (answers (r .tables) log)
-  enough = omega (arith, took .count, length-answers (r .tables) log, length-tabulate (requestAt rows) (g .count))
+  enough = omega (arith, took .count, length-each answer (r .tables) log, length-tabulate (requestAt rows) (g .count))
 
   words : texts (r .done + 1) asks told ≡ texts (r .done + 1) asks (answers (r .tables) log)
   words =
-      rw (ran-answers rows (g .count) did (took .stored) (omega (arith, few)))
+      rw (ran-answers rows (g .count) did (took .stored) (omega (arith, few)) (omega (arith, few)))
       (texts-given (r .done + 1) asks (answers (r .tables) log) (drop (g .count) given) enough)
 
   later : (header : List (List ℕ)) (more : List ℕ) → rest header then (drop (g .used) piece ++ more)

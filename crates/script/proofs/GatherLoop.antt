@@ -14,13 +14,13 @@ use native.Mathlib.Nat.{add-zero}
 use native.Mathlib.Omega.{arith}
 use lib.Dec.{leb}
 use borrow.Author.Tests.{leb-false}
-use Rattle.guard.specs.Step.{answer, run, runIn, answers, answersIn}
+use Rattle.guard.specs.Step.{answer, run, runIn, answers, eachIn}
 use Rattle.guard.specs.Fresh.{tabulate}
 use Rattle.guard.specs.Batch.{rowLength, requestAt, requests}
 use Rattle.guard.specs.declared.Tables.{Tables}
 use Rattle.guard.specs.declared.Request.{Request}
 use Rattle.guard.proofs.Filling.{length-tabulate}
-use Rattle.guard.proofs.Logs.{run-snoc, answers-snoc, length-answers}
+use Rattle.guard.proofs.Logs.{run-snoc, each-snoc, length-each}
 use Rattle.script.specs.Line.{readLine}
 use Rattle.script.specs.Report.{lineText, lastLine}
 use Rattle.script.specs.Private.Slices.{before, written}
@@ -70,12 +70,12 @@ run-on t log Bad = rw append-nil
 
 texts-on : (t : Tables) (log : List Request) (l : Line) (n : ℕ) (ms : List Bool) → asked ms ≡ length log
     → texts n (ms ++ (isRequest l ∷ [])) (answers t (log ++ requestsOf l)) ≡ texts n ms (answers t log) ++ lineText (n + length ms) (answerTo (run t log) l)
-unfolding isRequest said answersIn
+unfolding isRequest said eachIn
 texts-on t log (Ask q) n ms e =
     let given : List ℕ = answers t log in
     let a : ℕ = answer (run t log) q in
-    let many : length given ≡ length log = length-answers t log in
-    ap (texts n (ms ++ (true ∷ []))) (answers-snoc t log q)
+    let many : length given ≡ length log = length-each answer t log in
+    ap (texts n (ms ++ (true ∷ []))) (each-snoc answer t log q)
     ∙ texts-snoc n ms true (given ++ (a ∷ []))
     ∙ (rw (texts-given n ms given (a ∷ []) (omega arith), getD-at given a [] 0 (asked ms) (many ∙ sym e)))
 texts-on t log (SetUser user level cats ceiling) n ms e = rw append-nil (texts-snoc n ms false (answers t log))

@@ -14,7 +14,7 @@ use lib.Seq.{getD-drop}
 use native.Mathlib.Nat.{add-zero}
 use native.Mathlib.Omega.{arith}
 use Rattle.bitset.specs.Tests.Laws.{or-true, or-false}
-use Rattle.guard.specs.Step.{answer, next, run, runIn, answers, answersIn}
+use Rattle.guard.specs.Step.{answer, next, run, runIn, answers, eachIn}
 use Rattle.guard.specs.declared.Tables.{Tables}
 use Rattle.script.specs.Report.{answerLine, lineText}
 use Rattle.script.specs.Run.{bench}
@@ -28,7 +28,7 @@ use Rattle.script.proofs.RequestRows.{requestsOf}
 pub line-in : (t : Tables) (shut : Bool) (l : Line) → isAllowed shut l ≡ false
     → answerLine (bench t shut) l
     ≡ record { bench = bench (run t (requestsOf l)) (shut || isRequest l); answer = said (isRequest l) (getD (answers t (requestsOf l)) 0 0) }
-unfolding answerLine isRequest isAllowed runIn answersIn said
+unfolding answerLine isRequest isAllowed runIn eachIn said
 line-in t shut (Ask q) h = ap (λ (b : Bool). record { bench = bench (next t q) b; answer = answer t q }) (sym (or-true shut))
 line-in t true (SetUser user level cats ceiling) h = refl
 line-in t false (SetUser user level cats ceiling) h = absurd (true≢false h)

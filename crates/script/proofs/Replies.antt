@@ -24,6 +24,7 @@ use Rattle.guard.specs.Step.{step}
 use Rattle.guard.specs.declared.Tables.{Tables}
 use Rattle.guard.specs.declared.Request.{Request}
 use Rattle.guard.specs.declared.Outcome.{Outcome}
+use Rattle.guard.specs.declared.Told.the-variants.{None}
 use Rattle.script.specs.Report.{Answered, unread, withUser, userInRanges, answerLine, lineText}
 use Rattle.script.specs.Private.Slices.{Put}
 use Rattle.script.specs.Run.{bench, benchOf}
@@ -43,7 +44,7 @@ pub record Inside (user level cats ceiling : ℕ) : Type 0 where
   pub ceiling-in : ceiling ≤ 3
 
 abbrev built : ℕ → Outcome
-built n = record { tables = fresh (replicate userCount noUser) edition1; answer = n }
+built n = record { tables = fresh (replicate userCount noUser) edition1; answer = n; role = None }
 
 module _ (user level cats ceiling : ℕ) where
   pub inside : outside user level cats ceiling ≡ false → Inside user level cats ceiling

@@ -229,7 +229,7 @@ fn values_step(mut r: Runner, piece: &[u8], end: bool, out: &mut [u8]) -> Ran
 }
 
 // The names line; or whole lines of values, as many as a batch takes, and where there is none, the one line that is left. The
-// last three are room for a batch.
+// last four are room for a batch.
 fn one(
     mut r: Runner,
     piece: &[u8],
@@ -238,8 +238,9 @@ fn one(
     rows: &mut [u32],
     marks: &mut [bool],
     answers: &mut [u8],
+    roles: &mut [u8],
 ) -> Ran
-    requires { ⌜ (atNames ≤ r .phase) × Lent (now rows) (now marks) (now answers) ⌝ }
+    requires { ⌜ (atNames ≤ r .phase) × Lent (now rows) (now marks) (now answers) (now roles) ⌝ }
     ensures { λ x. ⌜ Stepped r (now (piece .entry)) end (now (out .entry)) (now (out .exit)) x ⌝ }
 {
     if r.phase == AT_NAMES {
@@ -260,7 +261,7 @@ fn one(
     }
     let n = sizes::ROW * g.count;
     let t = r.tables;
-    let next = t.run(&rows[..n], answers);
+    let next = t.run(&rows[..n], answers, roles);
     let wrote = batch::put_answers(marks, answers, lines, r.done + 1, out);
     r.tables = next;
     r.shut = g.shut;
@@ -280,6 +281,7 @@ fn work(r: Runner, piece: &[u8], end: bool, out: &mut [u8]) -> Ran
     let mut rows = [0u32; limits::BATCH_NUMBERS];
     let mut marks = [false; limits::BATCH];
     let mut answers = [0u8; limits::BATCH];
+    let mut roles = [0u8; limits::BATCH];
     let mut held = r;
     let mut at = 0;
     let mut wrote = 0;
@@ -292,6 +294,7 @@ fn work(r: Runner, piece: &[u8], end: bool, out: &mut [u8]) -> Ran
             &mut rows,
             &mut marks,
             &mut answers,
+            &mut roles,
         );
         let next = ran.runner;
         held = next;

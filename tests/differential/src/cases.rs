@@ -14,6 +14,15 @@ use crate::records::{self, KINDS};
 const FILE: usize = 65_536;
 const LIST: usize = 4_096;
 
+/// How many numbers a request is as a row of a batch; the most rows, and the most places for answers and
+/// for roles.
+pub const ROW: usize = 12;
+pub const MOST: usize = 256;
+
+/// What stands in a place for an answer, or for a role, that was not written.
+const NO_ANSWER: usize = 255;
+const NOT_TOLD: usize = 254;
+
 /// Statements, and what is to be printed.
 pub struct Script {
     statements: Vec<String>,
@@ -28,6 +37,36 @@ pub struct Script {
     kept: Tables,
     /// Whether the tables are sound, if that is known.
     sound: Option<bool>,
+}
+
+/// What the paper says of a request: the sides that it meets, its answer, and the role told, if one is.
+pub struct Answered {
+    pub met: u32,
+    pub answer: usize,
+    pub role: Option<usize>,
+}
+
+/// How much of a batch is run: so many of its numbers, with room for so many answers and so many roles.
+#[derive(Clone, Copy, Debug)]
+pub struct Room {
+    pub numbers: usize,
+    pub answers: usize,
+    pub roles: usize,
+}
+
+impl Room {
+    /// As many requests as stand whole in the rows and have room for their answers and for their roles.
+    pub fn requests(&self) -> usize {
+        (self.numbers / ROW).min(self.answers).min(self.roles)
+    }
+}
+
+/// An answer as it is printed, the role behind it where one is told.
+pub fn told(answer: usize, role: Option<usize>) -> String {
+    match role {
+        Some(role) => format!("{answer} by role {role}"),
+        None => answer.to_string(),
+    }
 }
 
 impl Script {
@@ -98,44 +137,91 @@ impl Script {
         self.print(&format!("{name}: {answer}{changes}"));
     }
 
-    /// The request: the sides that it meets, and the answer. "1 the tables are not sound"; 2 for one of no
-    /// kind.
-    fn make(&mut self, asked: &Asked) -> (u32, usize) {
+    /// The request. "1 the tables are not sound"; 2 for one of no kind.
+    fn make(&mut self, asked: &Asked) -> Answered {
         self.requests += 1;
         let sound = *self.sound.get_or_insert_with(|| paper::sound(&self.tables));
+        let without_role = |answer| Answered {
+            met: 0,
+            answer,
+            role: None,
+        };
         match asked {
-            _ if !sound => (0, 1),
-            Asked::NoKind { .. } => (0, 2),
+            _ if !sound => without_role(1),
+            Asked::NoKind { .. } => without_role(2),
             Asked::Request(request) => {
                 let met = paper::met(&self.tables, request);
                 let answer = paper::answer(request.call, met);
+                let role = paper::told(&self.tables, request, answer);
                 if answer == 0 {
                     paper::done(&mut self.tables, request);
                     self.sound = None;
                 }
-                (met, answer)
+                Answered { met, answer, role }
             }
         }
     }
 
-    /// A request, and its answer.
-    pub fn ask(&mut self, asked: &Asked, name: &str) -> (u32, usize) {
+    /// A request, and what it tells.
+    pub fn ask(&mut self, asked: &Asked, name: &str) -> Answered {
         self.statements.push(format!("{} | {name}", words(asked)));
-        let (met, answer) = self.make(asked);
-        self.print(&format!("{name}: {answer}"));
-        (met, answer)
+        let answered = self.make(asked);
+        self.print(&format!("{name}: {}", told(answered.answer, answered.role)));
+        answered
     }
 
     /// A request on tables that are not as those kept: what it changes, and what was changed before; then
     /// back.
     pub fn broken(&mut self, asked: &Asked, name: &str) {
         let before = self.tables.clone();
-        let (_, answer) = self.make(asked);
+        let answered = self.make(asked);
+        let told = told(answered.answer, answered.role);
         let changes = records::changes(&before, &self.tables);
         let broken = records::differing(&self.kept, &before);
         let back = self.kept.clone();
         self.state(format!("broken {} | {name}", words(asked)), back);
-        self.print(&format!("{name}: {answer}{changes}; broken{broken}"));
+        self.print(&format!("{name}: {told}{changes}; broken{broken}"));
+    }
+
+    /// The requests are the rows of the batch, and there are no others. The tables are kept.
+    pub fn gather(&mut self, rows: &[Asked]) {
+        self.keep();
+        // To clear the batch is to clear the tables too.
+        for word in ["clear", "back"] {
+            self.statements.push(String::from(word));
+        }
+        for same in rows.chunk_by(|one, other| one == other) {
+            let (count, words) = (same.len(), words(&same[0]));
+            self.statements.push(format!("gather {count} {words}"));
+        }
+    }
+
+    /// The batch, which has these rows: what changed, and a number for each place of the room. Hands back
+    /// what the requests that were run told.
+    pub fn run(&mut self, rows: &[Asked], room: Room, name: &str) -> Vec<Answered> {
+        let Room {
+            numbers,
+            answers,
+            roles,
+        } = room;
+        let statement = format!("run {numbers} {answers} {roles} | {name}");
+        self.statements.push(statement);
+        let before = self.tables.clone();
+        let rows = &rows[..room.requests()];
+        let run: Vec<Answered> = rows.iter().map(|asked| self.make(asked)).collect();
+        let mut line = format!("{name}:{}", records::changes(&before, &self.tables));
+        line += "; answers";
+        for at in 0..answers {
+            let answer = run.get(at).map_or(NO_ANSWER, |answered| answered.answer);
+            line += &format!(" {answer}");
+        }
+        line += "; roles";
+        for at in 0..roles {
+            let role = run.get(at).map_or(Some(NOT_TOLD), |answered| answered.role);
+            line += &role.map_or(String::from(" -"), |role| format!(" {role}"));
+        }
+        self.print(&line);
+        run
     }
 
     /// The edition and every record.
@@ -213,13 +299,14 @@ fn words(asked: &Asked) -> String {
     }
 }
 
-/// What the program printed for a log: its answers, and the tables shown after so many of its requests.
-/// None if it is of another form.
+/// What the program printed for a log: its answers and the roles, and the tables shown after so many of its
+/// requests. None if it is of another form.
 pub fn read(output: &[u8], log: &Log, shows: &[usize]) -> Option<Ran> {
     let text = std::str::from_utf8(output).ok()?;
     let mut lines = text.lines();
     let mut ran = Ran {
         answers: Vec::new(),
+        roles: Vec::new(),
         tables: Vec::new(),
     };
     for done in 0..=log.entries.len() {
@@ -228,11 +315,16 @@ pub fn read(output: &[u8], log: &Log, shows: &[usize]) -> Option<Ran> {
             ran.tables.push(records::read(&shown)?);
         }
         if let Some(entry) = log.entries.get(done) {
-            let (name, answer) = lines.next()?.rsplit_once(": ")?;
+            let (name, told) = lines.next()?.rsplit_once(": ")?;
             if name != entry.name {
                 return None;
             }
+            let (answer, role) = match told.split_once(" by role ") {
+                Some((answer, role)) => (answer, Some(role.parse().ok()?)),
+                None => (told, None),
+            };
             ran.answers.push(answer.parse().ok()?);
+            ran.roles.push(role);
         }
     }
     Some(ran)
@@ -250,6 +342,7 @@ mod tests {
     /// What is to be printed for a generated log, read again.
     #[test]
     fn a_log_is_read_as_it_is_printed() {
+        let mut with_role = 0;
         for index in 0..4 {
             let mut random = Random::for_file(3, index);
             let bytes = files::plain(Random::for_file(3, index), 2, false);
@@ -257,21 +350,25 @@ mod tests {
             let mut script = Script::new();
             script.start(&log);
             let shows = [0, 40, log.entries.len()];
-            let (mut answers, mut tables) = (Vec::new(), Vec::new());
+            let (mut answers, mut roles, mut tables) = (Vec::new(), Vec::new(), Vec::new());
             for (done, entry) in log.entries.iter().enumerate() {
                 if shows.contains(&done) {
                     script.show();
                     tables.push(script.tables.clone());
                 }
-                answers.push(script.ask(&entry.asked, &entry.name).1);
+                let answered = script.ask(&entry.asked, &entry.name);
+                answers.push(answered.answer);
+                roles.push(answered.role);
             }
             script.show();
             tables.push(script.tables.clone());
             let ran = read(script.expected(), &log, &shows).unwrap();
-            assert!(ran.answers == answers && ran.tables == tables);
+            assert!(ran.answers == answers && ran.roles == roles && ran.tables == tables);
+            with_role += roles.iter().flatten().count();
             assert!(read(&script.expected()[..5_000], &log, &shows).is_none());
             assert!(read(script.expected(), &log, &[0]).is_none());
         }
+        assert!(with_role > 50);
     }
 
     #[test]
@@ -286,6 +383,84 @@ mod tests {
         assert_eq!(words(&Asked::Request(request)), "grant 1 8 2 9");
         assert_eq!(words(&Asked::NoKind { call: 17, seat: 3 }), "17 3");
         assert!(CALLS.iter().all(|call| call.uses()[0] == Field::Seat));
+    }
+
+    /// A seat logs in, takes the keepers of levels 3 and 0 and opens their roots.
+    #[test]
+    fn a_batch_as_it_is_printed() {
+        let request = |call, fields: &[(Field, usize)]| Asked::Request(Request::with(call, fields));
+        let at = |call, field, number| request(call, &[(Field::Seat, 12), (field, number)]);
+        let openw = at(Call::Openw, Field::Entity, 48);
+        let rows = [
+            request(Call::Login, &[(Field::Seat, 12)]),
+            at(Call::Take, Field::Role, 12),
+            openw,
+            openw,
+            at(Call::Take, Field::Role, 0),
+            at(Call::Openr, Field::Entity, 48),
+            Asked::NoKind { call: 17, seat: 12 },
+            at(Call::Openw, Field::Entity, 0),
+            at(Call::Openr, Field::Entity, 64),
+        ];
+        let mut script = Script::new();
+        script.set("user", 0, "ceiling", &[3]);
+        let begin = script.statements.len();
+        script.gather(&rows);
+        let gathered = [
+            "keep",
+            "clear",
+            "back",
+            "gather 1 login 12 0 0 0",
+            "gather 1 take 12 12",
+            "gather 2 openw 12 48",
+            "gather 1 take 12 0",
+            "gather 1 openr 12 48",
+            "gather 1 17 12",
+            "gather 1 openw 12 0",
+            "gather 1 openr 12 64",
+        ];
+        assert_eq!(script.statements[begin..], gathered);
+        let tables = script.tables.clone();
+        let cases = [
+            (
+                [108, 9, 10],
+                "changed seats { 12 }; answers 0 0 0 16 0 0 2 0 2; roles - - 12 - - 12 - 0 - 254",
+            ),
+            (
+                [108, 4, 3],
+                "changed seats { 12 }; answers 0 0 0 255; roles - - 12",
+            ),
+            ([108, 1, 2], "changed seats { 12 }; answers 0; roles - 254"),
+            (
+                [35, 3, 3],
+                "changed seats { 12 }; answers 0 0 255; roles - - 254",
+            ),
+            ([11, 1, 1], "kept; answers 255; roles 254"),
+            ([108, 0, 2], "kept; answers; roles 254 254"),
+            ([108, 2, 0], "kept; answers 255 255; roles"),
+        ];
+        let mut expected = String::new();
+        for ([numbers, answers, roles], line) in cases {
+            let room = Room {
+                numbers,
+                answers,
+                roles,
+            };
+            script.tables = tables.clone();
+            script.sound = None;
+            assert_eq!(script.run(&rows, room, "x").len(), room.requests());
+            expected += &format!("x: {line}\n");
+        }
+        script.set_edition(3);
+        let room = Room {
+            numbers: 36,
+            answers: 4,
+            roles: 4,
+        };
+        script.run(&rows, room, "x");
+        expected += "x: kept; answers 1 1 1 255; roles - - - 254\n";
+        assert_eq!(script.expected(), expected.as_bytes());
+        assert_eq!(script.statement(1), "run 108 4 3 | x");
     }
 
     #[test]

@@ -27,6 +27,8 @@ pub struct Coverage {
     forms: Vec<(&'static str, usize)>,
     files: usize,
     lines: usize,
+    /// Lines that tell a role.
+    roles: usize,
 }
 
 impl Coverage {
@@ -47,6 +49,7 @@ impl Coverage {
             forms: files::forms().into_iter().map(|form| (form, 0)).collect(),
             files: 0,
             lines: 0,
+            roles: 0,
         }
     }
 
@@ -56,6 +59,7 @@ impl Coverage {
         self.lines += report.seen.len();
         for seen in &report.seen {
             self.count(seen);
+            self.roles += usize::from(seen.role.is_some());
         }
         for &(line, form) in &made.forms {
             if line > 0 {
@@ -254,6 +258,10 @@ impl Coverage {
             upper_half.join(", ")
         );
         println!("{situations_met} of {situations} situations with marks met");
+        println!(
+            "{} roles told, by the reference as by the paper",
+            self.roles
+        );
         println!(
             "{both_met} of {both} pairs of numbers that one request can meet together met, the lower answered"
         );

@@ -1,23 +1,26 @@
-//! The guard in edition 2, and in edition 1 by the same way (document 02, A.13). The request program cannot
-//! choose, so the proved guard runs through the test program `guard_cases`. Each file is answered by the
-//! paper and by `reference --edition 2`; its requests, written as statements, by the paper and by
-//! `guard_cases`, which shows every record too. A twin of each log is run as well, and the two are held
-//! against the isolation rule. The tables at the end are changed in a field, many times, and a request
-//! tells whether they are sound.
+//! The guard in edition 2, and in edition 1 by the same way (document 02, A.13), with the roles that it tells
+//! (A.6). The request program cannot choose and prints no roles, so the proved guard runs through the test
+//! program `guard_cases`. Each file is answered by the paper and by `reference --roles --edition 2`; its
+//! requests, written as statements, by the paper and by `guard_cases`, which shows every record too. A twin
+//! of each log is run as well, and the two are held against the isolation rule. The tables at the end are
+//! changed in a field, many times, and a request tells whether they are sound. At last the log is run as
+//! batches.
 
 use std::fs;
 use std::path::Path;
 use std::time::Instant;
 
+use crate::batches;
 use crate::builds;
 use crate::cases::{self, Script};
-use crate::down::{self, Look, SITUATIONS};
+use crate::down;
 use crate::files;
 use crate::logs::{self, Asked, Log, Ran};
 use crate::paper::{self, entity_level, seat_level, Call, Field, CALLS};
 use crate::program::{self, Report};
 use crate::programs::{self, Feeding};
 use crate::random::Random;
+use crate::told::{self, Taken};
 use crate::unsound;
 use crate::upper;
 use crate::{first_difference, line_at, Options};
@@ -29,11 +32,12 @@ const OTHER_SEEDS: u64 = 13 << 32;
 const ALSO_IN_1: usize = 3;
 
 /// What twin logs of edition 2 have to show, beside what requests have to.
-const TWINS: [&str; 4] = [
+const TWINS: [&str; 5] = [
     "what an upper seat reads below L differs, the upper parts are equal",
     "a read down done in one and refused in the other",
     "a read down within the upper part, done in both",
     "a request that names only what is upper, refused in both",
+    "a read below L that tells different roles, the upper parts are equal",
 ];
 
 pub fn run(options: &Options) -> bool {
@@ -95,13 +99,14 @@ fn file(options: &Options, index: usize, counts: &mut Counts) -> Result<(), Stri
         };
         let (one, other) = (by_guard("log", &log)?, by_guard("twin", &twin)?);
         let (logs, runs) = ([&log, &twin], [&one, &other]);
-        let compared = upper::isolated(level, logs, runs).map_err(|fault| {
+        let equal = upper::isolated(level, logs, runs).map_err(|fault| {
             let folder = folder.display();
             format!("edition {edition}, not isolated for level {level}: {fault}\nkept in {folder}")
         })?;
         counts.pairs += 1;
         counts.parts += one.tables.len();
-        counts.upper_answers += compared;
+        counts.upper_answers += equal.answers;
+        counts.upper_roles += equal.roles;
         if edition == 2 {
             counts.twin(level, logs, runs);
         }
@@ -126,13 +131,13 @@ fn by_reference(
     }
     // It tests the tables before each request, so that its soundness is compared too.
     let words: &[&str] = match edition {
-        2 => &["--test-each", "--edition", "2"],
-        _ => &["--test-each"],
+        2 => &["--test-each", "--roles", "--edition", "2"],
+        _ => &["--test-each", "--roles"],
     };
     let output = programs::run(reference, words, bytes, Feeding::Whole)?;
     make(folder)?;
     put(folder, "input.txt", bytes)?;
-    let paper = report.output();
+    let paper = report.output_with_roles();
     if output == paper {
         return Ok(report);
     }
@@ -164,6 +169,7 @@ fn by_guard(
     let middle = places.get(places.len() / 2).map(|place| place + 1);
     let shows: Vec<usize> = middle.into_iter().chain([log.entries.len()]).collect();
     let mut script = Script::new();
+    let mut taken = Taken::new();
     script.start(log);
     for done in 0..=log.entries.len() {
         for _ in shows.iter().filter(|&&show| show == done) {
@@ -173,21 +179,37 @@ fn by_guard(
             break;
         };
         let before = script.tables.clone();
-        let (met, answer) = script.ask(&entry.asked, &entry.name);
-        if answer == 1 {
+        let answered = script.ask(&entry.asked, &entry.name);
+        if answered.answer == 1 {
             return Err(String::from("by the paper, the tables became unsound"));
         }
         counts.requests[log.edition - 1] += 1;
         if let Asked::Request(request) = &entry.asked {
-            counts.answers[log.edition - 1][request.call as usize][answer] += 1;
-            let look = Look {
+            counts.answers[log.edition - 1][request.call as usize][answered.answer] += 1;
+            let look = down::Look {
                 before: &before,
                 request,
-                met,
+                met: answered.met,
                 after: &script.tables,
             };
             for situation in down::situations(&look) {
-                counts.situations[situation] += 1;
+                counts.down[situation] += 1;
+            }
+            let look = told::Look {
+                tables: &before,
+                request,
+                met: answered.met,
+                role: answered.role,
+                taken: &taken,
+            };
+            for situation in told::situations(&look) {
+                counts.told[situation][request.call as usize] += 1;
+            }
+            if let Some(role) = answered.role {
+                counts.roles[role] += 1;
+            }
+            if answered.answer == 0 {
+                taken.note(request);
             }
         }
     }
@@ -195,6 +217,7 @@ fn by_guard(
     for (sum, changed) in counts.changed.iter_mut().zip(changed) {
         *sum += changed;
     }
+    batches::ask(&mut script, log, random, &mut counts.batches);
     let output = play(options, folder, &script)?;
     cases::read(&output, log, &shows).ok_or(String::from("guard_cases printed something else"))
 }
@@ -246,15 +269,21 @@ struct Counts {
     lines: [usize; 2],
     requests: [usize; 2],
     answers: [[[usize; 17]; CALLS.len()]; 2],
-    situations: Vec<usize>,
+    /// What requests show of reading down, and, by call, of the role that is told.
+    down: Vec<usize>,
+    told: Vec<[usize; CALLS.len()]>,
+    /// How often each role was told.
+    roles: [usize; 16],
     twins: [usize; TWINS.len()],
     /// Tables with a field changed, by edition, and what they show.
     changed: [usize; 2],
     unsound: Vec<usize>,
-    /// Pairs of twin logs; upper parts, and answers of upper requests, found equal.
+    batches: batches::Counts,
+    /// Pairs of twin logs; upper parts, answers of upper requests, and roles beside these, found equal.
     pairs: usize,
     parts: usize,
     upper_answers: usize,
+    upper_roles: usize,
 }
 
 impl Counts {
@@ -264,13 +293,17 @@ impl Counts {
             lines: [0; 2],
             requests: [0; 2],
             answers: [[[0; 17]; CALLS.len()]; 2],
-            situations: vec![0; SITUATIONS.len()],
+            down: vec![0; down::SITUATIONS.len()],
+            told: vec![[0; CALLS.len()]; told::SITUATIONS.len()],
+            roles: [0; 16],
             twins: [0; TWINS.len()],
             changed: [0; 2],
             unsound: vec![0; unsound::SITUATIONS.len()],
+            batches: batches::Counts::new(),
             pairs: 0,
             parts: 0,
             upper_answers: 0,
+            upper_roles: 0,
         }
     }
 
@@ -286,6 +319,7 @@ impl Counts {
         for (&one, &other) in places[0].iter().zip(&places[1]) {
             let asked = &logs[0].entries[one].asked;
             let answers = [runs[0].answers[one], runs[1].answers[other]];
+            let roles = [runs[0].roles[one], runs[1].roles[other]];
             let down = match asked {
                 Asked::Request(request) if request.call == Call::Openr => {
                     entity_level(request.at(Field::Entity)) < seat_level(request.at(Field::Seat))
@@ -297,12 +331,13 @@ impl Counts {
             self.twins[1] += usize::from(down && done == 1);
             self.twins[2] += usize::from(down && named && done == 2);
             self.twins[3] += usize::from(named && done == 0);
+            self.twins[4] += usize::from(down && done == 2 && roles[0] != roles[1]);
         }
     }
 
-    fn rows(&self) -> Vec<(String, usize)> {
+    fn reading_down(&self) -> Vec<(String, usize)> {
         let mut rows = Vec::new();
-        for (situation, &count) in SITUATIONS.iter().zip(&self.situations) {
+        for (situation, &count) in down::SITUATIONS.iter().zip(&self.down) {
             let title = format!("edition {}, {}", situation.edition, situation.name);
             rows.push((title, count));
         }
@@ -315,22 +350,57 @@ impl Counts {
         rows
     }
 
-    /// What was seen of reading down.
+    fn roles_told(&self) -> Vec<(String, usize)> {
+        let mut rows = Vec::new();
+        for (situation, counts) in told::SITUATIONS.iter().zip(&self.told) {
+            for &call in situation.calls {
+                let title = format!("{}, {}", call.word(), situation.name);
+                rows.push((title, counts[call as usize]));
+            }
+        }
+        for (role, count) in self.roles.into_iter().enumerate() {
+            rows.push((format!("role {role}"), count));
+        }
+        rows
+    }
+
+    fn in_batches(&self) -> Vec<(String, usize)> {
+        let mut rows = Vec::new();
+        for (situation, &count) in batches::SITUATIONS.iter().zip(&self.batches.situations) {
+            rows.push((String::from(situation.name), count));
+        }
+        rows
+    }
+
+    /// What was seen, by what it has to do with.
+    fn situations(&self) -> [(&'static str, Vec<(String, usize)>); 3] {
+        [
+            ("reading down", self.reading_down()),
+            ("roles told", self.roles_told()),
+            ("batches", self.in_batches()),
+        ]
+    }
+
     fn print_situations(&self) {
-        println!("reading down:");
-        for (title, count) in self.rows() {
-            println!("  {title}: {count}");
+        for (title, rows) in self.situations() {
+            println!("{title}:");
+            for (name, count) in rows {
+                println!("  {name}: {count}");
+            }
         }
     }
 
     /// Prints the closing lines of a run that found no difference; true if everything was met.
     fn verdict(&self) -> bool {
         let mut missing: Vec<String> = Vec::new();
-        let rows = self.rows();
-        for (title, _) in rows.iter().filter(|(_, count)| *count == 0) {
-            missing.push(format!("{title}: never seen"));
+        let mut seen: Vec<String> = Vec::new();
+        for (title, rows) in self.situations() {
+            let met = rows.iter().filter(|(_, count)| *count > 0).count();
+            seen.push(format!("{met} of {} with {title}", rows.len()));
+            for (name, _) in rows.iter().filter(|(_, count)| *count == 0) {
+                missing.push(format!("{title}, {name}: never seen"));
+            }
         }
-        let situations_met = rows.len() - missing.len();
         let mut pairs: Vec<String> = Vec::new();
         for edition in paper::EDITIONS {
             let (mut all, mut met) = (0, 0);
@@ -356,10 +426,7 @@ impl Counts {
         for line in &missing {
             println!("unmet: {line}");
         }
-        println!(
-            "{situations_met} of {} situations with reading down met",
-            rows.len()
-        );
+        println!("situations met: {}", seen.join(", "));
         println!(
             "pairs of request and number met, done among them: {}",
             pairs.join(", ")
@@ -369,8 +436,12 @@ impl Counts {
             self.changed[1], self.changed[0]
         );
         println!(
-            "{} pairs of twin logs: {} upper parts and {} answers of upper requests equal",
-            self.pairs, self.parts, self.upper_answers
+            "{} batches, in all of {} requests, with rows and room of all lengths, 0 differences",
+            self.batches.batches, self.batches.requests
+        );
+        println!(
+            "{} pairs of twin logs: {} upper parts and {} answers of upper requests equal, {} of these with a role",
+            self.pairs, self.parts, self.upper_answers, self.upper_roles
         );
         println!(
             "{} files: by the reference {} lines in edition 2 and {} in edition 1, by guard_cases {} requests \

@@ -1,7 +1,7 @@
 //! Logs: "a list of requests, of any kind and any length, none at all included, done or refused". A log is
 //! made from a file's requests, and a twin from a log.
 
-use crate::paper::{Field, Request, Tables, UserRecord};
+use crate::paper::{Call, Field, Request, Tables, UserRecord};
 use crate::program::{Report, What};
 use crate::random::Random;
 use crate::upper;
@@ -30,9 +30,11 @@ pub struct Log {
     pub entries: Vec<Entry>,
 }
 
-/// What a log's run told: the answers, and the tables after some of the requests.
+/// What a log's run told: the answers, the role beside each or none, and the tables after some of the
+/// requests.
 pub struct Ran {
     pub answers: Vec<usize>,
+    pub roles: Vec<Option<usize>>,
     pub tables: Vec<Tables>,
 }
 
@@ -83,8 +85,14 @@ pub fn twin(log: &Log, level: usize, random: &mut Random) -> Log {
         .map(|entry| entry.asked)
         .filter(|asked| !upper::is_upper(level, asked))
         .collect();
-    // Of a hundred, those that stay.
+    // Of a hundred, those that stay; sometimes fewer of those that give or take away rights, so that an upper seat is
+    // let in by another role.
     let stay = random.pick(&[0, 20, 50, 80, 95, 99]);
+    let of_rights = stay.min(random.pick(&[100, 60, 30]));
+    let staying = |asked: &Asked| match asked {
+        Asked::Request(request) if matches!(request.call, Call::Grant | Call::Revoke) => of_rights,
+        _ => stay,
+    };
     let mut entries = Vec::new();
     for entry in &log.entries {
         if !others.is_empty() && random.chance(1, 40) {
@@ -93,7 +101,7 @@ pub fn twin(log: &Log, level: usize, random: &mut Random) -> Log {
                 asked: random.pick(&others),
             });
         }
-        if upper::is_upper(level, &entry.asked) || random.chance(stay, 100) {
+        if upper::is_upper(level, &entry.asked) || random.chance(staying(&entry.asked), 100) {
             entries.push(entry.clone());
         } else if random.chance(1, 2) {
             entries.push(Entry {

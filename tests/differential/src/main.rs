@@ -1,8 +1,9 @@
 //! Compares two programs that read request files, `requests` and `reference`, with each other and with the papers as
-//! `paper` and `program` have them, on generated files and on one case for each refusal; and the guard in both editions
-//! through the test program `guard_cases`.
+//! `paper` and `program` have them, on generated files and on one case for each refusal; and the guard in both
+//! editions, with the roles that it tells, through the test program `guard_cases`.
 
 mod alone;
+mod batches;
 mod builds;
 mod cases;
 mod coverage;
@@ -19,6 +20,7 @@ mod programs;
 mod random;
 mod records;
 mod scenes;
+mod told;
 mod unsound;
 mod upper;
 
@@ -176,7 +178,21 @@ fn generated(options: &Options) -> bool {
     coverage.verdict()
 }
 
-/// Runs both programs on the input. An error tells of the first line on which the three do not agree.
+/// What a program printed, and what it is to print by the paper.
+struct Printed<'a> {
+    name: &'static str,
+    output: Result<Vec<u8>, String>,
+    paper: &'a [u8],
+}
+
+impl Printed<'_> {
+    fn agrees(&self) -> bool {
+        self.output.as_deref() == Ok(self.paper)
+    }
+}
+
+/// Runs both programs on the input, the reference once more with the roles that it tells. An error tells of the first
+/// line on which they do not agree with the paper.
 fn compare(
     options: &Options,
     input: &[u8],
@@ -190,28 +206,43 @@ fn compare(
     if !report.sound {
         return Err(String::from("by the paper, the tables became unsound"));
     }
-    let paper = report.output();
-    let outputs = [
-        ("requests", programs::run(requests, &[], input, feeding)),
-        ("reference", programs::run(reference, &[], input, feeding)),
+    let (paper, with_roles) = (report.output(), report.output_with_roles());
+    let all = [
+        Printed {
+            name: "requests",
+            output: programs::run(requests, &[], input, feeding),
+            paper: &paper,
+        },
+        Printed {
+            name: "reference",
+            output: programs::run(reference, &[], input, feeding),
+            paper: &paper,
+        },
+        Printed {
+            name: "reference-with-roles",
+            output: programs::run(reference, &["--roles"], input, Feeding::Whole),
+            paper: &with_roles,
+        },
     ];
-    if outputs
-        .iter()
-        .all(|(_, output)| output.as_ref() == Ok(&paper))
-    {
+    if all.iter().all(Printed::agrees) {
         return Ok(report);
     }
     let folder = options.keep.join(title);
-    let mut fault = keep(&folder, input, &paper, &outputs)
+    let mut fault = keep(&folder, input, &all)
         .err()
         .map(|fault| format!("{}: {fault}\n", folder.display()))
         .unwrap_or_default();
     let mut first = usize::MAX;
-    for (name, output) in &outputs {
+    for Printed {
+        name,
+        output,
+        paper,
+    } in &all
+    {
         match output {
             Err(broken) => fault += &format!("{broken}\n"),
-            Ok(output) if *output != paper => {
-                let at = first_difference(output, &paper);
+            Ok(output) if output != paper => {
+                let at = first_difference(output, paper);
                 first = first.min(at);
                 fault += &format!("{name} differs from the paper on output line {}\n", at + 1);
             }
@@ -222,8 +253,8 @@ fn compare(
         // Output line 1 has the names; the next one is of input line 2, or of line 1 if its names are bad.
         let line = if report.names_good { first } else { 0 };
         fault += &format!("input line {}: {}\n", line + 1, line_at(input, line));
-        fault += &format!("paper: {}\n", line_at(&paper, first));
-        for (name, output) in &outputs {
+        fault += &format!("paper: {}\n", line_at(&with_roles, first));
+        for Printed { name, output, .. } in &all {
             let output = output.as_deref().unwrap_or_default();
             fault += &format!("{name}: {}\n", line_at(output, first));
         }
@@ -232,18 +263,18 @@ fn compare(
     Err(fault)
 }
 
-fn keep(
-    folder: &PathBuf,
-    input: &[u8],
-    paper: &[u8],
-    outputs: &[(&str, Result<Vec<u8>, String>)],
-) -> std::io::Result<()> {
+fn keep(folder: &PathBuf, input: &[u8], all: &[Printed]) -> std::io::Result<()> {
     fs::create_dir_all(folder)?;
     fs::write(folder.join("input.txt"), input)?;
-    fs::write(folder.join("paper.txt"), paper)?;
-    for (name, output) in outputs {
+    for Printed {
+        name,
+        output,
+        paper,
+    } in all
+    {
         let output = output.as_deref().unwrap_or_default();
         fs::write(folder.join(format!("{name}.txt")), output)?;
+        fs::write(folder.join(format!("paper-for-{name}.txt")), paper)?;
     }
     Ok(())
 }

@@ -1,7 +1,7 @@
 //! Document 01 written down as it reads: the tables, the refusals that apply to each request, and what a done request
 //! changes. Of document 02 it has A.1: "Categories become a set of sixteen, 0 to 65,535, in users, seats and entities";
-//! A.2, shared drawers; and A.13, reading down: "Tables carry an edition, chosen when built". Nothing here is made for
-//! speed or shared between requests beyond what the papers share.
+//! A.2, shared drawers; A.6, "which role let them in"; and A.13, reading down: "Tables carry an edition, chosen when
+//! built". Nothing here is made for speed or shared between requests beyond what the papers share.
 //!
 //! A refusal whose condition has parts joined by "or" is written as several sides of the same number. A side is a
 //! plain question about the tables and the request. Each one can be asked whatever the others say: the record of
@@ -306,12 +306,21 @@ pub fn is_child(tables: &Tables, entity: usize, parent: usize) -> bool {
 }
 
 /// "A role held by x, of at least e's level, has it."
+pub fn gives(tables: &Tables, seat: usize, role: usize, entity: usize, right: usize) -> bool {
+    tables.seats[seat].roles[role]
+        && role_level(role) >= entity_level(entity)
+        && has(tables.roles[role].rights[entity], right)
+}
+
+/// "The check of a right now tells the lowest-numbered held role that gives it, or that none does."
+pub fn role_for(tables: &Tables, seat: usize, entity: usize, right: usize) -> Option<usize> {
+    // From 0 on, so that the first is the lowest.
+    (0..16).find(|&role| gives(tables, seat, role, entity, right))
+}
+
+/// "x has a right on e": some role is told.
 pub fn has_right(tables: &Tables, seat: usize, entity: usize, right: usize) -> bool {
-    (0..16).any(|role| {
-        tables.seats[seat].roles[role]
-            && role_level(role) >= entity_level(entity)
-            && has(tables.roles[role].rights[entity], right)
-    })
+    role_for(tables, seat, entity, right).is_some()
 }
 
 /// "Execute on every container above e, up to and with the root; for a root there is none above."
@@ -1010,6 +1019,17 @@ pub fn answer(call: Call, met: u32) -> usize {
         .unwrap_or(0)
 }
 
+/// "Accepted openr and openw hand back, beside the 0, the role for read or write on the entity; all else .. hands back
+/// none." The tables are those before the request.
+pub fn told(tables: &Tables, request: &Request, answer: usize) -> Option<usize> {
+    let (seat, entity) = (request.at(Seat), request.at(Entity));
+    match request.call {
+        Openr if answer == 0 => role_for(tables, seat, entity, READ),
+        Openw if answer == 0 => role_for(tables, seat, entity, WRITE),
+        _ => None,
+    }
+}
+
 /// Whether the request would be done if every set had its categories 0 to 7 alone.
 pub fn done_in_lower_half(tables: &Tables, request: &Request) -> bool {
     let (mut tables, mut request) = (tables.clone(), *request);
@@ -1179,16 +1199,95 @@ mod tests {
         clearance: Label { grade: 0, cats: 0 },
     }; 16];
 
-    fn step(tables: &mut Tables, request: &Request) -> usize {
+    /// The answer and the role.
+    fn step_telling(tables: &mut Tables, request: &Request) -> (usize, Option<usize>) {
         let answer = if sound(tables) {
             answer(request.call, met(tables, request))
         } else {
             1
         };
+        let role = told(tables, request, answer);
         if answer == 0 {
             done(tables, request);
         }
-        answer
+        (answer, role)
+    }
+
+    fn step(tables: &mut Tables, request: &Request) -> usize {
+        step_telling(tables, request).0
+    }
+
+    /// A seat of level 3 holds roles 12 to 15. On the object 50 role 12 has execute, 13 read, 14 read and write, and 15
+    /// write; on the container 49, in which it lies, and on the root 12 and 15 have execute.
+    fn four_roles() -> Tables {
+        let mut tables = fresh(&NOBODY, 1);
+        for (entity, kind, parent) in [(49, CONTAINER, 48), (50, OBJECT, 49)] {
+            tables.entities[entity] = EntityRecord {
+                live: true,
+                kind,
+                parent,
+                name: 1,
+                ..EMPTY_ENTITY
+            };
+        }
+        tables.seats[12].live = true;
+        for (role, on_object, above) in [
+            (12, EXECUTE, EXECUTE),
+            (13, READ, 0),
+            (14, READ + WRITE, 0),
+            (15, WRITE, EXECUTE),
+        ] {
+            tables.seats[12].roles[role] = true;
+            tables.roles[role].live = true;
+            tables.roles[role].rights[50] = on_object;
+            tables.roles[role].rights[49] = above;
+            tables.roles[role].rights[48] = above;
+        }
+        assert!(sound(&tables));
+        tables
+    }
+
+    /// "The lowest-numbered held role that gives it, or that none does."
+    #[test]
+    fn the_check_of_a_right() {
+        let mut tables = four_roles();
+        let role = |tables: &Tables, entity, right| role_for(tables, 12, entity, right);
+        assert_eq!(role(&tables, 50, READ), Some(13));
+        assert_eq!(role(&tables, 50, WRITE), Some(14));
+        assert_eq!(role(&tables, 50, EXECUTE), Some(12));
+        assert_eq!(role(&tables, 50, OWN), None);
+        assert_eq!(role(&tables, 49, EXECUTE), Some(12));
+        assert_eq!(role(&tables, 49, READ), None);
+        tables.seats[12].roles[14] = false;
+        assert_eq!(role(&tables, 50, WRITE), Some(15));
+        // "Of at least e's level"; sound tables have no right for a lower role.
+        tables.seats[12].roles[0] = true;
+        tables.roles[0].rights[50] = READ;
+        assert_eq!(role(&tables, 50, READ), Some(13));
+        assert_eq!(role(&tables, 0, READ), Some(0));
+        assert!((0..16).all(|seat| seat == 12 || role_for(&tables, seat, 50, READ).is_none()));
+    }
+
+    #[test]
+    fn what_requests_tell() {
+        let mut tables = four_roles();
+        let named = [(Seat, 12), (Entity, 50)];
+        let mut ask = |call| step_telling(&mut tables, &Request::with(call, &named));
+        assert_eq!(ask(Close), (16, None));
+        assert_eq!(ask(Openr), (0, Some(13)));
+        assert_eq!(ask(Openr), (16, None));
+        assert_eq!(ask(Openw), (0, Some(14)));
+        assert_eq!(ask(Close), (0, None));
+        // Reaching has its own roles.
+        for (role, answer) in [(12, 0), (15, 13)] {
+            tables.seats[12].roles[role] = false;
+            let told = step_telling(&mut tables, &Request::with(Openr, &named));
+            assert_eq!(told, (answer, (answer == 0).then_some(13)));
+            tables.seats[12].reading[50] = false;
+        }
+        tables.edition = 3;
+        let openr = Request::with(Openr, &named);
+        assert_eq!(step_telling(&mut tables, &openr), (1, None));
     }
 
     #[test]

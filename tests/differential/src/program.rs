@@ -1,6 +1,7 @@
 //! The request program as the papers describe it, over the tables of `paper`: from the bytes of an input to what is
 //! to be printed for each line. Of the editions "the program uses 1" (document 02, A.13). It can be asked for another
-//! here, which the request program cannot: so one file serves for both.
+//! here, which the request program cannot: so one file serves for both. "The program prints as before" where a request
+//! tells a role (A.6); here the role can be printed too.
 
 use crate::marks;
 use crate::paper::{
@@ -66,6 +67,8 @@ pub enum What {
 pub struct Seen {
     pub what: What,
     pub answer: usize,
+    /// The role that is told, if one is.
+    pub role: Option<usize>,
 }
 
 pub struct Program {
@@ -153,10 +156,12 @@ impl Program {
             Read::Unreadable => Seen {
                 what: What::Unreadable,
                 answer: 17,
+                role: None,
             },
             Read::User(_) if self.shut => Seen {
                 what: What::User,
                 answer: 17,
+                role: None,
             },
             Read::User(numbers) => {
                 let at = |field: Field| numbers[field as usize];
@@ -176,12 +181,14 @@ impl Program {
                 Seen {
                     what: What::User,
                     answer: if in_range { 0 } else { 2 },
+                    role: None,
                 }
             }
             Read::Request(request) => {
                 self.shut = true;
                 let met = paper::met(&self.tables, &request);
                 let answer = paper::answer(request.call, met);
+                let role = paper::told(&self.tables, &request, answer);
                 // Only these two numbers look at labels.
                 let upper_half =
                     [4, 11].contains(&answer) && paper::done_in_lower_half(&self.tables, &request);
@@ -197,6 +204,7 @@ impl Program {
                         situations,
                     },
                     answer,
+                    role,
                 }
             }
         }
@@ -263,12 +271,25 @@ pub fn report_in(edition: usize, input: &[u8]) -> Report {
 
 impl Report {
     pub fn output(&self) -> Vec<u8> {
+        self.printed(|_| None)
+    }
+
+    /// With the role behind the answer where one is told, as `reference --roles` prints it.
+    pub fn output_with_roles(&self) -> Vec<u8> {
+        self.printed(|seen| seen.role)
+    }
+
+    fn printed(&self, role: fn(&Seen) -> Option<usize>) -> Vec<u8> {
         let mut text = String::from("line answer\n");
         if !self.names_good {
             text.push_str("1 17\n");
         }
         for (index, seen) in self.seen.iter().enumerate() {
-            text.push_str(&format!("{} {}\n", index + 2, seen.answer));
+            text.push_str(&format!("{} {}", index + 2, seen.answer));
+            if let Some(role) = role(seen) {
+                text.push_str(&format!(" {role}"));
+            }
+            text.push('\n');
         }
         text.into_bytes()
     }
@@ -424,6 +445,30 @@ mod tests {
         assert!(report.sound && report.users[0].ceiling == 3);
         let answers: Vec<usize> = report.seen.iter().map(|seen| seen.answer).collect();
         assert_eq!(answers, [0, 0, 13, 0, 0, 16, 0, 0, 0, 0, 10, 0]);
+    }
+
+    /// "The program prints as before" (document 02, A.6).
+    #[test]
+    fn roles() {
+        let lines = "user - 0 - - - - - 3 255 - 3\nlogin 12 0 - - - - - 0 0 - -\n\
+             take 12 - 12 - - - - - - - -\nopenr 12 - - 48 - - - - - - -\n\
+             openr 12 - - 48 - - - - - - -\ntake 12 - 0 - - - - - - - -\n\
+             openw 12 - - 0 - - - - - - -\nnothing\nclose 12 - - 0 - - - - - - -\n\
+             openr 12 - - 0 - - - - - - -\n";
+        let report = report(format!("{NAMES}{lines}").as_bytes());
+        let roles: Vec<Option<usize>> = report.seen.iter().map(|seen| seen.role).collect();
+        let (a, b) = (Some(12), Some(0));
+        let none = None;
+        assert_eq!(
+            roles,
+            [none, none, none, a, none, none, b, none, none, none]
+        );
+        let printed = "line answer\n2 0\n3 0\n4 0\n5 0\n6 16\n7 0\n8 0\n9 17\n10 0\n11 10\n";
+        assert_eq!(report.output(), printed.as_bytes());
+        let told = printed
+            .replace("\n5 0\n", "\n5 0 12\n")
+            .replace("\n8 0\n", "\n8 0 0\n");
+        assert_eq!(report.output_with_roles(), told.as_bytes());
     }
 
     #[test]

@@ -15,6 +15,9 @@ impl Writer {
             if self.reads_down() && self.random.chance(1, 10) {
                 self.read_down();
             }
+            if self.reads_down() && self.random.chance(1, 15) {
+                self.ways_in();
+            }
             match self.random.below(100) {
                 0..=3 => self.deepen(),
                 4..=6 => self.put_under_label(),
@@ -624,6 +627,72 @@ impl Writer {
             _ => false,
         };
         self.ask(Call::Openr, &read);
+    }
+
+    /// A sheet that a seat may open by several roles, which it takes in any order and some of which go again, so that
+    /// another one lets it in. The rights are given from a seat below, if there is such a one.
+    fn ways_in(&mut self) {
+        let owns = |t: &Tables, seat, e| {
+            paper::has_right(t, seat, e, paper::OWN)
+                && paper::seat_level(seat) >= paper::entity_level(e)
+        };
+        let seat = self.one_of(16, |t, seat| t.seats[seat].live);
+        let level = paper::seat_level(seat);
+        let sheet = self.one_of(64, |t, e| {
+            paper::dominates(t.seats[seat].label, t.entities[e].label)
+                && (0..4 * level).any(|owner| owns(t, owner, e))
+        });
+        let owner = self.one_of(16, |t, owner| {
+            paper::seat_level(owner) < level && owns(t, owner, sheet)
+        });
+        if !owns(self.tables(), owner, sheet) {
+            return;
+        }
+        let mut roles: Vec<usize> = (4 * paper::entity_level(sheet)..16).collect();
+        self.random.shuffle(&mut roles);
+        roles.truncate(self.random.between(2, 4));
+        let user = self.tables().seats[seat].user;
+        let give = |role, entity, rights| {
+            [
+                (Field::Seat, owner),
+                (Field::Role, role),
+                (Field::Entity, entity),
+                (Field::Rights, rights),
+            ]
+        };
+        for &role in &roles {
+            if !self.tables().roles[role].live {
+                self.wish(Call::Make, &[(Field::Role, role)]);
+            }
+            self.wish(Call::List, &[(Field::Role, role), (Field::User, user)]);
+            let rights = self.random.pick(&[1, 1, 2, 3, 3, 4]);
+            self.wish(Call::Grant, &give(role, sheet, rights));
+        }
+        self.random.shuffle(&mut roles);
+        for &role in &roles {
+            self.wish(Call::Take, &[(Field::Seat, seat), (Field::Role, role)]);
+        }
+        let mut at = sheet;
+        while !paper::is_root(at) {
+            at = self.tables().entities[at].parent;
+            let role = self.random.pick(&roles);
+            self.wish(Call::Grant, &give(role, at, paper::EXECUTE));
+        }
+        let opened = [(Field::Seat, seat), (Field::Entity, sheet)];
+        for _ in 0..3 {
+            self.ask(Call::Openr, &opened);
+            self.ask(Call::Openw, &opened);
+            self.wish(Call::Close, &opened);
+            let role = self.random.pick(&roles);
+            let rights = self.random.pick(&[1, 2, 3]);
+            let held = [(Field::Seat, seat), (Field::Role, role)];
+            match self.random.below(4) {
+                0 => self.wish(Call::Drop, &held),
+                1 => self.wish(Call::Take, &held),
+                2 => self.wish(Call::Revoke, &give(role, sheet, rights)),
+                _ => self.wish(Call::Grant, &give(role, sheet, rights)),
+            };
+        }
     }
 
     /// Hands rights on one entity to another role, and lets a seat with that role open it.

@@ -1,6 +1,8 @@
 //! "The upper part for a level L", and the isolation rule on two logs that have been run. Of document 02 it
-//! has A.13: "The edition joins the upper part, and the isolation rule speaks of both."
+//! has A.6: "The isolation rule's equal answers include the role"; and A.13: "The edition joins the upper
+//! part, and the isolation rule speaks of both."
 
+use crate::cases;
 use crate::logs::{Asked, Log, Ran};
 use crate::paper::{
     entity_level, role_level, seat_level, Field, Tables, EMPTY_ENTITY, EMPTY_ROLE, EMPTY_SEAT,
@@ -72,15 +74,25 @@ pub fn places(level: usize, log: &Log) -> Vec<usize> {
         .collect()
 }
 
+/// The answers that were found equal, and how many of them told a role.
+#[derive(Clone, Copy, Debug, PartialEq, Eq)]
+pub struct Equal {
+    pub answers: usize,
+    pub roles: usize,
+}
+
 /// The isolation rule on two logs with the same upper requests: equal upper parts, and equal answers of the
-/// upper requests that name only upper seats, roles and entities. Hands back how many answers were
-/// compared.
-pub fn isolated(level: usize, logs: [&Log; 2], runs: [&Ran; 2]) -> Result<usize, String> {
+/// upper requests that name only upper seats, roles and entities, the role included. What an upper read of
+/// a lower entity tells may differ.
+pub fn isolated(level: usize, logs: [&Log; 2], runs: [&Ran; 2]) -> Result<Equal, String> {
     let [first, second] = logs.map(|log| places(level, log));
     if first.len() != second.len() {
         return Err(String::from("the logs differ in their upper requests"));
     }
-    let mut compared = 0;
+    let mut equal = Equal {
+        answers: 0,
+        roles: 0,
+    };
     for (&one, &other) in first.iter().zip(&second) {
         let entry = &logs[0].entries[one];
         if entry.asked != logs[1].entries[other].asked {
@@ -89,11 +101,14 @@ pub fn isolated(level: usize, logs: [&Log; 2], runs: [&Ran; 2]) -> Result<usize,
         if !names_upper(level, &entry.asked) {
             continue;
         }
-        compared += 1;
-        let (answer, in_twin) = (runs[0].answers[one], runs[1].answers[other]);
-        if answer != in_twin {
-            return Err(format!("{}: {answer}, in the twin {in_twin}", entry.name));
+        let told = |run: &Ran, at: usize| (run.answers[at], run.roles[at]);
+        let (told, in_twin) = (told(runs[0], one), told(runs[1], other));
+        if told != in_twin {
+            let [told, in_twin] = [told, in_twin].map(|(answer, role)| cases::told(answer, role));
+            return Err(format!("{}: {told}, in the twin {in_twin}", entry.name));
         }
+        equal.answers += 1;
+        equal.roles += usize::from(told.1.is_some());
     }
     for (one, other) in runs[0].tables.iter().zip(&runs[1].tables) {
         let (one, other) = (upper(level, one), upper(level, other));
@@ -102,7 +117,7 @@ pub fn isolated(level: usize, logs: [&Log; 2], runs: [&Ran; 2]) -> Result<usize,
             return Err(format!("upper part, in the twin:{changes}"));
         }
     }
-    Ok(compared)
+    Ok(equal)
 }
 
 #[cfg(test)]
@@ -196,6 +211,7 @@ mod tests {
         };
         let ran = |answers: &[usize], tables: &Tables| Ran {
             answers: answers.to_vec(),
+            roles: vec![None; answers.len()],
             tables: vec![tables.clone()],
         };
         let check = |one: &[Asked], other: &[Asked], first: Ran, second: Ran| {
@@ -203,7 +219,8 @@ mod tests {
         };
         let (one, both) = (&[login][..], &[lower, login][..]);
         let answering = |answer| check(one, both, ran(&[4], &tables), ran(&[0, answer], &tables));
-        assert_eq!(answering(4), Ok(1));
+        let equal = |answers, roles| Ok(Equal { answers, roles });
+        assert_eq!(answering(4), equal(1, 0));
         assert!(answering(0).is_err());
         assert!(check(one, &[lower], ran(&[4], &tables), ran(&[4], &tables)).is_err());
         for change in [
@@ -213,6 +230,25 @@ mod tests {
             let mut changed = tables.clone();
             change(&mut changed);
             assert!(check(one, one, ran(&[0], &tables), ran(&[0], &changed)).is_err());
+        }
+        // The role of an upper open counts, unless what is opened is lower.
+        let openr = |entity| {
+            let named = [(Field::Seat, 12), (Field::Entity, entity)];
+            [request(Call::Openr, &named)]
+        };
+        let telling = |entity, roles: [Option<usize>; 2]| {
+            let runs = roles.map(|role| Ran {
+                roles: vec![role],
+                ..ran(&[0], &tables)
+            });
+            let [first, second] = runs;
+            check(&openr(entity), &openr(entity), first, second)
+        };
+        assert_eq!(telling(48, [Some(12), Some(12)]), equal(1, 1));
+        assert_eq!(telling(48, [None, None]), equal(1, 0));
+        for roles in [[Some(12), Some(13)], [None, Some(12)], [Some(0), None]] {
+            assert!(telling(48, roles).is_err());
+            assert_eq!(telling(47, roles), equal(0, 0));
         }
     }
 }

@@ -1,12 +1,13 @@
 //! The access guard of document 01 in plain Rust, with the categories, the
-//! shared drawers and the editions of document 02, A.1, A.2 and A.13: the tables
-//! are changed in place, sets are bit sets and no request touches the heap. It
-//! follows the papers alone and shares no line with the proved guard, so that the
-//! two can be held against each other.
+//! shared drawers, the role told and the editions of document 02, A.1, A.2, A.6
+//! and A.13: the tables are changed in place, sets are bit sets and no request
+//! touches the heap. It follows the papers alone and shares no line with the
+//! proved guard, so that the two can be held against each other.
 //!
 //! Numbers handed back are those of the paper: 0 for done, otherwise the
 //! refusal. The refusals of a request stand in the order in which they are
-//! looked at, the lowest first.
+//! looked at, the lowest first. Beside the 0 of an open stands the role that let
+//! the seat in.
 
 #[cfg(test)]
 mod tests;
@@ -161,6 +162,42 @@ pub struct Request {
     pub shared: u32,
 }
 
+/// What a request hands back. "Accepted openr and openw hand back, beside the 0,
+/// the role for read or write on the entity; all else .. hands back none"
+/// (document 02, A.6).
+#[derive(Clone, Copy, Debug, PartialEq, Eq)]
+pub enum Answer {
+    /// 0 for done or the refusal, and no role.
+    Plain(u8),
+    /// 0, and the role that let the seat in.
+    By(u8),
+}
+
+impl Answer {
+    #[inline]
+    pub fn number(self) -> u8 {
+        match self {
+            Answer::Plain(number) => number,
+            Answer::By(_) => 0,
+        }
+    }
+
+    #[inline]
+    pub fn role(self) -> Option<u8> {
+        match self {
+            Answer::Plain(_) => None,
+            Answer::By(role) => Some(role),
+        }
+    }
+}
+
+impl From<u8> for Answer {
+    #[inline]
+    fn from(number: u8) -> Answer {
+        Answer::Plain(number)
+    }
+}
+
 /// The integrity level of a seat or role, and that of an entity.
 pub fn level(seat_or_role: usize) -> usize {
     seat_or_role / 4
@@ -178,25 +215,25 @@ pub fn is_keeper(role: usize) -> bool {
     role.is_multiple_of(4)
 }
 
-/// The seventeen requests, by their numbers.
-const CALLS: [fn(&mut Tables, &Request) -> u8; 17] = [
-    Tables::login,
-    Tables::logout,
-    Tables::take,
-    Tables::drop,
+/// The seventeen requests, by their numbers. Those that open tell a role.
+const CALLS: [fn(&mut Tables, &Request) -> Answer; 17] = [
+    |t, r| t.login(r).into(),
+    |t, r| t.logout(r).into(),
+    |t, r| t.take(r).into(),
+    |t, r| t.drop(r).into(),
     Tables::openr,
     Tables::openw,
-    Tables::close,
-    Tables::create,
-    Tables::delete,
-    Tables::rename,
-    Tables::grant,
-    Tables::revoke,
-    Tables::list,
-    Tables::unlist,
-    Tables::make,
-    Tables::unmake,
-    Tables::share,
+    |t, r| t.close(r).into(),
+    |t, r| t.create(r).into(),
+    |t, r| t.delete(r).into(),
+    |t, r| t.rename(r).into(),
+    |t, r| t.grant(r).into(),
+    |t, r| t.revoke(r).into(),
+    |t, r| t.list(r).into(),
+    |t, r| t.unlist(r).into(),
+    |t, r| t.make(r).into(),
+    |t, r| t.unmake(r).into(),
+    |t, r| t.share(r).into(),
 ];
 
 /// Takes the number of a table's row, or leaves the request with 2.
@@ -204,7 +241,7 @@ macro_rules! row {
     ($number:expr, $rows:expr) => {{
         let number = $number as usize;
         if number >= $rows {
-            return 2;
+            return 2.into();
         }
         number
     }};
@@ -274,12 +311,12 @@ impl Tables {
         (tables, 0)
     }
 
-    /// Answers a request and does it when the answer is 0. The tables are
+    /// Answers a request and does it when the number is 0. The tables are
     /// tested first; unsound ones give 1.
     #[inline(never)]
-    pub fn step(&mut self, r: &Request) -> u8 {
+    pub fn step(&mut self, r: &Request) -> Answer {
         if !self.is_sound() {
-            return 1;
+            return 1.into();
         }
         self.act(r)
     }
@@ -287,10 +324,10 @@ impl Tables {
     /// As `step`, for tables that the caller knows to be sound: they are not
     /// tested, and on others nothing is promised.
     #[inline]
-    pub fn act(&mut self, r: &Request) -> u8 {
+    pub fn act(&mut self, r: &Request) -> Answer {
         match CALLS.get(r.call as usize) {
             Some(call) => call(self, r),
-            None => 2,
+            None => 2.into(),
         }
     }
 
@@ -361,56 +398,62 @@ impl Tables {
         0
     }
 
-    fn openr(&mut self, r: &Request) -> u8 {
+    fn openr(&mut self, r: &Request) -> Answer {
         let x = row!(r.seat, SEATS);
         let e = row!(r.entity, ENTITIES);
         let (seat, entity) = (&self.seats[x], &self.entities[e]);
         if !seat.live {
-            return 5;
+            return 5.into();
         }
         if !entity.live {
-            return 7;
+            return 7.into();
         }
         if self.edition == EDITION_1 && entity_level(e) < level(x) {
-            return 10;
+            return 10.into();
         }
         if !seat.label.dominates(entity.label) {
-            return 11;
+            return 11.into();
         }
-        if !self.has(seat.roles, READ, e) || !self.reaches(seat.roles, e) {
-            return 13;
+        let Some(role) = self.giving(seat.roles, READ, e) else {
+            return 13.into();
+        };
+        if !self.reaches(seat.roles, e) {
+            return 13.into();
         }
         if seat.reading >> e & 1 != 0 {
-            return 16;
+            return 16.into();
         }
         self.seats[x].reading |= 1 << e;
-        0
+        Answer::By(role)
     }
 
-    fn openw(&mut self, r: &Request) -> u8 {
+    fn openw(&mut self, r: &Request) -> Answer {
         let x = row!(r.seat, SEATS);
         let e = row!(r.entity, ENTITIES);
         let (seat, entity) = (&self.seats[x], &self.entities[e]);
         if !seat.live {
-            return 5;
+            return 5.into();
         }
         if !entity.live {
-            return 7;
+            return 7.into();
         }
         if level(x) < entity_level(e) {
-            return 10;
+            return 10.into();
         }
         if seat.label != entity.label {
-            return 11;
+            return 11.into();
         }
-        if !self.has(seat.roles, WRITE, e) || !self.reaches(seat.roles, e) {
-            return 13;
+        let Some(role) = self.giving(seat.roles, WRITE, e) else {
+            return 13.into();
+        };
+        if !self.reaches(seat.roles, e) {
+            return 13.into();
         }
         if seat.writing >> e & 1 != 0 {
-            return 16;
+            return 16.into();
         }
         self.seats[x].writing |= 1 << e;
-        0
+        Answer::By(role)
     }
 
     fn close(&mut self, r: &Request) -> u8 {
@@ -679,18 +722,26 @@ impl Tables {
         0
     }
 
-    /// Whether one of the roles, of at least the entity's level, has the right.
-    #[inline]
-    fn has(&self, roles: u16, right: u8, e: usize) -> bool {
+    /// Of the roles the lowest-numbered one, of at least the entity's level, that
+    /// has the right. "The check of a right now tells the lowest-numbered held
+    /// role that gives it, or that none does" (document 02, A.6).
+    #[inline(always)]
+    fn giving(&self, roles: u16, right: u8, e: usize) -> Option<u8> {
         let mut left = roles & (u16::MAX << (4 * entity_level(e)));
         while left != 0 {
-            let p = left.trailing_zeros() as usize;
-            if self.roles[p].rights[e] & right != 0 {
-                return true;
+            let p = left.trailing_zeros();
+            if self.roles[p as usize].rights[e] & right != 0 {
+                return Some(p as u8);
             }
             left &= left - 1;
         }
-        false
+        None
+    }
+
+    /// Whether one of the roles gives the right.
+    #[inline]
+    fn has(&self, roles: u16, right: u8, e: usize) -> bool {
+        self.giving(roles, right, e).is_some()
     }
 
     /// Whether the roles have execute on every container above the entity.

@@ -11,11 +11,15 @@
 //! "Tables carry an edition, chosen when built; the program uses 1" (A.13). With
 //! the words `--edition 2` this one uses 2, so that answers of that edition can be
 //! compared as well.
+//!
+//! "The program prints as before" where a request tells a role (A.6). With the
+//! word `--roles` this one prints the role behind the answer, so that it can be
+//! compared too.
 
 use std::io::{self, BufRead, ErrorKind, Read, Write};
 use std::process::ExitCode;
 
-use reference::{call, Request, Tables, UserRecord, EDITION_1, EDITION_2, USERS};
+use reference::{call, Answer, Request, Tables, UserRecord, EDITION_1, EDITION_2, ROLES, USERS};
 
 /// The number of the last line that is read, the names line being 1.
 const LAST_LINE: u32 = 65_535;
@@ -224,20 +228,45 @@ fn read_line<'a>(
     }
 }
 
-/// A row of the output behind the line's number, and its length.
-const ROW_ENDS: [([u8; 4], usize); 18] = {
-    let mut ends = [(*b" 0\n ", 3); 18];
-    let mut answer = 1;
-    while answer < 10 {
-        ends[answer].0[1] += answer as u8;
+/// The answers that there are, 0 for done among them.
+const ANSWERS: usize = 18;
+
+/// A row of the output behind the line's number, and its length: those of the
+/// answers, then those of the roles told beside a 0.
+const ROW_ENDS: [([u8; 8], usize); ANSWERS + ROLES] = {
+    let mut ends = [([0; 8], 0); ANSWERS + ROLES];
+    let mut answer = 0;
+    while answer < ANSWERS {
+        ends[answer] = row_end(&[answer]);
         answer += 1;
     }
-    while answer < 18 {
-        ends[answer] = ([b' ', b'1', b'0' + answer as u8 - 10, b'\n'], 4);
-        answer += 1;
+    let mut role = 0;
+    while role < ROLES {
+        ends[ANSWERS + role] = row_end(&[0, role]);
+        role += 1;
     }
     ends
 };
+
+/// Numbers below 100, a space before each.
+const fn row_end(numbers: &[usize]) -> ([u8; 8], usize) {
+    let mut end = [b' '; 8];
+    let mut length = 0;
+    let mut at = 0;
+    while at < numbers.len() {
+        let number = numbers[at];
+        length += 1;
+        if number >= 10 {
+            end[length] = b'0' + (number / 10) as u8;
+            length += 1;
+        }
+        end[length] = b'0' + (number % 10) as u8;
+        length += 1;
+        at += 1;
+    }
+    end[length] = b'\n';
+    (end, length + 1)
+}
 
 /// The answers not yet written out, and the number of the line to be answered
 /// next, as a number and in digits.
@@ -263,19 +292,19 @@ impl Answers {
         }
     }
 
-    /// Writes the answer to the present line and goes on to the next. The two
-    /// parts of a row are copied at their full widths; what stands behind them
-    /// is overwritten by what comes next.
+    /// Writes the row that ends so for the present line and goes on to the next.
+    /// The two parts of a row are copied at their full widths; what stands behind
+    /// them is overwritten by what comes next.
     #[inline(always)]
-    fn put(&mut self, answer: u8) -> io::Result<()> {
+    fn put(&mut self, end: usize) -> io::Result<()> {
         if self.filled > BLOCK - 16 {
             self.flush()?;
         }
         let mut at = self.filled;
         self.block[at..at + 8].copy_from_slice(&self.digits);
         at += self.length;
-        let (end, length) = ROW_ENDS[usize::from(answer)];
-        self.block[at..at + 4].copy_from_slice(&end);
+        let (end, length) = ROW_ENDS[end];
+        self.block[at..at + 8].copy_from_slice(&end);
         self.filled = at + length;
         self.next_line();
         Ok(())
@@ -314,11 +343,41 @@ impl Answers {
     }
 }
 
-struct Program {
+/// What the words behind the program's name ask for.
+struct Asked {
     /// Whether the tables are tested before each request.
     test_each: bool,
+    /// Whether roles are printed.
+    roles: bool,
     /// That of the tables.
     edition: u8,
+}
+
+impl Asked {
+    /// Nothing if a word is not known.
+    fn read(mut words: impl Iterator<Item = String>) -> Option<Asked> {
+        let mut asked = Asked {
+            test_each: false,
+            roles: false,
+            edition: EDITION_1,
+        };
+        while let Some(word) = words.next() {
+            match word.as_str() {
+                "--test-each" => asked.test_each = true,
+                "--roles" => asked.roles = true,
+                "--edition" => {
+                    words.next().filter(|edition| edition == "2")?;
+                    asked.edition = EDITION_2;
+                }
+                _ => return None,
+            }
+        }
+        Some(asked)
+    }
+}
+
+struct Program {
+    asked: Asked,
     /// Nothing before the names line has been read.
     columns: Option<Columns>,
     values: [u32; NAMES],
@@ -329,10 +388,9 @@ struct Program {
 }
 
 impl Program {
-    fn new(test_each: bool, edition: u8) -> Program {
+    fn new(asked: Asked) -> Program {
         Program {
-            test_each,
-            edition,
+            asked,
             columns: None,
             values: [0; NAMES],
             users: [UserRecord::default(); USERS],
@@ -361,7 +419,7 @@ impl Program {
         };
         let columns = &columns.fields[..columns.count];
         while !input.is_empty() {
-            let answer = match read_line(columns, input, &mut self.values) {
+            let end = match read_line(columns, input, &mut self.values) {
                 Ok(rest) => {
                     input = rest;
                     self.answer()
@@ -372,7 +430,7 @@ impl Program {
                     17
                 }
             };
-            self.answers.put(answer)?;
+            self.answers.put(end)?;
             if self.answers.line > LAST_LINE {
                 return Ok(false);
             }
@@ -380,9 +438,9 @@ impl Program {
         Ok(true)
     }
 
-    /// Answers the line whose values have been read.
+    /// Answers the line whose values have been read: the place of its row's end.
     #[inline]
-    fn answer(&mut self) -> u8 {
+    fn answer(&mut self) -> usize {
         if self.values[Call as usize] == SET_USER {
             return self.set_user();
         }
@@ -404,16 +462,20 @@ impl Program {
         };
         let tables = self
             .tables
-            .get_or_insert_with(|| Tables::fresh(&self.users, self.edition.into()).0);
-        if self.test_each {
+            .get_or_insert_with(|| Tables::fresh(&self.users, self.asked.edition.into()).0);
+        let answer = if self.asked.test_each {
             tables.step(&request)
         } else {
             tables.act(&request)
+        };
+        match answer {
+            Answer::By(role) if self.asked.roles => ANSWERS + usize::from(role),
+            _ => answer.number().into(),
         }
     }
 
     #[inline(never)]
-    fn set_user(&mut self) -> u8 {
+    fn set_user(&mut self) -> usize {
         if self.tables.is_some() {
             return 17;
         }
@@ -465,19 +527,11 @@ impl Program {
 }
 
 fn main() -> ExitCode {
-    let words: Vec<String> = std::env::args().skip(1).collect();
-    let words: Vec<&str> = words.iter().map(String::as_str).collect();
-    let (test_each, edition) = match words[..] {
-        [] => (false, EDITION_1),
-        ["--test-each"] => (true, EDITION_1),
-        ["--edition", "2"] => (false, EDITION_2),
-        ["--test-each", "--edition", "2"] => (true, EDITION_2),
-        _ => {
-            eprintln!("reference [--test-each] [--edition 2]");
-            return ExitCode::from(2);
-        }
+    let Some(asked) = Asked::read(std::env::args().skip(1)) else {
+        eprintln!("reference [--test-each] [--roles] [--edition 2]");
+        return ExitCode::from(2);
     };
-    match Program::new(test_each, edition).run() {
+    match Program::new(asked).run() {
         Ok(()) => ExitCode::SUCCESS,
         // Nobody reads the answers any more.
         Err(error) if error.kind() == ErrorKind::BrokenPipe => ExitCode::SUCCESS,

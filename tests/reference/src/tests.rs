@@ -181,16 +181,27 @@ fn share(seat: u32, entity: u32, shared: u32) -> Request {
 }
 
 /// Steps through the requests and asks for the answer of each; the tables stay
-/// sound, and a refusal leaves them as they were.
+/// sound, and a refusal leaves them as they were. "Accepted openr and openw" tell
+/// a role, and nothing else does.
 #[track_caller]
 fn run(tables: &mut Tables, requests: &[(Request, u8)]) {
     for (place, (request, answer)) in requests.iter().enumerate() {
         let before = tables.clone();
         let given = tables.step(request);
-        assert_eq!(given, *answer, "request {place}: {request:?}");
-        assert!(given == 0 || *tables == before, "request {place}");
+        let number = given.number();
+        assert_eq!(number, *answer, "request {place}: {request:?}");
+        assert!(number == 0 || *tables == before, "request {place}");
         assert!(tables.is_sound(), "request {place}");
+        let opened = number == 0 && [call::OPENR, call::OPENW].contains(&request.call);
+        assert_eq!(given.role().is_some(), opened, "request {place}");
     }
+}
+
+/// The open is done, and this role is told.
+#[track_caller]
+fn opens(tables: &mut Tables, request: Request, role: u8) {
+    assert_eq!(tables.step(&request), Answer::By(role), "{request:?}");
+    assert!(tables.is_sound());
 }
 
 /// The morning's tables with seat 12 (user 0, label 0/0) holding role 12 and
@@ -1002,7 +1013,7 @@ fn unsound_tables_give_1() {
         change(&mut changed);
         let before = changed.clone();
         for request in [logout(12), logout(16), share(12, 48, 1), of(17, 0)] {
-            assert_eq!(changed.step(&request), 1, "change {place}");
+            assert_eq!(changed.step(&request), Answer::Plain(1), "change {place}");
         }
         assert_eq!(changed, before);
     }
@@ -1039,7 +1050,7 @@ fn what_soundness_does_not_ask() {
         let mut changed = full();
         change(&mut changed);
         assert!(changed.is_sound(), "change {place}");
-        assert_eq!(changed.step(&logout(12)), 0);
+        assert_eq!(changed.step(&logout(12)), Answer::Plain(0));
     }
 }
 
@@ -1087,7 +1098,7 @@ fn other_editions_give_1() {
         assert!(!tables.is_sound());
         let before = tables.clone();
         for request in &requests {
-            assert_eq!(tables.step(request), 1);
+            assert_eq!(tables.step(request), Answer::Plain(1));
         }
         assert_eq!(tables, before);
     }
@@ -1299,7 +1310,7 @@ fn soundness_of_reads_down() {
     assert!(!tables.is_sound());
     let before = tables.clone();
     for request in &requests {
-        assert_eq!(tables.step(request), 1);
+        assert_eq!(tables.step(request), Answer::Plain(1));
     }
     assert_eq!(tables, before);
     tables.edition = 2;
@@ -1326,7 +1337,7 @@ fn soundness_of_reads_down() {
         let mut changed = counter(2);
         change(&mut changed);
         assert!(!changed.is_sound(), "change {place}");
-        assert_eq!(changed.step(&logout(15)), 1);
+        assert_eq!(changed.step(&logout(15)), Answer::Plain(1));
     }
 }
 
@@ -1353,6 +1364,226 @@ fn no_request_changes_the_edition() {
                 };
                 tables.step(&request);
                 assert_eq!(tables.edition, edition);
+            }
+        }
+    }
+}
+
+/// As `at_work`, with roles 13, 14 and 15, for which user 0 is listed. In root 48 is
+/// the container 49, with all rights for role 12, and in it the object 50, with own
+/// for role 12.
+fn four_roles() -> Tables {
+    let mut tables = at_work();
+    run(
+        &mut tables,
+        &[
+            (create(12, 49, CONTAINER, 48, 1, 12), 0),
+            (grant(12, 12, 49, 15), 0),
+            (openw(12, 49), 0),
+            (create(12, 50, OBJECT, 49, 1, 12), 0),
+        ],
+    );
+    for role in [13, 14, 15] {
+        run(&mut tables, &[(make(12, role), 0), (list(12, role, 0), 0)]);
+    }
+    tables
+}
+
+#[test]
+fn the_lowest_numbered_role_is_told() {
+    let mut tables = four_roles();
+    run(
+        &mut tables,
+        &[
+            (grant(12, 13, 50, 3), 0),
+            (grant(12, 14, 50, 3), 0),
+            (grant(12, 15, 50, 3), 0),
+            // The highest first.
+            (take(12, 15), 0),
+        ],
+    );
+    opens(&mut tables, openr(12, 50), 15);
+    opens(&mut tables, openw(12, 50), 15);
+    run(&mut tables, &[(close(12, 50), 0), (take(12, 13), 0)]);
+    opens(&mut tables, openr(12, 50), 13);
+    opens(&mut tables, openw(12, 50), 13);
+    // One between them changes nothing.
+    run(&mut tables, &[(close(12, 50), 0), (take(12, 14), 0)]);
+    opens(&mut tables, openr(12, 50), 13);
+    opens(&mut tables, openw(12, 50), 13);
+    // The next one, when the right goes and when the role goes.
+    run(
+        &mut tables,
+        &[(close(12, 50), 0), (revoke(12, 13, 50, 1), 0)],
+    );
+    opens(&mut tables, openr(12, 50), 14);
+    opens(&mut tables, openw(12, 50), 13);
+    run(&mut tables, &[(close(12, 50), 0), (drop(12, 13), 0)]);
+    opens(&mut tables, openw(12, 50), 14);
+    run(&mut tables, &[(close(12, 50), 0), (unmake(12, 14), 0)]);
+    opens(&mut tables, openr(12, 50), 15);
+    // That a lower-numbered one has the right counts for those who hold it.
+    run(
+        &mut tables,
+        &[(close(12, 50), 0), (grant(12, 13, 50, 15), 0)],
+    );
+    opens(&mut tables, openr(12, 50), 15);
+    opens(&mut tables, openw(12, 50), 15);
+}
+
+#[test]
+fn the_role_is_that_of_the_right_asked() {
+    let mut tables = four_roles();
+    run(
+        &mut tables,
+        &[
+            (take(12, 13), 0),
+            (take(12, 14), 0),
+            (take(12, 15), 0),
+            (grant(12, 13, 50, 1), 0),
+            (grant(12, 14, 50, 12), 0),
+            (grant(12, 15, 50, 2), 0),
+        ],
+    );
+    // Role 12 owns it, and 14 owns and executes it.
+    opens(&mut tables, openr(12, 50), 13);
+    opens(&mut tables, openw(12, 50), 15);
+    run(
+        &mut tables,
+        &[
+            (close(12, 50), 0),
+            (revoke(12, 13, 50, 1), 0),
+            (grant(12, 13, 50, 2), 0),
+            (grant(12, 15, 50, 1), 0),
+        ],
+    );
+    opens(&mut tables, openr(12, 50), 15);
+    opens(&mut tables, openw(12, 50), 13);
+}
+
+#[test]
+fn roles_that_only_reach_are_not_told() {
+    let mut tables = four_roles();
+    run(
+        &mut tables,
+        &[
+            (grant(12, 13, 48, 4), 0),
+            (grant(12, 14, 49, 7), 0),
+            (grant(12, 15, 50, 3), 0),
+            (login(13, 0, 0, 0), 0),
+            (take(13, 15), 0),
+            (openr(13, 50), 13),
+            (take(13, 14), 0),
+            (openr(13, 50), 13),
+            (openw(13, 50), 13),
+            (take(13, 13), 0),
+        ],
+    );
+    // 13 executes the root, 14 has all but own on the container, 15 reads the object.
+    opens(&mut tables, openr(13, 50), 15);
+    opens(&mut tables, openw(13, 50), 15);
+    opens(&mut tables, openr(13, 49), 14);
+    run(&mut tables, &[(openr(13, 48), 13)]);
+}
+
+#[test]
+fn role_0_is_a_role() {
+    let mut tables = morning();
+    run(&mut tables, &[(login(0, 0, 0, 0), 0), (take(0, 0), 0)]);
+    assert_eq!(tables.step(&openr(0, 0)).role(), Some(0));
+    assert_eq!(tables.step(&openr(0, 0)), Answer::Plain(16));
+    opens(&mut tables, openw(0, 0), 0);
+    // Before any other that gives the right.
+    run(
+        &mut tables,
+        &[(close(0, 0), 0), (take(0, 4), 0), (grant(0, 4, 0, 3), 0)],
+    );
+    opens(&mut tables, openr(0, 0), 0);
+    opens(&mut tables, openw(0, 0), 0);
+    run(&mut tables, &[(close(0, 0), 0), (drop(0, 0), 0)]);
+    opens(&mut tables, openr(0, 0), 4);
+}
+
+#[test]
+fn what_tells_no_role() {
+    // Refusals of an open, for each of which a role has the right.
+    let mut tables = four_roles();
+    run(
+        &mut tables,
+        &[
+            (grant(12, 12, 50, 7), 0),
+            (openr(12, 50), 0),
+            (openw(12, 50), 0),
+            (login(0, 0, 0, 0), 0),
+            (take(0, 12), 0),
+            (login(13, 0, 1, 1), 0),
+            (take(13, 12), 0),
+            (take(12, 0), 0),
+        ],
+    );
+    for (request, answer) in [
+        (openr(12, 50), 16),
+        (openw(12, 50), 16),
+        (openw(0, 50), 10),
+        (openr(12, 0), 10),
+        (openw(13, 50), 11),
+        (openr(12, 64), 2),
+        (openr(14, 50), 5),
+        (openw(12, 51), 7),
+    ] {
+        assert_eq!(tables.step(&request), Answer::Plain(answer));
+    }
+    run(
+        &mut tables,
+        &[(close(12, 50), 0), (revoke(12, 12, 49, 4), 0)],
+    );
+    assert_eq!(tables.step(&openr(12, 50)), Answer::Plain(13));
+    assert_eq!(tables.step(&openw(12, 50)), Answer::Plain(13));
+    // Every other request, done.
+    run(
+        &mut tables,
+        &[(grant(12, 12, 49, 4), 0), (openr(12, 50), 0)],
+    );
+    for request in [
+        close(12, 50),
+        grant(12, 12, 50, 1),
+        revoke(12, 12, 50, 1),
+        create(12, 51, CONTAINER, 49, 2, 12),
+        share(12, 51, 1),
+        rename(12, 51, 3),
+        delete(12, 51),
+        unlist(12, 15, 0),
+        list(12, 15, 0),
+        take(12, 15),
+        drop(12, 15),
+        unmake(12, 15),
+        make(12, 15),
+        logout(12),
+        login(12, 0, 0, 0),
+    ] {
+        assert_eq!(tables.step(&request), Answer::Plain(0), "{request:?}");
+    }
+    assert_eq!(tables.step(&of(17, 12)), Answer::Plain(2));
+    // Unsound tables.
+    tables.edition = 3;
+    assert_eq!(tables.step(&openr(12, 48)), Answer::Plain(1));
+}
+
+/// A seat of each level that holds every keeper, at the root of each level: the
+/// keeper of the root's level is told.
+#[test]
+fn the_role_told_for_each_pair_of_levels() {
+    for seat_level in 0..4 {
+        for entity_level in 0..4 {
+            let mut tables = morning_in(2);
+            let (x, root) = (4 * seat_level, 16 * entity_level);
+            run(&mut tables, &[(login(x, 0, 0, 0), 0)]);
+            for keeper in [12, 8, 4, 0] {
+                run(&mut tables, &[(take(x, keeper), 0)]);
+            }
+            opens(&mut tables, openr(x, root), 4 * entity_level as u8);
+            if entity_level <= seat_level {
+                opens(&mut tables, openw(x, root), 4 * entity_level as u8);
             }
         }
     }

@@ -542,9 +542,72 @@ openr 0 - - 48 - - - - - - -
     }
 }
 
+/// "The program prints as before" (document 02, A.6).
+#[test]
+fn roles() {
+    let lines = "\
+user - 0 - - - - - 3 255 - 3
+login 12 0 - - - - - 0 0 - -
+take 12 - 12 - - - - - - - -
+take 12 - 0 - - - - - - - -
+openw 12 - - 48 - - - - - - -
+openw 12 - - 48 - - - - - - -
+openw 12 - - 0 - - - - - - -
+nothing
+openr 12 - - 0 - - - - - - -
+openr 12 - - 48 - - - - - - -
+close 12 - - 48 - - - - - - -
+take 12 - 4 - - - - - - - -
+openw 12 - - 16 - - - - - - -
+";
+    let input = format!("{NAMES}\n{lines}");
+    let plain = "line answer\n2 0\n3 0\n4 0\n5 0\n6 0\n7 16\n8 0\n9 17\n10 10\n\
+                 11 0\n12 0\n13 0\n14 0\n";
+    assert_eq!(run(input.as_bytes()), plain);
+    let told = plain
+        .replace("\n6 0\n", "\n6 0 12\n")
+        .replace("\n8 0\n", "\n8 0 0\n")
+        .replace("\n11 0\n", "\n11 0 12\n")
+        .replace("\n14 0\n", "\n14 0 4\n");
+    for words in [&["--roles"][..], &["--test-each", "--roles"]] {
+        assert_eq!(run_with(words, input.as_bytes()), told);
+    }
+    let reading_down = told.replace("\n10 10\n", "\n10 0 0\n");
+    for words in [
+        &["--roles", "--edition", "2"][..],
+        &["--test-each", "--edition", "2", "--roles"],
+    ] {
+        assert_eq!(run_with(words, input.as_bytes()), reading_down);
+    }
+}
+
+/// Rows of all lengths, up to the last line.
+#[test]
+fn roles_on_every_second_line() {
+    let opening = "\
+user - 0 - - - - - 3 255 - 3
+login 12 0 - - - - - 0 0 - -
+take 12 - 12 - - - - - - - -
+";
+    let twice = "openr 12 - - 48 - - - - - - -\nclose 12 - - 48 - - - - - - -\n";
+    let input = format!("{NAMES}\n{opening}{}", twice.repeat(33_000));
+    let mut output = String::from("line answer\n2 0\n3 0\n4 0\n");
+    for line in 5..=65_535 {
+        let role = if line % 2 == 1 { " 12" } else { "" };
+        output += &format!("{line} 0{role}\n");
+    }
+    assert_eq!(run_with(&["--roles"], input.as_bytes()), output);
+}
+
 #[test]
 fn words_that_are_not_known() {
-    for words in [&["--edition"][..], &["--edition", "3"], &["--other"]] {
+    for words in [
+        &["--edition"][..],
+        &["--edition", "3"],
+        &["--edition", "2", "2"],
+        &["--other"],
+        &["--role"],
+    ] {
         let output = Command::new(env!("CARGO_BIN_EXE_reference"))
             .args(words)
             .stdin(Stdio::null())

@@ -2,7 +2,8 @@
 --     withEdition                   the same records in an edition
 --     next-edition, run-edition     tables have the edition after a request, and after a log, that they had before it
 --     sound-in-2                    sound in edition 1: sound in edition 2
---     editions-agree                a request other than an openr of what is below its seat is answered alike in both, and does the same
+--     editions-agree                a request other than an openr of what is below its seat is answered alike in both, tells the same
+--                                   role, and does the same
 --     openr-never-10                openr has no condition 10 in edition 2
 -- Assumes nothing.
 use Prim.Native.Nat.{ℕ}
@@ -14,14 +15,14 @@ use lib.ListN.{getD}
 use borrow.Author.Tests.{eqb-false}
 use Rattle.bitset.specs.Tests.{every}
 use Rattle.bitset.specs.Tests.Laws.{clash, every-i, every-at, implies-i}
-use Rattle.guard.specs.Tables.{edition1, edition2, hasRight, isChild}
+use Rattle.guard.specs.Tables.{edition1, edition2, roleFor, hasRight, isChild}
 use Rattle.guard.specs.Chain.{reaches}
 use Rattle.guard.specs.Sound.{sound, editionInRange}
 use Rattle.guard.specs.Edits.{atSession, atRole, atEntity, eachSession, eachRole}
 use Rattle.guard.specs.Conditions.{entityBelowSeat, userTooLow, createOutOfLevel, grantBelow, cannotOpen, cannotChangeIn, cannotChange, notOpen, nameTaken, hasChildren}
 use Rattle.guard.specs.Requests.{Rule, login, logout, take, drop, openr, openw, close, create, delete, rename, grant, revoke, list, unlist, make, unmake, share, unknown, rules, ruleOf}
 use Rattle.guard.specs.Kind as kind
-use Rattle.guard.specs.Step.{answer, answerIn, next, nextIn, run, runIn}
+use Rattle.guard.specs.Step.{answer, answerIn, next, nextIn, roleOpening, roleTold, roleToldIn, run, runIn}
 use Rattle.guard.specs.declared.Tables.{Tables}
 use Rattle.guard.specs.declared.Request.{Request}
 use Rattle.guard.proofs.Laws.Sound.{sound-e, sound-i}
@@ -97,7 +98,7 @@ module _ (t : Tables) (q : Request) where
   Alike n rule = (n ≡ kind.openr → entityBelowSeat t q ≡ false) → rule .refusals (withEdition edition1 t) q ≡ rule .refusals (withEdition edition2 t) q
 
   each-alike : EachAt Alike rules
-  unfolding rules login logout take drop openr openw close create delete rename grant revoke list unlist make unmake share userTooLow createOutOfLevel grantBelow cannotOpen cannotChangeIn cannotChange notOpen nameTaken hasChildren hasRight isChild reaches every
+  unfolding rules login logout take drop openr openw close create delete rename grant revoke list unlist make unmake share userTooLow createOutOfLevel grantBelow cannotOpen cannotChangeIn cannotChange notOpen nameTaken hasChildren roleFor hasRight isChild reaches every
   each-alike = (λ h. refl, (λ h. refl, (λ h. refl, (λ h. refl, (λ h. rw (h refl), (λ h. refl, (λ h. refl, (λ h. refl, (λ h. refl, (λ h. refl, (λ h. refl, (λ h. refl, (λ h. refl, (λ h. refl, (λ h. refl, (λ h. refl, (λ h. refl, tt)))))))))))))))))
 
   unknown-alike : (n : ℕ) → Alike n unknown
@@ -111,9 +112,11 @@ module _ (t : Tables) (q : Request) where
 
   pub editions-agree : sound (withEdition edition1 t) ≡ true → (q .call ≡ kind.openr → entityBelowSeat t q ≡ false)
       → (answer (withEdition edition1 t) q ≡ answer (withEdition edition2 t) q)
+      × (roleTold (withEdition edition1 t) q ≡ roleTold (withEdition edition2 t) q)
       × (next (withEdition edition1 t) q ≡ withEdition edition1 (next (withEdition edition2 t) q))
-  unfolding nextIn
-  editions-agree h above = (answers-agree h above, rw (answers-agree h above) (go (eqb (answer (withEdition edition2 t) q) 0)))
+  unfolding nextIn roleToldIn roleOpening roleFor
+  editions-agree h above =
+      (answers-agree h above, rw (answers-agree h above), rw (answers-agree h above) (go (eqb (answer (withEdition edition2 t) q) 0)))
     where
       go : (b : Bool)
           → cond b (ruleOf q .effect q (withEdition edition1 t)) (withEdition edition1 t)

@@ -17,9 +17,10 @@ use Rattle.guard.specs.Private.InForce.{sessionInRange, entityInRange, f
 use Rattle.guard.specs.declared.User.{User}
 use Rattle.guard.specs.declared.Tables.{Tables}
 use Rattle.guard.specs.declared.Outcome.{Outcome}
+use Rattle.guard.specs.declared.Told.the-variants.{None}
 
 abbrev outcome : Tables → ℕ → Outcome
-outcome t n = record { tables = t; answer = n }
+outcome t n = record { tables = t; answer = n; role = None }
 
 -- all that soundness asks beside the users and the edition does not look at them: by computing
 module _ (us : List User) (edition : ℕ) where

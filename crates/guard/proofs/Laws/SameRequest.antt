@@ -1,26 +1,29 @@
 -- Requests that ask the same.
 --     Reads, each-reads           each rule: its refusals and its effect read no other fields than those that it uses
---     same-answer, same-next      two requests that ask the same have one answer and leave one next tables
+--     same-answer, same-next, same-role      two requests that ask the same have one answer, leave one next tables and tell one role
 --     same-rule, same-fields, same-seat, map-same      they have one rule and one seat, and agree in each field that it uses
 --     unused-fields               "Fields that a request does not use are not looked at": they have one step, from every tables
 --     same-refl, same-refls       a request asks the same as itself, and so does a log
 -- Assumes nothing.
 use Prim.Native.Nat.{ℕ}
-use mathlib.Core.Path.{_≡_, refl, ap₂}
-use mathlib.Core.Bool.{Bool, true}
+use mathlib.Core.Path.{_≡_, refl, ap₂, _∙_}
+use mathlib.Core.Bool.{Bool, true, false, cond}
 use mathlib.Core.List.{List, [], _∷_, map}
 use lib.Dec.{eqb}
 use borrow.Author.Tests.{eqb-true, eq-eqb}
 use Rattle.bitset.specs.Tests.Laws as tests
 use Rattle.bitset.specs.Tests.Laws.{every-i, every-e, every-at}
 use Rattle.guard.specs.Label.{sameLabel}
+use Rattle.guard.specs.Tables.{read, write, roleFor}
 use Rattle.guard.specs.Conditions.{userTooLow, createOutOfLevel, grantBelow, cannotOpen, cannotChangeIn, cannotChange, notOpen, nameTaken, hasChildren}
 use Rattle.guard.specs.Requests.{Rule, Field, call, seat, user, role, entity, parent, kind, name, label, rights, shared, fieldInRangeIn, loggedIn, created, login, logout, take, drop, openr, openw, close, create, delete, rename, grant, revoke, list, unlist, make, unmake, share, unknown, rules, ruleOf}
-use Rattle.guard.specs.Step.{inRangesIn, answer, answerIn, next, nextIn, step}
+use Rattle.guard.specs.Step.{inRangesIn, answer, answerIn, next, nextIn, roleOpening, roleTold, roleToldIn, step}
+use Rattle.guard.specs.Kind as kinds
 use Rattle.guard.specs.SameRequest.{sameField, sameRequest, sameRequests}
 use Rattle.guard.specs.Private.InForce.{fieldInRange}
 use Rattle.guard.specs.declared.Tables.{Tables}
 use Rattle.guard.specs.declared.Request.{Request}
+use Rattle.guard.specs.declared.Told.the-variants.{None}
 use Rattle.guard.proofs.Laws.Step.{Each, each-rule}
 
 -- ---- the fields, as equations
@@ -190,10 +193,38 @@ module _ (p q : Request) (same : sameRequest p q ≡ true) where
   unfolding nextIn
   same-next t = rw (same-rule, same-answer t, reads p p q same-fields .2 t)
 
+  -- openr and openw use the entity
+  same-opened : p .call ≡ kinds.openr → p .entity ≡ q .entity
+  unfolding ruleOf rules openr
+  same-opened h = (rw h at same-fields) .1 .0
+
+  same-written : p .call ≡ kinds.openw → p .entity ≡ q .entity
+  unfolding ruleOf rules openw
+  same-written h = (rw h at same-fields) .1 .0
+
+  same-opening : (t : Tables) → roleOpening t p ≡ roleOpening t q
+  unfolding roleOpening sameRequest
+  same-opening t =
+      rw (eqb-true (p .call) (q .call) (every-at _ same 0), same-seat) (go (eqb (q .call) kinds.openr) refl (eqb (q .call) kinds.openw) refl)
+    where
+      call-is : p .call ≡ q .call
+      call-is = eqb-true (p .call) (q .call) (every-at _ same 0)
+
+      go : (r : Bool) → eqb (q .call) kinds.openr ≡ r → (w : Bool) → eqb (q .call) kinds.openw ≡ w
+          → cond r (roleFor t (q .seat) read (p .entity)) (cond w (roleFor t (q .seat) write (p .entity)) None)
+          ≡ cond r (roleFor t (q .seat) read (q .entity)) (cond w (roleFor t (q .seat) write (q .entity)) None)
+      go true h w k = rw (same-opened (call-is ∙ eqb-true _ _ h))
+      go false h true k = rw (same-written (call-is ∙ eqb-true _ _ k))
+      go false h false k = refl
+
+  pub same-role : (t : Tables) → roleTold t p ≡ roleTold t q
+  unfolding roleToldIn
+  same-role t = rw (same-answer t, same-opening t)
+
 -- Fields that a request does not use are not looked at.
 pub unused-fields : (p q : Request) → sameRequest p q ≡ true → (t : Tables) → step t p ≡ step t q
 unfolding step
-unused-fields p q same t = rw (same-answer p q same t, same-next p q same t)
+unused-fields p q same t = rw (same-answer p q same t, same-next p q same t, same-role p q same t)
 
 -- ---- a request asks the same as itself
 itself : (n : ℕ) → eqb n n ≡ true

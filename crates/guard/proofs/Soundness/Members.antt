@@ -1,6 +1,6 @@
 -- A loop over the members of a set, lowest first, each taken out of what is left.
 --     has-half                                           half of a set has its members but 0, counted from 1
---     lowest                                             trailing zeros tell the lowest member
+--     lowest, none-lower                                 trailing zeros tell the lowest member
 --     without-less                                       one member less is a smaller number
 --     members-next, members-miss, members-none           a test of each member, along the loop
 --     within-mask                                        a mask test is the test of each member
@@ -40,6 +40,20 @@ lowest (suc d) q h l = go (q % 2) refl (λ even. lowest d (q / 2) (omega arith) 
         → (under (q % 2) (trailingZeros d (q / 2)) < suc d) × (has q (under (q % 2) (trailingZeros d (q / 2))) ≡ true)
     go zero e f = let (a, b) = f e in rw e (omega arith, sym (has-half q _) ∙ b)
     go (suc r) e f = rw e (omega arith, odd q r e)
+
+even : (q : ℕ) → q % 2 ≡ 0 → has q 0 ≡ false
+unfolding has
+even q h = rw div-one (ne-eqb (q % 2) 1 (λ one. omega arith))
+
+pub none-lower : (d q i : ℕ) → i < trailingZeros d q → has q i ≡ false
+unfolding trailingZeros
+none-lower zero q i l = absurd (omega arith)
+none-lower (suc d) q i l = go (q % 2) refl i (none-lower d (q / 2)) l
+  where
+    go : (r : ℕ) → q % 2 ≡ r → (i : ℕ) → ((j : ℕ) → j < trailingZeros d (q / 2) → has (q / 2) j ≡ false) → i < under r (trailingZeros d (q / 2)) → has q i ≡ false
+    go zero e zero f l = even q e
+    go zero e (suc j) f l = sym (has-half q j) ∙ f j (omega arith)
+    go (suc r) e i f l = absurd (omega arith)
 
 pub without-less : (s i : ℕ) → has s i ≡ true → without s i < s
 without-less s i h = go (ℕ-discrete (without s i) s)

@@ -11,6 +11,7 @@ use lib.ListN.{length, getD}
 use Rattle.bitset.specs.Tests.{every, some}
 use Rattle.bitset.specs.Sets.{has, without}
 use Rattle.guard.specs.Level.{roleCount, entityCount, entitiesPerLevel}
+use Rattle.guard.specs.Told.{lowest, roleByte}
 use Rattle.guard.specs.Tables.{noRole, noEntity}
 use Rattle.guard.specs.Chain.{climbs}
 use Rattle.guard.specs.Private.Tested.{keyOf, parentByKey}
@@ -19,6 +20,8 @@ use Rattle.guard.specs.Kind as kind
 use Rattle.guard.specs.declared.Role.{Role}
 use Rattle.guard.specs.declared.Entity.{Entity}
 use Rattle.guard.specs.declared.Request.{Request}
+use Rattle.guard.specs.declared.Told.{Told}
+use Rattle.guard.specs.declared.Told.the-variants.{By, None}
 use Rattle.guard.specs.declared.scan.Rights.{Rights}
 use Rattle.guard.specs.declared.scan.Found.{Found}
 
@@ -46,9 +49,29 @@ pub record Cleared (old : List ℕ) (e : ℕ) (new : List ℕ) : Type 0 where
   pub each : (j : ℕ) → j < 4 * roleCount → getD new j 0 ≡ without (getD old j 0) e
 
 -- ---- the scans
+-- r is one of the roles held, and has the right k on e
+abbrev pub gives : List ℕ → ℕ → ℕ → ℕ → ℕ → Bool
+gives grants held k e r = every (has held r ∷ has (getD grants (4 * r + k) 0) e ∷ [])
+
 -- one of the roles held has the right k on e
 unfoldable pub given : List ℕ → ℕ → ℕ → ℕ → Bool
-given grants held k e = some roleCount (λ r. every (has held r ∷ has (getD grants (4 * r + k) 0) e ∷ []))
+given grants held k e = some roleCount (gives grants held k e)
+
+-- r is the lowest member of a set of roles
+pub record First (set r : ℕ) : Type 0 where
+  pub none : (i : ℕ) → i < r → has set i ≡ false
+  pub member : has set r ≡ true
+  pub small : r < roleCount
+
+-- which one an accepted request of that kind tells
+unfoldable pub openedBy : List ℕ → ℕ → ℕ → ℕ → Told
+openedBy grants call held e =
+    cond (eqb call kind.openr) (lowest roleCount (gives grants held 0 e))
+    (cond (eqb call kind.openw) (lowest roleCount (gives grants held 1 e)) None)
+
+-- what a byte of a batch tells
+unfoldable pub readByte : ℕ → Told
+readByte b = cond (eqb b (roleByte None)) None (By b)
 
 pub record Gathered (grants : List ℕ) (held : ℕ) (g : Rights) : Type 0 where
   pub reads : (e : ℕ) → has (g .reads) e ≡ given grants held 0 e

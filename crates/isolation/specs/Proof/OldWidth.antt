@@ -20,7 +20,7 @@ use Rattle.guard.specs.Level.{entityCount}
 use Rattle.guard.specs.Tables.{noUser, noSession, noEntity, sessionAt, entityAt}
 use Rattle.guard.specs.Sound.{userInRangeIn, entityInRangeIn, usersInRangeIn, soundIn, sound}
 use Rattle.guard.specs.Requests.{Field, call, seat, user, role, entity, parent, kind, name, label, rights, shared, fieldInRangeIn, ruleOf}
-use Rattle.guard.specs.Step.{inRangesIn, answerIn, nextIn, answersIn, runIn, answer, next, answers, run}
+use Rattle.guard.specs.Step.{inRangesIn, answerIn, nextIn, roleToldIn, runIn, eachIn, answersIn, rolesToldIn, answer, next, roleTold, run, answers, rolesTold}
 use Rattle.guard.specs.Old.{userTaken, sessionTaken, entityTaken, takenOver}
 use Rattle.guard.specs.Private.InForce.{fieldInRange, inRanges}
 use Rattle.guard.specs.declared.Label.{Label}
@@ -29,6 +29,7 @@ use Rattle.guard.specs.declared.Session.{Session}
 use Rattle.guard.specs.declared.Entity.{Entity}
 use Rattle.guard.specs.declared.Tables.{Tables}
 use Rattle.guard.specs.declared.Request.{Request}
+use Rattle.guard.specs.declared.Told.{Told}
 use Rattle.guard.specs.declared.old.OldLabel.{OldLabel}
 use Rattle.guard.specs.declared.old.OldUser.{OldUser}
 use Rattle.guard.specs.declared.old.OldSession.{OldSession}
@@ -161,17 +162,27 @@ module _ (t : Tables) (ok : soundIn oldWidth t ≡ true) (q : Request) (within :
   unfolding nextIn
   same-next = rw same-answer
 
+  same-role : roleToldIn oldWidth t q ≡ roleTold t q
+  unfolding roleToldIn
+  same-role = rw same-answer
+
 -- ---- a log
 pub same-log : (t : Tables) → soundIn oldWidth t ≡ true → (log : List Request) → every (map (categoriesWithin oldWidth) log) ≡ true
-    → (answers t log ≡ answersIn oldWidth t log) × (run t log ≡ runIn oldWidth t log) × (soundIn oldWidth (run t log) ≡ true)
-unfolding answersIn runIn
-same-log t ok [] within = (refl, refl, ok)
+    → (answers t log ≡ answersIn oldWidth t log) × (rolesTold t log ≡ rolesToldIn oldWidth t log) × (run t log ≡ runIn oldWidth t log)
+    × (soundIn oldWidth (run t log) ≡ true)
+unfolding eachIn runIn
+same-log t ok [] within = (refl, refl, refl, ok)
 same-log t ok (q ∷ log) within =
     let (here, more) = every-e (categoriesWithin oldWidth q ∷ map (categoriesWithin oldWidth) log) within in
-    let (told, left, sound) = same-log (nextIn oldWidth t q) (sound-nextIn oldWidth t q ok) log (every-i _ more) in
+    let (told, roles, left, sound) = same-log (nextIn oldWidth t q) (sound-nextIn oldWidth t q ok) log (every-i _ more) in
     let next-is = same-next t ok q here in
     let answer-is = same-answer t ok q here in
-    (rw (sym answer-is, sym next-is) (ap (λ (l : List ℕ). answerIn oldWidth t q ∷ l) told), rw (sym next-is) left, rw (sym next-is) sound)
+    let role-is = same-role t ok q here in (
+      rw (sym answer-is, sym next-is) (ap (λ (l : List ℕ). answerIn oldWidth t q ∷ l) told),
+      rw (sym role-is, sym next-is) (ap (λ (l : List Told). roleToldIn oldWidth t q ∷ l) roles),
+      rw (sym next-is) left,
+      rw (sym next-is) sound,
+    )
 
 -- ---- tables as old ones, every number the same; old ones have no marks and no edition
 abbrev labelGiven : Label → OldLabel

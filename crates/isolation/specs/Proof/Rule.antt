@@ -1,28 +1,33 @@
 -- One request, and from it all logs.
---     lower-keeps, upper-agrees, upper-tells      what Log asks of one request
+--     lower-keeps, upper-agrees, upper-answers      what Log asks of one request
 --     isolated                                    the isolation rule, for any level, in Log's terms
 --     rule                                        .. over guard's run and upperAnswers
 -- Assumes nothing.
-use Prim.Native.Nat.{ℕ}
+use Prim.Native.Nat.{ℕ, _≤_}
 use mathlib.Core.Path.{_≡_, refl, sym, ap, _∙_}
 use mathlib.Core.Bool.{Bool, true, false, not, cond}
 use mathlib.Core.List.{List, [], _∷_, map}
+use mathlib.Core.Logic.{_⊎_, inl, inr}
 use lib.Dec.{eqb}
+use borrow.Author.Tests.{eqb-true}
 use Rattle.bitset.specs.Tests.{every}
 use Rattle.bitset.specs.Tests.Laws.{every-i, every-e, every-at, is-false, clash, of-not-false}
+use Rattle.guard.specs.Tables.{read, write, roleFor}
 use Rattle.guard.specs.Sound.{sound}
 use Rattle.guard.specs.Requests.{Rule, Field, seat, fieldInRangeIn, login, logout, take, drop, openr, openw, close, create, delete, rename, grant, revoke, list, unlist, make, unmake, share, unknown, rules, ruleOf}
-use Rattle.guard.specs.Step.{inRangesIn, answer, answerIn, next, nextIn, run, runIn}
+use Rattle.guard.specs.Step.{inRangesIn, answer, answerIn, next, nextIn, roleOpening, roleToldIn, run, runIn}
+use Rattle.guard.specs.Kind as kinds
 use Rattle.guard.specs.Private.InForce.{fieldInRange, inRanges}
-use Rattle.isolation.specs.Upper.{upper, isUpper, fieldUpper, namesUpper, upperRequests, upperAnswers}
+use Rattle.isolation.specs.Upper.{firstSession, firstEntity, upper, isUpper, fieldUpper, namesUpper, upperRequests, answered, upperAnswers}
 use Rattle.guard.specs.declared.Tables.{Tables}
 use Rattle.guard.specs.declared.Request.{Request}
+use Rattle.guard.specs.declared.Told.the-variants.{None}
 use Rattle.guard.proofs.Laws.Refusals.{alike-first}
 use Rattle.guard.proofs.Laws.Step.{Done, next-by, each-rule}
 use Rattle.guard.proofs.Kept.{sound-next}
 use Rattle.isolation.specs.Log.{runLog, upperOf, answersOf, logs}
 use Rattle.isolation.specs.Proof.{_and_}
-use Rattle.isolation.specs.Proof.Views.{same-of, of-same}
+use Rattle.isolation.specs.Proof.Views.{upper-seat, upper-entity, same-of, of-same, roleFor-same}
 use Rattle.isolation.specs.Proof.Keep.{keeps}
 use Rattle.isolation.specs.Proof.Respect.{respects}
 use Rattle.isolation.specs.Proof.Agree.{agrees}
@@ -65,6 +70,31 @@ module _ (L : ℕ) where
       alike-first _ _
       (refl, ap not (st ∙ sym su), λ a b. (refl, refl, λ r b. agrees L q t u (same-of L t u e) st su (of-not-false _ r) n))
 
+  -- openr and openw name their seat and their entity
+  open-names : (q : Request) → namesUpper L q ≡ true → (eqb (q .call) kinds.openr ≡ true) ⊎ (eqb (q .call) kinds.openw ≡ true)
+      → (firstSession L ≤ q .seat) × (firstEntity L ≤ q .entity)
+  unfolding namesUpper fieldUpper ruleOf rules openr openw
+  open-names q n (inl r) =
+      let names = rw (eqb-true (q .call) kinds.openr r) at n in (upper-seat L (q .seat) (every-at _ names 0), upper-entity L (q .entity) (every-at _ names 1))
+  open-names q n (inr w) =
+      let names = rw (eqb-true (q .call) kinds.openw w) at n in (upper-seat L (q .seat) (every-at _ names 0), upper-entity L (q .entity) (every-at _ names 1))
+
+  upper-opens : (t u : Tables) (q : Request) → upper L t ≡ upper L u → namesUpper L q ≡ true → roleOpening t q ≡ roleOpening u q
+  unfolding roleOpening
+  upper-opens t u q e n = go (eqb (q .call) kinds.openr) refl (eqb (q .call) kinds.openw) refl
+    where
+      go : (r : Bool) → eqb (q .call) kinds.openr ≡ r → (w : Bool) → eqb (q .call) kinds.openw ≡ w
+          → cond r (roleFor t (q .seat) read (q .entity)) (cond w (roleFor t (q .seat) write (q .entity)) None)
+          ≡ cond r (roleFor u (q .seat) read (q .entity)) (cond w (roleFor u (q .seat) write (q .entity)) None)
+      go true r w k = let (x, f) = open-names q n (inl r) in roleFor-same L t u (same-of L t u e) (q .seat) read (q .entity) x f
+      go false r true w = let (x, f) = open-names q n (inr w) in roleFor-same L t u (same-of L t u e) (q .seat) write (q .entity) x f
+      go false r false w = refl
+
+  -- the number, and the role beside it
+  upper-answers : (t u : Tables) (q : Request) → sound t ≡ true → sound u ≡ true → upper L t ≡ upper L u → namesUpper L q ≡ true → answered t q ≡ answered u q
+  unfolding roleToldIn
+  upper-answers t u q st su e n = rw (upper-tells t u q st su e n, upper-opens t u q e n)
+
   upper-agrees : (t u : Tables) (q : Request) → sound t ≡ true → sound u ≡ true → upper L t ≡ upper L u → upper L (next t q) ≡ upper L (next u q)
   unfolding nextIn namesUpper
   upper-agrees t u q st su e = go (namesUpper L q) refl
@@ -100,10 +130,10 @@ module _ (L : ℕ) where
 
   pub isolated : (t u : Tables) → sound t ≡ true → sound u ≡ true → View t ≡ View u → (a b : List Request) → Matching a b
       → (View (runLog next t a) ≡ View (runLog next u b))
-      × (answersOf next answer (isUpper L) Compared t a ≡ answersOf next answer (isUpper L) Compared u b)
+      × (answersOf next answered (isUpper L) Compared t a ≡ answersOf next answered (isUpper L) Compared u b)
   isolated t u st su e a b same =
-      logs next answer (isUpper L) Compared (λ q. true) View (λ v. sound v ≡ true) sound-next lower-keeps
-      (λ v w q sv sw e up fit. upper-agrees v w q sv sw e) (λ v w q sv sw e up fit n. upper-tells v w q sv sw e n)
+      logs next answered (isUpper L) Compared (λ q. true) View (λ v. sound v ≡ true) sound-next lower-keeps
+      (λ v w q sv sw e up fit. upper-agrees v w q sv sw e) (λ v w q sv sw e up fit n. upper-answers v w q sv sw e n)
       t u st su e a b (sym (requests-are a) ∙ same ∙ requests-are b) (all-fit (upperOf (isUpper L) a))
 
   -- ---- the same over guard's run and upperAnswers
@@ -112,7 +142,7 @@ module _ (L : ℕ) where
   run-is [] t = refl
   run-is (q ∷ a) t = run-is a (next t q)
 
-  answers-are : (a : List Request) (t : Tables) → upperAnswers L t a ≡ answersOf next answer (isUpper L) (namesUpper L) t a
+  answers-are : (a : List Request) (t : Tables) → upperAnswers L t a ≡ answersOf next answered (isUpper L) (namesUpper L) t a
   unfolding upperAnswers answersOf
   answers-are [] t = refl
   answers-are (q ∷ a) t = rw (answers-are a (next t q))

@@ -15,7 +15,7 @@ use Rattle.isolation.specs.Upper.{upper, isUpper, fieldUpper, namesUpper
 use Rattle.guard.specs.declared.Tables.{Tables}
 use Rattle.guard.specs.declared.Request.{Request}
 use Rattle.guard.specs.Requests.{Field, call, seat, user, role, entity, parent, kind, name, label, rights, shared, ruleOf}
-use Rattle.guard.proofs.Laws.SameRequest.{SameField, map-same, same-rule, same-fields, same-seat, same-answer, same-next, same-refl}
+use Rattle.guard.proofs.Laws.SameRequest.{SameField, map-same, same-rule, same-fields, same-seat, same-answer, same-next, same-role, same-refl}
 use Rattle.isolation.specs.Proof.Rule.{rule}
 
 -- ---- two requests that ask the same
@@ -53,7 +53,7 @@ module _ (L : ℕ) where
   unfolding runIn upperAnswers
   alike-more p q same c b alike u =
       let (ran, told) = alike (next u q) in
-      (rw (same-next p q same u) ran, rw (same-upper p q same L, same-names p q same L, same-answer p q same u, same-next p q same u, told))
+      (rw (same-next p q same u) ran, rw (same-upper p q same L, same-names p q same L, same-answer p q same u, same-role p q same u, same-next p q same u, told))
 
   -- a log that runs as b does, with the upper requests `ups`
   abbrev Swapped : List Request → List Request → Type 0

@@ -3,7 +3,7 @@
 --     Same, same-of, of-same        equal upper parts, as an equation of editions and four of lists
 --     upper-rights                  a role's rights on an upper entity, by its upper part
 --     session-same .. listed-same   what the records at upper numbers agree on
---     hasRight-same, reaches-same   rights on an upper entity, and the way to it
+--     roleFor-same, hasRight-same, reaches-same      rights on an upper entity, with the role that gives them, and the way to it
 --     none-below, child-same        the children of an upper entity
 -- Assumes nothing.
 use Prim.Native.Nat.{ℕ, zero, suc, _-_, _≤_, _<_}
@@ -21,7 +21,8 @@ use Rattle.bitset.specs.Tests.Laws.{every-e, some-cong, is-false, of-not-true}
 use Rattle.bitset.specs.Sets.{contains}
 use Rattle.bitset.specs.Sets.Shift.{has-from, from-has}
 use Rattle.guard.specs.Level.{roleCount, entityCount, sessionLevel, roleLevel, entityLevel, entitiesPerLevel, isRoot}
-use Rattle.guard.specs.Tables.{noSession, noRole, noEntity, sessionAt, roleAt, entityAt, holds, isReading, isWriting, rightsOf, rightsOn, hasRight, isChild, execute}
+use Rattle.guard.specs.Told.{isTold}
+use Rattle.guard.specs.Tables.{noSession, noRole, noEntity, sessionAt, roleAt, entityAt, holds, isReading, isWriting, rightsOf, rightsOn, roleFor, hasRight, isChild, execute}
 use Rattle.guard.specs.Chain.{climbs, parentOf, reaches}
 use Rattle.guard.specs.Sound.{sound}
 use Rattle.isolation.specs.Upper.{firstSession, firstRole, firstEntity, upperSession, upperRole, upper}
@@ -29,6 +30,7 @@ use Rattle.guard.specs.declared.Session.{Session}
 use Rattle.guard.specs.declared.Role.{Role}
 use Rattle.guard.specs.declared.Entity.{Entity}
 use Rattle.guard.specs.declared.Tables.{Tables}
+use Rattle.guard.proofs.Laws.Told.{lowest-cong}
 use Rattle.guard.proofs.Laws.Sound.{parent-level}
 use Rattle.isolation.specs.Proof.Lists.{map-whole, seen, seen-at}
 
@@ -147,9 +149,9 @@ module _ (L : ℕ) (t u : Tables) (same : Same L t u) where
       sym (upper-rights L _ e he) ∙ ap (λ (p : Role). rightsOf p (e - firstEntity L)) (role-same r hr) ∙ upper-rights L _ e he
 
   -- Roles below e's level are cut off by the level test, the others are upper.
-  pub hasRight-same : (x right e : ℕ) → firstSession L ≤ x → firstEntity L ≤ e → hasRight t x right e ≡ hasRight u x right e
-  unfolding hasRight every
-  hasRight-same x right e hx he = some-cong roleCount _ _ (λ r h. go r (leb (entityLevel e) (roleLevel r)) refl)
+  pub roleFor-same : (x right e : ℕ) → firstSession L ≤ x → firstEntity L ≤ e → roleFor t x right e ≡ roleFor u x right e
+  unfolding roleFor every
+  roleFor-same x right e hx he = lowest-cong roleCount _ _ (λ r h. go r (leb (entityLevel e) (roleLevel r)) refl)
     where
       go : (r : ℕ) (l : Bool) → leb (entityLevel e) (roleLevel r) ≡ l
           → every (l ∷ holds t x r ∷ contains (rightsOn t r e) right ∷ []) ≡ every (l ∷ holds u x r ∷ contains (rightsOn u r e) right ∷ [])
@@ -157,6 +159,10 @@ module _ (L : ℕ) (t u : Tables) (same : Same L t u) where
           let up : firstRole L ≤ r = omega (arith, leb-true (entityLevel e) (roleLevel r) h) in
           rw (holds-same x r hx up, rightsOn-same r e up he)
       go r false h = refl
+
+  pub hasRight-same : (x right e : ℕ) → firstSession L ≤ x → firstEntity L ≤ e → hasRight t x right e ≡ hasRight u x right e
+  unfolding hasRight
+  hasRight-same x right e hx he = ap isTold (roleFor-same x right e hx he)
 
   -- ---- of sound tables: parents stay in their level
   pub reaches-same : (x e : ℕ) → sound t ≡ true → firstSession L ≤ x → firstEntity L ≤ e → e < entityCount → entityAt t e .live ≡ true

@@ -57,11 +57,12 @@ texts n [] given = []
 texts n (m ∷ ms) given = lineText n (said m (getD given 0 0)) ++ texts (n + 1) ms (drop (one m) given)
 
 -- ---- batches
--- room for a batch: its requests as rows, of each line whether it asks one, and the answers
-pub record Lent (rows : List ℕ) (marks : List Bool) (answers : List ℕ) : Type 0 where
+-- room for a batch: its requests as rows, of each line whether it asks one, the answers, and the roles told, which are not printed
+pub record Lent (rows : List ℕ) (marks : List Bool) (answers roles : List ℕ) : Type 0 where
   pub rowsRoom : length rows ≡ rowLength * batchLines
   pub marksRoom : length marks ≡ batchLines
   pub answersRoom : length answers ≡ batchLines
+  pub rolesRoom : length roles ≡ batchLines
 
 -- how many lines a batch may take: with room for their answers, and none after the last line that is read
 pub record Most (done room m : ℕ) : Type 0 where

@@ -18,6 +18,12 @@ array-borrow-prefix-answers c = search needs
 slice-aggregate-run-2 : tie.Need-slice-aggregate-run-2
 slice-aggregate-run-2 c = sym (length-take-le _ _ (omega arith))
 
+array-borrow-prefix-roles : tie.Need-array-borrow-prefix-roles
+array-borrow-prefix-roles c = search needs
+
+slice-aggregate-run-3 : tie.Need-slice-aggregate-run-3
+slice-aggregate-run-3 c = sym (length-take-le _ _ (omega arith))
+
 run-requires : tie.Need-run-requires
 run-requires c κs = search needs
 
@@ -32,5 +38,7 @@ ran-spec =
     slice-aggregate-run
     array-borrow-prefix-answers
     slice-aggregate-run-2
+    array-borrow-prefix-roles
+    slice-aggregate-run-3
     run-requires
     returns)

@@ -4,13 +4,17 @@ use Prim.Native.Nat.{ℕ, _+_, _-_, _≤_, _<_}
 use mathlib.Core.Path.{_≡_, refl, sym, _∙_}
 use mathlib.Core.Bool.{true}
 use mathlib.Core.List.{List}
+use mathlib.Core.Logic.{⊎-elim}
 use native.Mathlib.Omega.{arith}
-use lib.ListN.{length, set, length-append, length-replicate, length-drop}
+use lib.ListN.{length, set, length-set, length-append, length-replicate, length-drop}
 use borrow.Author.Tests.{not-true, not-false}
 use Rattle.guard.specs.Label.{allCategories}
 use Rattle.guard.specs.Sound.{sound}
 use Rattle.guard.specs.Requests.{ruleOf}
-use Rattle.guard.specs.Batch.{batchLength}
+use Rattle.guard.specs.Told.{roleByte}
+use Rattle.guard.specs.Step.{roleOpening}
+use Rattle.guard.specs.Kind as kind
+use Rattle.guard.specs.Batch.{batchCount}
 use Rattle.guard.specs.Private.Inside.{number, Placed, OfEntity}
 use Rattle.guard.specs.Private.Scan.{Keys, Grants}
 use Rattle.guard.specs.Private.InForce.{inRanges}
@@ -19,20 +23,20 @@ use Rattle.guard.specs.declared.Request.{Request}
 use Rattle.guard.specs.declared.change.Change.the-variants.{Session as ASession, Entity as AnEntity, Role as ARole}
 use Rattle.guard.proofs.Laws.Sound.{Sound, sound-e}
 use Rattle.guard.proofs.Ranges.{in-create, in-delete}
-use Rattle.guard.proofs.Logs.{batch-room, batch-rows}
+use Rattle.guard.proofs.Logs.{batch-room, batch-space, batch-rows, set-again}
 use Rattle.guard.proofs.Columns.{keys-set, keys-other, grants-other, grants-role, grants-each}
 use Rattle.guard.proofs.Seen.{parent-in, seen-of}
 use Rattle.guard.proofs.Answers.{done-in-range}
 use Rattle.guard.proofs.Stored.{told, session-stored, create-stored, delete-stored, alone-stored, role-stored, unmake-stored}
-use Rattle.guard.proofs.Turns.{Held, held-none, held-more, held-length, held-all, no-batch, unsound-batch, Stepped, refuses, does}
+use Rattle.guard.proofs.Turns.{Held, held-none, held-more, held-length, held-roles, held-all, no-batch, unsound-batch, Stepped, refuses, does, opens-nothing, opens-by}
 use Rattle.guard.proofs.Tables.run.Statement.{statement}
 use Rattle.guard.proofs.Tables.run.Tie as tie
 
 abbrev Inv-loop : tie.InvT-loop
-Inv-loop rows answers₀ self₀ count keys₀ grants₀ i₀ answers self keys grants i = (i ≤ count) × (count ≡ batchLength (length rows) (length answers₀)) × Held self₀ rows answers₀ i self answers keys grants
+Inv-loop rows answers₀ roles₀ self₀ count keys₀ grants₀ i₀ answers roles self keys grants i = (i ≤ count) × (count ≡ batchCount rows answers₀ roles₀) × Held self₀ rows answers₀ roles₀ i self answers roles keys grants
 
 abbrev μ-loop : tie.MeasureT-loop
-μ-loop rows answers₀ self₀ count keys₀ grants₀ i₀ answers self keys grants i = count - i
+μ-loop rows answers₀ roles₀ self₀ count keys₀ grants₀ i₀ answers roles self keys grants i = count - i
 
 abbrev At : (tie.InvT-loop → tie.MeasureT-loop → Type 0) → Type 0
 At P = P Inv-loop μ-loop
@@ -41,17 +45,26 @@ At P = P Inv-loop μ-loop
 abbrev counted : At tie.After-sound-by → At tie.After-count
 counted c = c .before .before .before .before
 
+abbrev entered : At tie.After-count → At tie.Start
+entered c = c .before .before .before .before
+
 abbrev rows-at : At tie.After-count → List ℕ
-rows-at c = c .before .before .before .args .rows .now
+rows-at c = entered c .args .rows .now
 
 abbrev old-at : At tie.After-count → List ℕ
-old-at c = c .before .before .before .args .answers .now
+old-at c = entered c .args .answers .now
 
--- the batch has room for its answers
+abbrev unsaid-at : At tie.After-count → List ℕ
+unsaid-at c = entered c .args .roles .now
+
+-- the batch has room for its answers and for its roles
 room : (c : At tie.After-count) → c .count .result ≤ length (old-at c)
-room c = omega (arith, c .count .ensures, batch-room (length (rows-at c)) (length (old-at c)))
+room c = omega (arith, c .count .ensures, batch-room (length (rows-at c)) (length (old-at c)) (length (unsaid-at c)))
 
-sound-at : (c : At tie.Else2) → sound (counted (c .before) .before .before .before .args .t1) ≡ true
+space : (c : At tie.After-count) → c .count .result ≤ length (unsaid-at c)
+space c = omega (arith, c .count .ensures, batch-space (length (rows-at c)) (length (old-at c)) (length (unsaid-at c)))
+
+sound-at : (c : At tie.Else2) → sound (entered (counted (c .before)) .args .t1) ≡ true
 sound-at c = sym (c .before .sound-by .ensures) ∙ not-false _ (c .if2 .left)
 
 abbrev looked : At tie.After-parent-of → At tie.After-look-up
@@ -84,8 +97,14 @@ rows-of c = rows-at (began c)
 abbrev old-of : At tie.In-loop → List ℕ
 old-of c = old-at (began c)
 
+abbrev unsaid-of : At tie.In-loop → List ℕ
+unsaid-of c = unsaid-at (began c)
+
 within : (c : At tie.In-loop) → c .before .loop .i < length (old-of c)
 within c = omega (arith, c .loop-test .taken, room (began c))
+
+within-roles : (c : At tie.In-loop) → c .before .loop .i < length (unsaid-of c)
+within-roles c = omega (arith, c .loop-test .taken, space (began c))
 
 -- ---- the decision
 sure : (c : At tie.After-seen) → sound (tables c) ≡ true
@@ -105,14 +124,16 @@ judged c =
     c .judge .ensures _
     (seen-of _ (sure s) _ _ (place s .look-up .ensures) _ (up .parent-of .ensures) _ _ (keys-at s) (grants-at s) _ (f .find .ensures) _ (s .seen .ensures))
 
--- the next turn holds, by what the tables and the columns are then
-turned : (c : At tie.After-judge) (u : Tables) → Stepped (tables (c .before)) (asked (c .before)) u (c .judge .result) → (k g : List ℕ) → Keys (u .entities) k → Grants (u .roles) g
+-- the next turn holds, by what the tables and the columns are then, and what is stored of the role
+turned : (c : At tie.After-judge) (u : Tables) (b : ℕ) → Stepped (tables (c .before)) (asked (c .before)) u (c .judge .result) b
+    → (roles : List ℕ) → roles ≡ set (turn c .before .loop .roles) (turn c .before .loop .i) b → (k g : List ℕ) → Keys (u .entities) k → Grants (u .roles) g
     → (turn c .before .loop .i + 1 ≤ began (turn c) .count .result)
-    × (began (turn c) .count .result ≡ batchLength (length (rows-of (turn c))) (length (old-of (turn c))))
-    × Held (began (turn c) .before .before .before .args .t1) (rows-of (turn c)) (old-of (turn c)) (turn c .before .loop .i + 1) u (set (turn c .before .loop .answers) (turn c .before .loop .i) (c .judge .result)) k g
-turned c u step k g K G =
+    × (began (turn c) .count .result ≡ batchCount (rows-of (turn c)) (old-of (turn c)) (unsaid-of (turn c)))
+    × Held (entered (began (turn c)) .args .t1) (rows-of (turn c)) (old-of (turn c)) (unsaid-of (turn c)) (turn c .before .loop .i + 1) u (set (turn c .before .loop .answers) (turn c .before .loop .i) (c .judge .result)) roles k g
+turned c u b step roles same k g K G =
     let l = turn c in
-    (omega (arith, l .loop-test .taken), l .before .loop .inv .1, held-more _ _ _ _ _ _ _ _ (l .before .loop .inv .2) _ (place (c .before) .before .request .ensures) (within l) u _ step k g K G)
+    rw same
+    (omega (arith, l .loop-test .taken), l .before .loop .inv .1, held-more _ _ _ _ _ _ _ _ _ _ (l .before .loop .inv .2) _ (place (c .before) .before .request .ensures) (within l) (within-roles l) u _ _ step k g K G)
 
 -- ---- where the answer is 0
 abbrev near : (c : At tie.Then3) → Placed (asked (c .before .before)) (place (c .before .before) .look-up .result)
@@ -128,8 +149,20 @@ fits : (c : At tie.Then3) → inRanges (asked (c .before .before)) ≡ true
 fits c = done-in-range _ _ (zero c)
 
 does-so : (c : At tie.Then3) (u : Tables) → u ≡ ruleOf (asked (c .before .before)) .effect (asked (c .before .before)) (tables (c .before .before))
-    → Stepped (tables (c .before .before)) (asked (c .before .before)) u (c .before .judge .result)
-does-so c u e = does _ _ _ (sure (c .before .before)) (judged (c .before)) (c .if3 .taken) u e
+    → (b : ℕ) → b ≡ roleByte (roleOpening (tables (c .before .before)) (asked (c .before .before)))
+    → Stepped (tables (c .before .before)) (asked (c .before .before)) u (c .before .judge .result) b
+does-so c u e b r = does _ _ _ (sure (c .before .before)) (judged (c .before)) (c .if3 .taken) u e b r
+
+-- what changes an entity or a role tells none
+silent : (c : At tie.Then3) → (asked (c .before .before) .call ≡ kind.openr → ⊥) → (asked (c .before .before) .call ≡ kind.openw → ⊥)
+    → 255 ≡ roleByte (roleOpening (tables (c .before .before)) (asked (c .before .before)))
+silent c r w = opens-nothing _ _ r w
+
+entity-silent : (c : At tie.Then3) → OfEntity (asked (c .before .before) .call) → 255 ≡ roleByte (roleOpening (tables (c .before .before)) (asked (c .before .before)))
+entity-silent c of = silent c (λ h. ⊎-elim (λ (l, m). omega arith) (λ e. omega arith) of) (λ h. ⊎-elim (λ (l, m). omega arith) (λ e. omega arith) of)
+
+role-silent : (c : At tie.Then3) → 10 ≤ asked (c .before .before) .call → 255 ≡ roleByte (roleOpening (tables (c .before .before)) (asked (c .before .before)))
+role-silent c l = silent c (λ h. omega arith) (λ h. omega arith)
 
 -- the places of the stores: where the answer is 0, from where the entity's key or the role's sets are stored; where the key is
 -- stored, from the tests that follow it
@@ -161,7 +194,7 @@ count-requires : tie.Need-count-requires Inv-loop μ-loop
 count-requires c κs = search needs
 
 returns : tie.Need-returns Inv-loop μ-loop
-returns c = no-batch _ _ _ (sym (c .if1 .taken) ∙ c .before .count .ensures)
+returns c = no-batch _ _ _ _ (sym (c .if1 .taken) ∙ c .before .count .ensures)
 
 keys-requires : tie.Need-keys-requires Inv-loop μ-loop
 keys-requires c κs = search needs
@@ -169,17 +202,30 @@ keys-requires c κs = search needs
 sound-by-requires : tie.Need-sound-by-requires Inv-loop μ-loop
 sound-by-requires c κs = c .before .keys .ensures
 
-refuse-requires : tie.Need-refuse-requires Inv-loop μ-loop
-refuse-requires c κs = room (counted (c .before .before))
+-- on unsound tables: where the answers are stored, behind the test
+abbrev filled : At tie.After-slice-known4 → At tie.After-fill
+filled c = c .before .before .before .before .before .before
+
+abbrev refusing : At tie.After-fill → At tie.Then2
+refusing c = c .before .before
+
+fill-requires : tie.Need-fill-requires Inv-loop μ-loop
+fill-requires c κs = room (counted (c .before .before))
+
+fill-requires-2 : tie.Need-fill-requires-2 Inv-loop μ-loop
+fill-requires-2 c κs = space (counted (c .before .before .before .before .before .before))
 
 same-length : tie.Need-same-length Inv-loop μ-loop
-same-length c = let refuse = c .before .before in rw (refuse .refuse .ensures .1) (simp (length-append, length-replicate, length-drop) (omega (arith, room (counted (refuse .before .before .before)))))
+same-length c = let fill = filled c in rw (fill .fill .ensures .1) (simp (length-append, length-replicate, length-drop) (omega (arith, room (counted (refusing fill .before)))))
+
+same-length-2 : tie.Need-same-length-2 Inv-loop μ-loop
+same-length-2 c = rw (c .before .before .fill2 .ensures .1) (simp (length-append, length-replicate, length-drop) (omega (arith, space (counted (refusing (filled c) .before)))))
 
 returns-2 : tie.Need-returns-2 Inv-loop μ-loop
 returns-2 c =
-    let refuse = c .before .before in
-    let test = refuse .before .before in
-    unsound-batch _ _ _ _ _ (sym (test .before .sound-by .ensures) ∙ not-true _ (test .if2 .taken)) (counted (test .before) .count .ensures) (refuse .refuse .ensures .1)
+    let fill = filled c in
+    let test = refusing fill in
+    unsound-batch _ _ _ _ _ _ _ (sym (test .before .sound-by .ensures) ∙ not-true _ (test .if2 .taken)) (counted (test .before) .count .ensures) (fill .fill .ensures .1) (c .before .before .fill2 .ensures .1)
 
 grants-requires : tie.Need-grants-requires Inv-loop μ-loop
 grants-requires c κs = search needs
@@ -187,10 +233,10 @@ grants-requires c κs = search needs
 loop-holds : tie.Need-loop-holds Inv-loop μ-loop
 loop-holds c =
     let tested = c .before in
-    (omega arith, counted (tested .before) .count .ensures, held-none _ _ _ _ _ (sound-at tested) (tested .before .before .before .keys .ensures) (c .grants .ensures))
+    (omega arith, counted (tested .before) .count .ensures, held-none _ _ _ _ _ _ (sound-at tested) (tested .before .before .before .keys .ensures) (c .grants .ensures))
 
 request-requires : tie.Need-request-requires Inv-loop μ-loop
-request-requires c κs = batch-rows _ _ _ (rw (c .before .loop .inv .1) at (c .loop-test .taken))
+request-requires c κs = batch-rows _ _ _ _ (rw (c .before .loop .inv .1) at (c .loop-test .taken))
 
 look-up-requires : tie.Need-look-up-requires Inv-loop μ-loop
 look-up-requires c κs = search needs
@@ -238,7 +284,10 @@ judge-requires : tie.Need-judge-requires Inv-loop μ-loop
 judge-requires c κs = rw (c .seen .ensures) (place c .look-up .ensures .fits)
 
 slice-write-answers : tie.Need-slice-write-answers Inv-loop μ-loop
-slice-write-answers c = let l = turn c in rw (held-length _ _ _ _ _ _ _ _ (l .before .loop .inv .2) (omega (arith, within l))) (within l)
+slice-write-answers c = let l = turn c in rw (held-length _ _ _ _ _ _ _ _ _ _ (l .before .loop .inv .2) (omega (arith, within l))) (within l)
+
+slice-write-roles : tie.Need-slice-write-roles Inv-loop μ-loop
+slice-write-roles c = let l = turn c in rw (held-roles _ _ _ _ _ _ _ _ _ _ (l .before .loop .inv .2) (omega (arith, within-roles l))) (within-roles l)
 
 add-i : tie.Need-add-i Inv-loop μ-loop
 add-i c = let h = within (turn c) in let s = began (turn c) .before .before .before in search needs
@@ -252,19 +301,37 @@ enum-told c = search needs
 after-requires : tie.Need-after-requires Inv-loop μ-loop
 after-requires c κs = fits (c .before .before .before)
 
-mul-t63 : tie.Need-mul-t63 Inv-loop μ-loop
-mul-t63 c = omega (arith, near (c .before .before .before .before) .seat .small)
+mul-t68 : tie.Need-mul-t68 Inv-loop μ-loop
+mul-t68 c = omega (arith, near (c .before .before .before .before) .seat .small)
 
 element-set-from-self : tie.Need-element-set-from-self Inv-loop μ-loop
 element-set-from-self c = near (c .before .before .before .before) .seat .small
 
+abbrev opened : At tie.After-role-told → At tie.Then3
+opened c = c .before .before .before .before .before .before
+
+role-told-requires : tie.Need-role-told-requires Inv-loop μ-loop
+role-told-requires c κs = near (c .before .before .before .before .before) .entity .small
+
+sub-roles : tie.Need-sub-roles Inv-loop μ-loop
+sub-roles c = omega arith
+
+slice-write-roles-2 : tie.Need-slice-write-roles-2 Inv-loop μ-loop
+slice-write-roles-2 c =
+    let l = turn (opened c .before) in
+    simp length-set (rw (held-roles _ _ _ _ _ _ _ _ _ _ (l .before .loop .inv .2) (omega (arith, within-roles l))) (omega (arith, within-roles l)))
+
 loop-less : tie.Need-loop-less Inv-loop μ-loop
-loop-less c = omega (arith, turn (c .before .before .before .before .before) .loop-test .taken)
+loop-less c = omega (arith, turn (opened c .before) .loop-test .taken)
 
 loop-again : tie.Need-loop-again Inv-loop μ-loop
 loop-again c =
-    let d = c .before .before .before .before in
-    turned (d .before) _ (does-so d _ (session-stored _ _ (zero d) _ (near d) (told-session (c .before)) _ (c .after .ensures))) _ _
+    let d = opened c in
+    let l = turn (d .before) .before .loop in
+    turned (d .before) _ _
+    (does-so d _ (session-stored _ _ (zero d) _ (near d) (told-session (c .before .before .before)) _ (c .before .before .after .ensures)) _
+    (opens-by _ (sure (d .before .before)) _ (grants-at (d .before .before)) _ (fits d) _ (near d) _ (c .role-told .ensures)))
+    _ (set-again (l .roles) (l .i) 255 (c .role-told .result)) _ _
     (keys-other _ _ (keys-at (d .before .before)) _ refl)
     (grants-other _ _ (grants-at (d .before .before)) _ refl)
 
@@ -311,7 +378,7 @@ loop-again-2 c =
     let key = created is in
     let f = key .before in
     let d = entity-done key in
-    turned (d .before) _ (does-so d _ (create-stored _ _ (zero d) _ (near d) (is .if4 .taken) _ _ (f .after2 .ensures) (own .owning .ensures))) _ _
+    turned (d .before) _ _ (does-so d _ (create-stored _ _ (zero d) _ (near d) (is .if4 .taken) _ _ (f .after2 .ensures) (own .owning .ensures)) _ (entity-silent d (told-entity (f .before)))) _ refl _ _
     (keys-set _ _ (keys-at (d .before .before)) _ (many d .manyEntities) _ (near d .entity .small) _ _ (key .key .ensures) refl)
     (grants-role _ _ (grants-at (d .before .before)) _ (many d .manyRoles) _ (near d .role .small) _ _ (c .put .ensures) refl)
 
@@ -336,7 +403,7 @@ loop-again-3 c =
     let f = key .before in
     let d = entity-done key in
     rw (roles .without-entity .ensures, c .without-entity2 .ensures)
-    (turned (d .before) _ (does-so d _ (delete-stored _ _ (zero d) _ (near d) (is .if5 .taken) _ (f .after2 .ensures))) _ _
+    (turned (d .before) _ _ (does-so d _ (delete-stored _ _ (zero d) _ (near d) (is .if5 .taken) _ (f .after2 .ensures)) _ (entity-silent d (told-entity (f .before)))) _ refl _ _
     (keys-set _ _ (keys-at (d .before .before)) _ (many d .manyEntities) _ (near d .entity .small) _ _ (key .key .ensures) refl)
     (grants-each _ _ (grants-at (d .before .before)) _ _ _ (rw (near d .entity .same (in-delete _ (fits d) (is .if5 .taken) .1)) at (clear .clear .ensures)) refl))
 
@@ -348,7 +415,7 @@ loop-again-4 c =
     let key = kept c in
     let f = key .before in
     let d = entity-done key in
-    turned (d .before) _ (does-so d _ (alone-stored _ _ (zero d) _ (near d) (told-entity (f .before)) (c .before .before .if4 .left) (c .if5 .left) _ (f .after2 .ensures))) _ _
+    turned (d .before) _ _ (does-so d _ (alone-stored _ _ (zero d) _ (near d) (told-entity (f .before)) (c .before .before .if4 .left) (c .if5 .left) _ (f .after2 .ensures)) _ (entity-silent d (told-entity (f .before)))) _ refl _ _
     (keys-set _ _ (keys-at (d .before .before)) _ (many d .manyEntities) _ (near d .entity .small) _ _ (key .key .ensures) refl)
     (grants-other _ _ (grants-at (d .before .before)) _ refl)
 
@@ -380,7 +447,7 @@ loop-again-5 c =
     let p = put .before .before in
     let d = role-done put in
     rw (c .without-role .ensures)
-    (turned (d .before) _ (does-so d _ (unmake-stored _ _ (zero d) _ (near d) (is .if6 .taken) _ (p .after3 .ensures))) _ _
+    (turned (d .before) _ _ (does-so d _ (unmake-stored _ _ (zero d) _ (near d) (is .if6 .taken) _ (p .after3 .ensures)) _ (role-silent d (told-role (p .before) .0))) _ refl _ _
     (keys-other _ _ (keys-at (d .before .before)) _ refl)
     (grants-role _ _ (grants-at (d .before .before)) _ (many d .manyRoles) _ (near d .role .small) _ _ (put .put2 .ensures) refl))
 
@@ -392,7 +459,7 @@ loop-again-6 c =
     let put = c .before .before in
     let p = put .before .before in
     let d = role-done put in
-    turned (d .before) _ (does-so d _ (role-stored _ _ (zero d) _ (near d) (sure (d .before .before)) (told-role (p .before)) (c .if6 .left) _ (p .after3 .ensures))) _ _
+    turned (d .before) _ _ (does-so d _ (role-stored _ _ (zero d) _ (near d) (sure (d .before .before)) (told-role (p .before)) (c .if6 .left) _ (p .after3 .ensures)) _ (role-silent d (told-role (p .before) .0))) _ refl _ _
     (keys-other _ _ (keys-at (d .before .before)) _ refl)
     (grants-role _ _ (grants-at (d .before .before)) _ (many d .manyRoles) _ (near d .role .small) _ _ (put .put2 .ensures) refl)
 
@@ -400,13 +467,16 @@ loop-less-7 : tie.Need-loop-less-7 Inv-loop μ-loop
 loop-less-7 c = omega (arith, turn (c .before) .loop-test .taken)
 
 loop-again-7 : tie.Need-loop-again-7 Inv-loop μ-loop
-loop-again-7 c = turned (c .before) _ (refuses _ _ _ (sure (c .before .before)) (judged (c .before)) (c .if3 .left)) _ _ (keys-at (c .before .before)) (grants-at (c .before .before))
+loop-again-7 c = turned (c .before) _ _ (refuses _ _ _ (sure (c .before .before)) (judged (c .before)) (c .if3 .left)) _ refl _ _ (keys-at (c .before .before)) (grants-at (c .before .before))
 
-same-length-2 : tie.Need-same-length-2 Inv-loop μ-loop
-same-length-2 c = held-length _ _ _ _ _ _ _ _ (c .before .loop .inv .2) (omega (arith, c .before .loop .inv .0, room (counted (c .before .before .before .before))))
+same-length-3 : tie.Need-same-length-3 Inv-loop μ-loop
+same-length-3 c = held-length _ _ _ _ _ _ _ _ _ _ (c .before .loop .inv .2) (omega (arith, c .before .loop .inv .0, room (counted (c .before .before .before .before))))
+
+same-length-4 : tie.Need-same-length-4 Inv-loop μ-loop
+same-length-4 c = held-roles _ _ _ _ _ _ _ _ _ _ (c .before .loop .inv .2) (omega (arith, c .before .loop .inv .0, space (counted (c .before .before .before .before))))
 
 returns-3 : tie.Need-returns-3 Inv-loop μ-loop
-returns-3 c = let n : c .before .loop .i ≡ counted (c .before .before .before .before) .count .result = omega (arith, c .loop-test .left, c .before .loop .inv .0) in held-all _ _ _ _ _ _ _ _ (c .before .loop .inv .2) (n ∙ c .before .loop .inv .1)
+returns-3 c = let n : c .before .loop .i ≡ counted (c .before .before .before .before) .count .result = omega (arith, c .loop-test .left, c .before .loop .inv .0) in held-all _ _ _ _ _ _ _ _ _ _ (c .before .loop .inv .2) (n ∙ c .before .loop .inv .1)
 
 pub run-spec : {M : Type 1} → statement M
 run-spec =
@@ -418,8 +488,10 @@ run-spec =
     returns
     keys-requires
     sound-by-requires
-    refuse-requires
+    fill-requires
+    fill-requires-2
     same-length
+    same-length-2
     returns-2
     grants-requires
     loop-holds
@@ -440,12 +512,16 @@ run-spec =
     seen-requires
     judge-requires
     slice-write-answers
+    slice-write-roles
     add-i
     change-of-requires
     enum-told
     after-requires
-    mul-t63
+    mul-t68
     element-set-from-self
+    role-told-requires
+    sub-roles
+    slice-write-roles-2
     loop-less
     loop-again
     enum-told-2
@@ -480,5 +556,6 @@ run-spec =
     loop-again-6
     loop-less-7
     loop-again-7
-    same-length-2
+    same-length-3
+    same-length-4
     returns-3)

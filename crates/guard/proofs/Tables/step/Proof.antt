@@ -14,14 +14,25 @@ slice-aggregate-run c = search needs
 slice-aggregate-run-2 : tie.Need-slice-aggregate-run-2
 slice-aggregate-run-2 c = search needs
 
+slice-aggregate-run-3 : tie.Need-slice-aggregate-run-3
+slice-aggregate-run-3 c = search needs
+
 run-requires : tie.Need-run-requires
 run-requires c κs = search needs
 
-array-read-t13 : tie.Need-array-read-t13
-array-read-t13 c = search needs
+array-read-t16 : tie.Need-array-read-t16
+array-read-t16 c = search needs
+
+array-read-read : tie.Need-array-read-read
+array-read-read c = search needs
+
+read-requires : tie.Need-read-requires
+read-requires c κs = search needs
 
 returns : tie.Need-returns
-returns c = one-request _ _ _ _ _ _ _ (c .before .before .before .before .row .ensures) refl (c .before .run .ensures) refl
+returns c =
+    let run = c .before .before .before in
+    one-request _ _ _ _ _ _ _ _ _ _ (run .before .before .before .before .row .ensures) refl refl (run .run .ensures) refl (c .read .ensures)
 
 pub step-spec : {M : Type 1} → statement M
 step-spec =
@@ -30,6 +41,9 @@ step-spec =
     row-requires
     slice-aggregate-run
     slice-aggregate-run-2
+    slice-aggregate-run-3
     run-requires
-    array-read-t13
+    array-read-t16
+    array-read-read
+    read-requires
     returns)

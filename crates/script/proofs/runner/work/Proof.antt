@@ -12,13 +12,13 @@ use Rattle.script.proofs.runner.work.Statement.{statement}
 use Rattle.script.proofs.runner.work.Tie as tie
 
 abbrev Inv-loop : tie.InvT-loop
-Inv-loop piece end out₀ rows₀ marks₀ answers₀ held₀ at₀ wrote₀ out rows marks answers held at wrote = (atNames ≤ held .phase) × Lent rows marks answers × Held piece end out₀ held₀ out held at wrote
+Inv-loop piece end out₀ rows₀ marks₀ answers₀ roles₀ held₀ at₀ wrote₀ out rows marks answers roles held at wrote = (atNames ≤ held .phase) × Lent rows marks answers roles × Held piece end out₀ held₀ out held at wrote
 
 abbrev μ-loop : tie.MeasureT-loop
-μ-loop piece end out₀ rows₀ marks₀ answers₀ held₀ at₀ wrote₀ out rows marks answers held at wrote = length piece - at
+μ-loop piece end out₀ rows₀ marks₀ answers₀ roles₀ held₀ at₀ wrote₀ out rows marks answers roles held at wrote = length piece - at
 
 loop-holds : tie.Need-loop-holds Inv-loop μ-loop
-loop-holds c = (c .before .before .pre, record { rowsRoom = refl; marksRoom = refl; answersRoom = refl }, held-none _ _ _ _)
+loop-holds c = (c .before .before .pre, record { rowsRoom = refl; marksRoom = refl; answersRoom = refl; rolesRoom = refl }, held-none _ _ _ _)
 
 sub-one : tie.Need-sub-one Inv-loop μ-loop
 sub-one c = search needs
@@ -47,48 +47,55 @@ slice-aggregate-one-2 c = sym (c .before .before .before .before .loop .inv .1 .
 slice-aggregate-one-3 : tie.Need-slice-aggregate-one-3 Inv-loop μ-loop
 slice-aggregate-one-3 c = sym (c .before .before .before .before .before .loop .inv .1 .answersRoom)
 
+slice-aggregate-one-4 : tie.Need-slice-aggregate-one-4 Inv-loop μ-loop
+slice-aggregate-one-4 c = sym (c .before .before .before .before .before .before .loop .inv .1 .rolesRoom)
+
 one-requires : tie.Need-one-requires Inv-loop μ-loop
 one-requires c κs =
-    let at-loop = c .before .before .before .before .before in
+    let at-loop = c .before .before .before .before .before .before in
     (at-loop .loop .inv .0, at-loop .loop .inv .1)
 
 add-at : tie.Need-add-at Inv-loop μ-loop
 add-at c =
-    let at-one = c .before .before .before .before .before .before .before in
-    let at-loop = at-one .before .before .before .before .before .before in
+    let at-one = c .before .before .before .before .before .before .before .before in
+    let at-loop = at-one .before .before .before .before .before .before .before in
     let start = at-loop .before .before .before in
     let more = loop-more (at-loop .loop .inv .2) (at-one .one .kept .1 .1 .1 .0) (at-one .one .ensures) in omega (arith, more .within, start .good .1 .0)
 
 add-wrote : tie.Need-add-wrote Inv-loop μ-loop
 add-wrote c =
-    let at-one = c .before .before .before .before .before .before .before .before in
-    let at-loop = at-one .before .before .before .before .before .before in
+    let at-one = c .before .before .before .before .before .before .before .before .before in
+    let at-loop = at-one .before .before .before .before .before .before .before in
     let start = at-loop .before .before .before in
     let more = loop-more (at-loop .loop .inv .2) (at-one .one .kept .1 .1 .1 .0) (at-one .one .ensures) in omega (arith, more .room, more .same, start .good .1 .1 .1 .0 .0)
 
 same-length : tie.Need-same-length Inv-loop μ-loop
 same-length c =
-    let at-answers2 = c .before .before .before .before .before in
-    let at-one = at-answers2 .before .before .before .before .before in
-    let at-loop = at-one .before .before .before .before .before .before in
+    let at-roles2 = c .before .before .before .before .before in
+    let at-one = at-roles2 .before .before .before .before .before .before in
+    let at-loop = at-one .before .before .before .before .before .before .before in
     (loop-more (at-loop .loop .inv .2) (at-one .one .kept .1 .1 .1 .0) (at-one .one .ensures)) .same
 
 returns : tie.Need-returns Inv-loop μ-loop
 returns c =
-    let at-answers2 = c .before .before .before .before .before in
-    let at-one = at-answers2 .before .before .before .before .before in
-    let at-loop = at-one .before .before .before .before .before .before in
+    let at-roles2 = c .before .before .before .before .before in
+    let at-one = at-roles2 .before .before .before .before .before .before in
+    let at-loop = at-one .before .before .before .before .before .before .before in
     loop-done (at-loop .loop .inv .2) (at-one .one .kept .1 .1 .1 .0) (at-one .one .ensures) (c .if1 .taken)
 
 loop-less : tie.Need-loop-less Inv-loop μ-loop
-loop-less c = search needs
+loop-less c =
+    let at-roles2 = c .before .before .before .before .before in
+    let at-one = at-roles2 .before .before .before .before .before .before in
+    let at-loop = at-one .before .before .before .before .before .before .before in
+    let more = loop-more (at-loop .loop .inv .2) (at-one .one .kept .1 .1 .1 .0) (at-one .one .ensures) in omega (arith, more .within, c .if1 .left)
 
 loop-again : tie.Need-loop-again Inv-loop μ-loop
 loop-again c =
-    let at-answers2 = c .before .before .before .before .before in
-    let at-one = at-answers2 .before .before .before .before .before in
-    let at-loop = at-one .before .before .before .before .before .before in
-    (at-one .one .ensures .begun, record { rowsRoom = at-one .one .kept .1 .1 .1 .1 .0 ∙ at-loop .loop .inv .1 .rowsRoom; marksRoom = at-one .one .kept .1 .1 .1 .1 .1 .0 ∙ at-loop .loop .inv .1 .marksRoom; answersRoom = at-one .one .kept .1 .1 .1 .1 .1 .1 .0 ∙ at-loop .loop .inv .1 .answersRoom }, loop-more (at-loop .loop .inv .2) (at-one .one .kept .1 .1 .1 .0) (at-one .one .ensures))
+    let at-roles2 = c .before .before .before .before .before in
+    let at-one = at-roles2 .before .before .before .before .before .before in
+    let at-loop = at-one .before .before .before .before .before .before .before in
+    (at-one .one .ensures .begun, record { rowsRoom = at-one .one .kept .1 .1 .1 .1 .0 ∙ at-loop .loop .inv .1 .rowsRoom; marksRoom = at-one .one .kept .1 .1 .1 .1 .1 .0 ∙ at-loop .loop .inv .1 .marksRoom; answersRoom = at-one .one .kept .1 .1 .1 .1 .1 .1 .0 ∙ at-loop .loop .inv .1 .answersRoom; rolesRoom = at-one .one .kept .1 .1 .1 .1 .1 .1 .1 .0 ∙ at-loop .loop .inv .1 .rolesRoom }, loop-more (at-loop .loop .inv .2) (at-one .one .kept .1 .1 .1 .0) (at-one .one .ensures))
 
 pub work-spec : {M : Type 1} → statement M
 work-spec =
@@ -106,6 +113,7 @@ work-spec =
     slice-aggregate-one
     slice-aggregate-one-2
     slice-aggregate-one-3
+    slice-aggregate-one-4
     one-requires
     add-at
     add-wrote
