@@ -11,7 +11,7 @@
 -- Assumes nothing.
 use Prim.Native.Nat.{ℕ, _+_, _*_, _/_, _%_, _≤_, _<_}
 use mathlib.Core.Path.{_≡_, refl, sym, ap, _∙_}
-use mathlib.Core.Bool.{Bool, true, false, not, _||_, cond, or-false, or-assoc}
+use mathlib.Core.Bool.{Bool, true, false, not, _||_, or-false, or-assoc}
 use mathlib.Core.List.{List, [], _∷_, map}
 use native.Mathlib.Decide.{ℕ-discrete}
 use native.Mathlib.Nat.{add-zero}
@@ -26,7 +26,6 @@ use Rattle.bitset.specs.Sets.{has, contains, without, join}
 use Rattle.bitset.specs.Sets.Laws.{has-none, has-join, has-without, has-without-other, without-none}
 use Rattle.guard.specs.Level.{roleLevel, entityLevel, isRoot}
 use Rattle.guard.specs.Told.{lowest}
-use Rattle.guard.specs.Kind as kind
 use Rattle.guard.specs.Tables.{noRole, noEntity, sessionAt, roleAt, entityAt, read, write, execute, own, rightsOf, roleFor, hasRight, isChild}
 use Rattle.guard.specs.Chain.{reaches}
 use Rattle.guard.specs.Sound.{sound}
@@ -43,7 +42,7 @@ use Rattle.guard.specs.declared.scan.Rights.{Rights}
 use Rattle.guard.specs.declared.Told.{Told}
 use Rattle.guard.specs.declared.Told.the-variants.{By, None}
 use Rattle.guard.proofs.Laws.Rights.{contains-read, contains-write, contains-execute, contains-own}
-use Rattle.guard.proofs.Laws.Told.{lowest-at, lowest-none, lowest-cong, Gives, right-some}
+use Rattle.guard.proofs.Laws.Told.{lowest-at, lowest-none, lowest-cong, Gives, right-some, Opening}
 use Rattle.guard.proofs.Laws.Sound.{sound-e, parent-level}
 use Rattle.guard.proofs.Soundness.Climb.{climbs-cong}
 use Rattle.guard.proofs.Soundness.Keys.{key-live, key-dead, parent-of-key}
@@ -325,8 +324,7 @@ module _ (t : Tables) (ok : sound t ≡ true) (grants : List ℕ) (G : Grants (t
 
   -- the role that openr and openw tell
   pub role-of : (call e : ℕ) → e < 64
-      → openedBy grants call (sessionAt t x .roles) e
-      ≡ cond (eqb call kind.openr) (roleFor t x read e) (cond (eqb call kind.openw) (roleFor t x write e) None)
+      → openedBy grants call (sessionAt t x .roles) e ≡ Opening t call x e
   unfolding openedBy side
   role-of call e l =
       rw (giver-right read 0 (omega arith) contains-read reads-within e l, giver-right write 1 (omega arith) contains-write writes-within e l)

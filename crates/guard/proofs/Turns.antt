@@ -14,7 +14,7 @@ use native.Mathlib.Numerals.{add-one}
 use native.Mathlib.Omega.{arith}
 use lib.Dec.{eqb}
 use lib.ListN.{length, getD, set, drop, replicate, length-append, length-drop, length-map}
-use borrow.Author.Tests.{eq-eqb, ne-eqb, eqb-true}
+use borrow.Author.Tests.{eq-eqb, ne-eqb}
 use Rattle.guard.specs.Fresh.{tabulate}
 use Rattle.guard.specs.Level.{roleCount}
 use Rattle.guard.specs.Told.{roleByte}
@@ -34,7 +34,7 @@ use Rattle.guard.specs.declared.Outcome.{Outcome}
 use Rattle.guard.specs.declared.look.Places.{Places}
 use Rattle.guard.specs.declared.Told.{Told}
 use Rattle.guard.specs.declared.Told.the-variants.{None}
-use Rattle.guard.proofs.Laws.Told.{byte-read}
+use Rattle.guard.proofs.Laws.Told.{byte-read, opening-same}
 use Rattle.guard.proofs.Ranges.{in-openr, in-openw}
 use Rattle.guard.proofs.Columns.{role-of}
 use Rattle.guard.proofs.Kept.{sound-next}
@@ -70,14 +70,13 @@ pub opens-by : (t : Tables) → sound t ≡ true → (grants : List ℕ) → Gra
     → (b : ℕ) → b ≡ roleByte (openedBy grants (q .call) (sessionAt t (p .seat) .roles) (p .entity)) → b ≡ roleByte (roleOpening t q)
 unfolding roleOpening
 opens-by t ok grants G q fits p near b h =
-    h ∙ ap roleByte (role-of t ok grants G (p .seat) (q .call) (p .entity) (near .entity .small) ∙ go (eqb (q .call) kind.openr) refl (eqb (q .call) kind.openw) refl)
+    h ∙ ap roleByte (role-of t ok grants G (p .seat) (q .call) (p .entity) (near .entity .small) ∙ opening-same t t (q .call) _ _ _ _ reads writes)
   where
-    go : (r : Bool) → eqb (q .call) kind.openr ≡ r → (w : Bool) → eqb (q .call) kind.openw ≡ w
-        → cond r (roleFor t (p .seat) read (p .entity)) (cond w (roleFor t (p .seat) write (p .entity)) None)
-        ≡ cond r (roleFor t (q .seat) read (q .entity)) (cond w (roleFor t (q .seat) write (q .entity)) None)
-    go true e w f = let (s, l) = in-openr q fits (eqb-true _ _ e) in rw (near .seat .same s, near .entity .same l)
-    go false e true f = let (s, l) = in-openw q fits (eqb-true _ _ f) in rw (near .seat .same s, near .entity .same l)
-    go false e false f = refl
+    reads : q .call ≡ kind.openr → roleFor t (p .seat) read (p .entity) ≡ roleFor t (q .seat) read (q .entity)
+    reads is = let (s, l) = in-openr q fits is in rw (near .seat .same s, near .entity .same l)
+
+    writes : q .call ≡ kind.openw → roleFor t (p .seat) write (p .entity) ≡ roleFor t (q .seat) write (q .entity)
+    writes is = let (s, l) = in-openw q fits is in rw (near .seat .same s, near .entity .same l)
 
 -- ---- after i requests
 pub record Held (t₀ : Tables) (rows old unsaid : List ℕ) (i : ℕ) (t : Tables) (said roles k g : List ℕ) : Type 0 where

@@ -6,15 +6,14 @@
 --     same-refl, same-refls       a request asks the same as itself, and so does a log
 -- Assumes nothing.
 use Prim.Native.Nat.{ℕ}
-use mathlib.Core.Path.{_≡_, refl, ap₂, _∙_}
-use mathlib.Core.Bool.{Bool, true, false, cond}
+use mathlib.Core.Path.{_≡_, refl, sym, ap₂}
+use mathlib.Core.Bool.{Bool, true}
 use mathlib.Core.List.{List, [], _∷_, map}
 use lib.Dec.{eqb}
 use borrow.Author.Tests.{eqb-true, eq-eqb}
 use Rattle.bitset.specs.Tests.Laws as tests
 use Rattle.bitset.specs.Tests.Laws.{every-i, every-e, every-at}
 use Rattle.guard.specs.Label.{sameLabel}
-use Rattle.guard.specs.Tables.{read, write, roleFor}
 use Rattle.guard.specs.Conditions.{userTooLow, createOutOfLevel, grantBelow, cannotOpen, cannotChangeIn, cannotChange, notOpen, nameTaken, hasChildren}
 use Rattle.guard.specs.Requests.{Rule, Field, call, seat, user, role, entity, parent, kind, name, label, rights, shared, fieldInRangeIn, loggedIn, created, login, logout, take, drop, openr, openw, close, create, delete, rename, grant, revoke, list, unlist, make, unmake, share, unknown, rules, ruleOf}
 use Rattle.guard.specs.Step.{inRangesIn, answer, answerIn, next, nextIn, roleOpening, roleTold, roleToldIn, step}
@@ -23,7 +22,7 @@ use Rattle.guard.specs.SameRequest.{sameField, sameRequest, sameRequests
 use Rattle.guard.specs.Private.InForce.{fieldInRange}
 use Rattle.guard.specs.declared.Tables.{Tables}
 use Rattle.guard.specs.declared.Request.{Request}
-use Rattle.guard.specs.declared.Told.the-variants.{None}
+use Rattle.guard.proofs.Laws.Told.{opening-same}
 use Rattle.guard.proofs.Laws.Step.{Each, each-rule}
 
 -- ---- the fields, as equations
@@ -205,17 +204,8 @@ module _ (p q : Request) (same : sameRequest p q ≡ true) where
   same-opening : (t : Tables) → roleOpening t p ≡ roleOpening t q
   unfolding roleOpening sameRequest
   same-opening t =
-      rw (eqb-true (p .call) (q .call) (every-at _ same 0), same-seat) (go (eqb (q .call) kinds.openr) refl (eqb (q .call) kinds.openw) refl)
-    where
-      call-is : p .call ≡ q .call
-      call-is = eqb-true (p .call) (q .call) (every-at _ same 0)
-
-      go : (r : Bool) → eqb (q .call) kinds.openr ≡ r → (w : Bool) → eqb (q .call) kinds.openw ≡ w
-          → cond r (roleFor t (q .seat) read (p .entity)) (cond w (roleFor t (q .seat) write (p .entity)) None)
-          ≡ cond r (roleFor t (q .seat) read (q .entity)) (cond w (roleFor t (q .seat) write (q .entity)) None)
-      go true h w k = rw (same-opened (call-is ∙ eqb-true _ _ h))
-      go false h true k = rw (same-written (call-is ∙ eqb-true _ _ k))
-      go false h false k = refl
+      let call-is : q .call ≡ p .call = sym (eqb-true (p .call) (q .call) (every-at _ same 0)) in
+      rw (call-is, ← same-seat) (opening-same t t (p .call) (p .seat) (p .seat) (p .entity) (q .entity) (λ h. rw (same-opened h)) (λ h. rw (same-written h)))
 
   pub same-role : (t : Tables) → roleTold t p ≡ roleTold t q
   unfolding roleToldIn

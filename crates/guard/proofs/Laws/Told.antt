@@ -5,6 +5,7 @@
 --     byte-read                             a byte of a batch tells what it was stored for
 --     right-some                            "x has a right on e" in document 01's words: a role held by x, of at least e's level, has it
 --     role-for, role-none                   the role that the check of a right tells, and that it tells none
+--     Opening, opening-same                 what openr and openw tell, by the role for the right
 --     openr-tells, openw-tells              accepted, both tell the role for the right, and one is told
 --     refused-tells, others-tell            all else tells none
 -- Assumes nothing.
@@ -16,7 +17,7 @@ use native.Mathlib.Omega.{arith}
 use native.Mathlib.Decide.{decLt}
 use lib.Dec.{leb, eqb}
 use lib.ListN.{getD}
-use borrow.Author.Tests.{ne-eqb}
+use borrow.Author.Tests.{eqb-true, ne-eqb}
 use Rattle.bitset.specs.Tests.{every, some}
 use Rattle.bitset.specs.Tests.Laws.{none-below, some-no-e, either-no-l, of-not-false}
 use Rattle.bitset.specs.Sets.{contains}
@@ -110,6 +111,20 @@ module _ (t : Tables) (x right e : ℕ) where
   role-none = none-told roleCount Gives
 
 -- ---- what a request tells
+-- of kind `call`, by x, on e: the two kinds that tell something
+abbrev pub Opening : Tables → ℕ → ℕ → ℕ → Told
+Opening t call x e = cond (eqb call kind.openr) (roleFor t x read e) (cond (eqb call kind.openw) (roleFor t x write e) None)
+
+pub opening-same : (t u : Tables) (call x y e f : ℕ) → (call ≡ kind.openr → roleFor t x read e ≡ roleFor u y read f)
+    → (call ≡ kind.openw → roleFor t x write e ≡ roleFor u y write f) → Opening t call x e ≡ Opening u call y f
+opening-same t u call x y e f reads writes = go (eqb call kind.openr) refl (eqb call kind.openw) refl
+  where
+    go : (r : Bool) → eqb call kind.openr ≡ r → (w : Bool) → eqb call kind.openw ≡ w
+        → cond r (roleFor t x read e) (cond w (roleFor t x write e) None) ≡ cond r (roleFor u y read f) (cond w (roleFor u y write f) None)
+    go true h w k = reads (eqb-true _ _ h)
+    go false h true k = writes (eqb-true _ _ k)
+    go false h false k = refl
+
 module _ (t : Tables) (q : Request) where
   can-open : (right : ℕ) → cannotOpen t q right ≡ false → hasRight t (q .seat) right (q .entity) ≡ true
   unfolding cannotOpen

@@ -7,12 +7,10 @@ use Prim.Native.Nat.{ℕ, _≤_}
 use mathlib.Core.Path.{_≡_, refl, sym, ap, _∙_}
 use mathlib.Core.Bool.{Bool, true, false, not, cond}
 use mathlib.Core.List.{List, [], _∷_, map}
-use mathlib.Core.Logic.{_⊎_, inl, inr}
 use lib.Dec.{eqb}
-use borrow.Author.Tests.{eqb-true}
 use Rattle.bitset.specs.Tests.{every}
 use Rattle.bitset.specs.Tests.Laws.{every-i, every-e, every-at, is-false, clash, of-not-false}
-use Rattle.guard.specs.Tables.{read, write, roleFor}
+use Rattle.guard.specs.Tables.{read, write}
 use Rattle.guard.specs.Sound.{sound}
 use Rattle.guard.specs.Requests.{Rule, Field, seat, fieldInRangeIn, login, logout, take, drop, openr, openw, close, create, delete, rename, grant, revoke, list, unlist, make, unmake, share, unknown, rules, ruleOf}
 use Rattle.guard.specs.Step.{inRangesIn, answer, answerIn, next, nextIn, roleOpening, roleToldIn, run, runIn}
@@ -21,8 +19,8 @@ use Rattle.guard.specs.Private.InForce.{fieldInRange, inRanges}
 use Rattle.isolation.specs.Upper.{firstSession, firstEntity, upper, isUpper, fieldUpper, namesUpper, upperRequests, answered, upperAnswers}
 use Rattle.guard.specs.declared.Tables.{Tables}
 use Rattle.guard.specs.declared.Request.{Request}
-use Rattle.guard.specs.declared.Told.the-variants.{None}
 use Rattle.guard.proofs.Laws.Refusals.{alike-first}
+use Rattle.guard.proofs.Laws.Told.{opening-same}
 use Rattle.guard.proofs.Laws.Step.{Done, next-by, each-rule}
 use Rattle.guard.proofs.Kept.{sound-next}
 use Rattle.isolation.specs.Log.{runLog, upperOf, answersOf, logs}
@@ -71,24 +69,20 @@ module _ (L : ℕ) where
       (refl, ap not (st ∙ sym su), λ a b. (refl, refl, λ r b. agrees L q t u (same-of L t u e) st su (of-not-false _ r) n))
 
   -- openr and openw name their seat and their entity
-  open-names : (q : Request) → namesUpper L q ≡ true → (eqb (q .call) kinds.openr ≡ true) ⊎ (eqb (q .call) kinds.openw ≡ true)
-      → (firstSession L ≤ q .seat) × (firstEntity L ≤ q .entity)
-  unfolding namesUpper fieldUpper ruleOf rules openr openw
-  open-names q n (inl r) =
-      let names = rw (eqb-true (q .call) kinds.openr r) at n in (upper-seat L (q .seat) (every-at _ names 0), upper-entity L (q .entity) (every-at _ names 1))
-  open-names q n (inr w) =
-      let names = rw (eqb-true (q .call) kinds.openw w) at n in (upper-seat L (q .seat) (every-at _ names 0), upper-entity L (q .entity) (every-at _ names 1))
+  openr-names : (q : Request) → namesUpper L q ≡ true → q .call ≡ kinds.openr → (firstSession L ≤ q .seat) × (firstEntity L ≤ q .entity)
+  unfolding namesUpper fieldUpper ruleOf rules openr
+  openr-names q n is = let names = rw is at n in (upper-seat L (q .seat) (every-at _ names 0), upper-entity L (q .entity) (every-at _ names 1))
+
+  openw-names : (q : Request) → namesUpper L q ≡ true → q .call ≡ kinds.openw → (firstSession L ≤ q .seat) × (firstEntity L ≤ q .entity)
+  unfolding namesUpper fieldUpper ruleOf rules openw
+  openw-names q n is = let names = rw is at n in (upper-seat L (q .seat) (every-at _ names 0), upper-entity L (q .entity) (every-at _ names 1))
 
   upper-opens : (t u : Tables) (q : Request) → upper L t ≡ upper L u → namesUpper L q ≡ true → roleOpening t q ≡ roleOpening u q
   unfolding roleOpening
-  upper-opens t u q e n = go (eqb (q .call) kinds.openr) refl (eqb (q .call) kinds.openw) refl
-    where
-      go : (r : Bool) → eqb (q .call) kinds.openr ≡ r → (w : Bool) → eqb (q .call) kinds.openw ≡ w
-          → cond r (roleFor t (q .seat) read (q .entity)) (cond w (roleFor t (q .seat) write (q .entity)) None)
-          ≡ cond r (roleFor u (q .seat) read (q .entity)) (cond w (roleFor u (q .seat) write (q .entity)) None)
-      go true r w k = let (x, f) = open-names q n (inl r) in roleFor-same L t u (same-of L t u e) (q .seat) read (q .entity) x f
-      go false r true w = let (x, f) = open-names q n (inr w) in roleFor-same L t u (same-of L t u e) (q .seat) write (q .entity) x f
-      go false r false w = refl
+  upper-opens t u q e n =
+      opening-same t u (q .call) (q .seat) (q .seat) (q .entity) (q .entity)
+      (λ is. let (x, f) = openr-names q n is in roleFor-same L t u (same-of L t u e) (q .seat) read (q .entity) x f)
+      (λ is. let (x, f) = openw-names q n is in roleFor-same L t u (same-of L t u e) (q .seat) write (q .entity) x f)
 
   -- the number, and the role beside it
   upper-answers : (t u : Tables) (q : Request) → sound t ≡ true → sound u ≡ true → upper L t ≡ upper L u → namesUpper L q ≡ true → answered t q ≡ answered u q
