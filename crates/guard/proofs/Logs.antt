@@ -94,15 +94,15 @@ shorter-r a b = go (leb a b) refl
 module _ (numbers answers roles : ℕ) where
   pub batch-room : batchLength numbers answers roles ≤ answers
   unfolding batchLength
-  batch-room = omega (arith, shorter-r (numbers / rowLength) (shorter answers roles), shorter-l answers roles)
+  batch-room = omega (arith, shorter-r (numbers / rowLength) (shorter roles answers), shorter-r roles answers)
 
   pub batch-space : batchLength numbers answers roles ≤ roles
   unfolding batchLength
-  batch-space = omega (arith, shorter-r (numbers / rowLength) (shorter answers roles), shorter-r answers roles)
+  batch-space = omega (arith, shorter-r (numbers / rowLength) (shorter roles answers), shorter-l roles answers)
 
   pub batch-rows : (i : ℕ) → i < batchLength numbers answers roles → rowLength * i + rowLength ≤ numbers
   unfolding batchLength
-  batch-rows i l = let k = shorter-l (numbers / rowLength) (shorter answers roles) in omega arith
+  batch-rows i l = let k = shorter-l (numbers / rowLength) (shorter roles answers) in omega arith
 
 -- ---- on unsound tables
 pub all-refused : (t : Tables) (log : List Request) → sound t ≡ false

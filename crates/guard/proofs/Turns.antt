@@ -79,20 +79,20 @@ opens-by t ok grants G q fits p near b h =
     writes is = let (s, l) = in-openw q fits is in rw (near .seat .same s, near .entity .same l)
 
 -- ---- after i requests
-pub record Held (t₀ : Tables) (rows old unsaid : List ℕ) (i : ℕ) (t : Tables) (said roles k g : List ℕ) : Type 0 where
+pub record Held (t₀ : Tables) (rows old oldRoles : List ℕ) (i : ℕ) (t : Tables) (said roles k g : List ℕ) : Type 0 where
   pub ran : t ≡ run t₀ (requests i rows)
   pub isSound : sound t ≡ true
   pub answered : said ≡ answers t₀ (requests i rows) ++ drop i old
-  pub told : roles ≡ map roleByte (rolesTold t₀ (requests i rows)) ++ drop i unsaid
+  pub told : roles ≡ map roleByte (rolesTold t₀ (requests i rows)) ++ drop i oldRoles
   pub keys : Keys (t .entities) k
   pub grants : Grants (t .roles) g
 
-pub held-none : (t : Tables) (rows old unsaid keys grants : List ℕ) → sound t ≡ true → Keys (t .entities) keys → Grants (t .roles) grants
-    → Held t rows old unsaid 0 t old unsaid keys grants
+pub held-none : (t : Tables) (rows old oldRoles keys grants : List ℕ) → sound t ≡ true → Keys (t .entities) keys → Grants (t .roles) grants
+    → Held t rows old oldRoles 0 t old oldRoles keys grants
 unfolding runIn eachIn tabulate
-held-none t rows old unsaid keys grants h K G = record { ran = refl; isSound = h; answered = refl; told = refl; keys = K; grants = G }
+held-none t rows old oldRoles keys grants h K G = record { ran = refl; isSound = h; answered = refl; told = refl; keys = K; grants = G }
 
-module _ (t₀ : Tables) (rows old unsaid : List ℕ) (i : ℕ) (t : Tables) (said roles keys grants : List ℕ) (held : Held t₀ rows old unsaid i t said roles keys grants) where
+module _ (t₀ : Tables) (rows old oldRoles : List ℕ) (i : ℕ) (t : Tables) (said roles keys grants : List ℕ) (held : Held t₀ rows old oldRoles i t said roles keys grants) where
   one-more : requests (i + 1) rows ≡ requests i rows ++ (requestAt rows i ∷ [])
   unfolding tabulate
   one-more = rw add-one
@@ -103,9 +103,9 @@ module _ (t₀ : Tables) (rows old unsaid : List ℕ) (i : ℕ) (t : Tables) (sa
   passed-roles : length (map roleByte (rolesTold t₀ (requests i rows))) ≡ i
   passed-roles = length-map (rolesTold t₀ (requests i rows)) roleByte ∙ passed roleTold
 
-  pub held-more : (q : Request) → q ≡ requestAt rows i → i < length old → i < length unsaid → (u : Tables) (n b : ℕ) → Stepped t q u n b
+  pub held-more : (q : Request) → q ≡ requestAt rows i → i < length old → i < length oldRoles → (u : Tables) (n b : ℕ) → Stepped t q u n b
       → (keys′ grants′ : List ℕ) → Keys (u .entities) keys′ → Grants (u .roles) grants′
-      → Held t₀ rows old unsaid (i + 1) u (set said i n) (set roles i b) keys′ grants′
+      → Held t₀ rows old oldRoles (i + 1) u (set said i n) (set roles i b) keys′ grants′
   held-more q asked low low′ u n b step keys′ grants′ K G =
       let after : u ≡ next t (requestAt rows i) = step .tables ∙ ap (next t) asked in
       let number : n ≡ answer t (requestAt rows i) = step .answered ∙ ap (answer t) asked in
@@ -116,7 +116,7 @@ module _ (t₀ : Tables) (rows old unsaid : List ℕ) (i : ℕ) (t : Tables) (sa
         answered = rw (held .answered, one-more, each-snoc answer t₀ (requests i rows) (requestAt rows i), ← held .ran, number)
             (store-more (answers t₀ (requests i rows)) old i _ (passed answer) low);
         told = rw (held .told, one-more, each-snoc roleTold t₀ (requests i rows) (requestAt rows i), map-append, ← held .ran, role)
-            (store-more (map roleByte (rolesTold t₀ (requests i rows))) unsaid i _ passed-roles low′);
+            (store-more (map roleByte (rolesTold t₀ (requests i rows))) oldRoles i _ passed-roles low′);
         keys = K;
         grants = G;
       }
@@ -124,28 +124,28 @@ module _ (t₀ : Tables) (rows old unsaid : List ℕ) (i : ℕ) (t : Tables) (sa
   pub held-length : i ≤ length old → length said ≡ length old
   held-length low = ap length (held .answered) ∙ length-append (answers t₀ (requests i rows)) (drop i old) ∙ simp length-drop (omega (arith, passed answer))
 
-  pub held-roles : i ≤ length unsaid → length roles ≡ length unsaid
+  pub held-roles : i ≤ length oldRoles → length roles ≡ length oldRoles
   held-roles low =
-      ap length (held .told) ∙ length-append (map roleByte (rolesTold t₀ (requests i rows))) (drop i unsaid) ∙ simp length-drop (omega (arith, passed-roles))
+      ap length (held .told) ∙ length-append (map roleByte (rolesTold t₀ (requests i rows))) (drop i oldRoles) ∙ simp length-drop (omega (arith, passed-roles))
 
-  pub held-all : i ≡ batchCount rows old unsaid → RunsBatch t₀ rows old said unsaid roles t
+  pub held-all : i ≡ batchCount rows old oldRoles → RunsBatch t₀ rows old said oldRoles roles t
   held-all e =
       record {
         tables = held .ran ∙ ap (λ (n : ℕ). run t₀ (requests n rows)) e;
         answered = held .answered ∙ ap (λ (n : ℕ). answers t₀ (requests n rows) ++ drop n old) e;
-        told = held .told ∙ ap (λ (n : ℕ). map roleByte (rolesTold t₀ (requests n rows)) ++ drop n unsaid) e;
+        told = held .told ∙ ap (λ (n : ℕ). map roleByte (rolesTold t₀ (requests n rows)) ++ drop n oldRoles) e;
       }
 
 -- ---- of no request
-pub no-batch : (t : Tables) (rows old unsaid : List ℕ) → 0 ≡ batchCount rows old unsaid → RunsBatch t rows old old unsaid unsaid t
+pub no-batch : (t : Tables) (rows old oldRoles : List ℕ) → 0 ≡ batchCount rows old oldRoles → RunsBatch t rows old old oldRoles oldRoles t
 unfolding tabulate runIn eachIn
-no-batch t rows old unsaid h = record { tables = rw (← h); answered = rw (← h); told = rw (← h) }
+no-batch t rows old oldRoles h = record { tables = rw (← h); answered = rw (← h); told = rw (← h) }
 
 -- ---- on unsound tables
-pub unsound-batch : (t : Tables) (rows old new unsaid said : List ℕ) (n : ℕ) → sound t ≡ false → n ≡ batchCount rows old unsaid
-    → new ≡ replicate n 1 ++ drop n old → said ≡ replicate n 255 ++ drop n unsaid → RunsBatch t rows old new unsaid said t
-unsound-batch t rows old new unsaid said n h e ones-are nones-are =
-    let count = batchCount rows old unsaid in
+pub unsound-batch : (t : Tables) (rows old new oldRoles newRoles : List ℕ) (n : ℕ) → sound t ≡ false → n ≡ batchCount rows old oldRoles
+    → new ≡ replicate n 1 ++ drop n old → newRoles ≡ replicate n 255 ++ drop n oldRoles → RunsBatch t rows old new oldRoles newRoles t
+unsound-batch t rows old new oldRoles newRoles n h e ones-are nones-are =
+    let count = batchCount rows old oldRoles in
     let (stays, ones, nones) = all-refused t (requests count rows) h in
     record {
       tables = sym stays;
@@ -166,12 +166,12 @@ role-back t q = go (eqb (answer t q) 0) (eqb (q .call) kind.openr) (eqb (q .call
     go true false false = refl
     go false r w = refl
 
-pub one-request : (t u : Tables) (q : Request) (rows old new unsaid said : List ℕ) (o : ℕ) (r : Told) → rows ≡ rowOf q → old ≡ 0 ∷ [] → unsaid ≡ 0 ∷ []
-    → RunsBatch t rows old new unsaid said u → o ≡ getD new 0 0 → r ≡ readByte (getD said 0 0)
+pub one-request : (t u : Tables) (q : Request) (rows old new oldRoles newRoles : List ℕ) (o : ℕ) (r : Told) → rows ≡ rowOf q → old ≡ 0 ∷ [] → oldRoles ≡ 0 ∷ []
+    → RunsBatch t rows old new oldRoles newRoles u → o ≡ getD new 0 0 → r ≡ readByte (getD newRoles 0 0)
     → _≡_ {A = Outcome} (record { tables = u; answer = o; role = r }) (step t q)
 unfolding shorter batchLength tabulate requestAt runIn eachIn step
-one-request t u q rows old new unsaid said o r row room space h first role =
+one-request t u q rows old new oldRoles newRoles o r row room space h first role =
     let after : u ≡ next t q = h .tables ∙ rw (row, room, space) in
     let number : new ≡ answer t q ∷ [] = h .answered ∙ rw (row, room, space) in
-    let byte : said ≡ roleByte (roleTold t q) ∷ [] = h .told ∙ rw (row, room, space) in
+    let byte : newRoles ≡ roleByte (roleTold t q) ∷ [] = h .told ∙ rw (row, room, space) in
     rw (after, first, number, role, byte, role-back t q)

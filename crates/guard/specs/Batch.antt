@@ -28,23 +28,24 @@ requestAt rows i =
 abbrev pub requests : ℕ → List ℕ → List Request
 requests n rows = tabulate n (requestAt rows)
 
+-- the shorter of two lengths
 unfoldable pub shorter : ℕ → ℕ → ℕ
 shorter a b = cond (leb a b) a b
 
 -- as many as stand whole in so many numbers and have room for their answers and for their roles
 unfoldable pub batchLength : ℕ → ℕ → ℕ → ℕ
-batchLength numbers answers roles = shorter (numbers / rowLength) (shorter answers roles)
+batchLength numbers answers roles = shorter (numbers / rowLength) (shorter roles answers)
 
--- how many requests a host hands over in `rows`, lending `old` for the answers and `unsaid` for the roles; and their log
+-- how many requests a host hands over in `rows`, lending `old` for the answers and `oldRoles` for the roles; their log
 abbrev pub batchCount : List ℕ → List ℕ → List ℕ → ℕ
-batchCount rows old unsaid = batchLength (length rows) (length old) (length unsaid)
+batchCount rows old oldRoles = batchLength (length rows) (length old) (length oldRoles)
 
 abbrev pub batch : List ℕ → List ℕ → List ℕ → List Request
-batch rows old unsaid = requests (batchCount rows old unsaid) rows
+batch rows old oldRoles = requests (batchCount rows old oldRoles) rows
 
 -- What the host gets: the tables u after the log, in the place of the first bytes of `old` the answer to each request, and in the
--- place of those of `unsaid` the role that it tells; the bytes behind them are as they were.
-pub record RunsBatch (t : Tables) (rows old new unsaid said : List ℕ) (u : Tables) : Type 0 where
-  pub tables : u ≡ run t (batch rows old unsaid)
-  pub answered : new ≡ answers t (batch rows old unsaid) ++ drop (batchCount rows old unsaid) old
-  pub told : said ≡ map roleByte (rolesTold t (batch rows old unsaid)) ++ drop (batchCount rows old unsaid) unsaid
+-- place of those of `oldRoles` the role that it tells; the bytes behind them are as they were.
+pub record RunsBatch (t : Tables) (rows old new oldRoles newRoles : List ℕ) (u : Tables) : Type 0 where
+  pub tables : u ≡ run t (batch rows old oldRoles)
+  pub answered : new ≡ answers t (batch rows old oldRoles) ++ drop (batchCount rows old oldRoles) old
+  pub told : newRoles ≡ map roleByte (rolesTold t (batch rows old oldRoles)) ++ drop (batchCount rows old oldRoles) oldRoles

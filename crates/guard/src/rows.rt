@@ -18,7 +18,7 @@ fn shorter(a: usize, b: usize) -> usize
 pub fn count(numbers: usize, answers: usize, roles: usize) -> usize
     ensures { λ n. ⌜ n ≡ batchLength numbers answers roles ⌝ }
 {
-    shorter(numbers / ROW, shorter(answers, roles))
+    shorter(numbers / ROW, shorter(roles, answers))
 }
 
 // The request of row `i`.
@@ -63,7 +63,7 @@ pub fn row(q: Request) -> [u32; ROW]
     ]
 }
 
-// The first bytes, `n` each: what every request of a batch is answered alike.
+// The byte `n` for each request of a batch: what all of them are handed back alike.
 pub fn fill(bytes: &mut [u8], count: usize, n: u8) -> usize
     requires { ⌜ count ≤ length (now bytes) ⌝ }
     ensures { λ r. ⌜ (r ≡ count) × (now (bytes .exit) ≡ replicate count n ++ drop count (now (bytes .entry))) ⌝ }

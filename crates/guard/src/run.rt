@@ -63,6 +63,7 @@ impl Tables {
                 match changed {
                     Change::Session => {
                         self.sessions[x] = sessions::after(q, session);
+                        // What openr and openw tell.
                         roles[i - 1] = giver::role_told(&grants, q.call, session.roles, e);
                     }
                     Change::Entity => {

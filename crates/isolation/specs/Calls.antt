@@ -31,10 +31,10 @@ use Rattle.isolation.specs.Theorem.{isolation}
 pub data Call : Tables → List Request → List ℕ → List ℕ → Tables → Type 0 where
   -- `t.step(q)` handed back o
   stepped : {t : Tables} {q : Request} {o : Outcome} → o ≡ step t q → Call t (q ∷ []) (o .answer ∷ []) (roleByte (o .role) ∷ []) (o .tables)
-  -- `t.run(&rows, &mut answers, &mut roles)` handed back u, and made `new` of the answers `old` and `said` of the roles `unsaid`: one
+  -- `t.run(&rows, &mut answers, &mut roles)` handed back u, and made `new` of the answers `old` and `newRoles` of the roles `oldRoles`: one
   -- for each request, the rest as it was
-  ran : {t u : Tables} {rows old new unsaid said : List ℕ} → RunsBatch t rows old new unsaid said u
-      → Call t (batch rows old unsaid) (take (length (batch rows old unsaid)) new) (take (length (batch rows old unsaid)) said) u
+  ran : {t u : Tables} {rows old new oldRoles newRoles : List ℕ} → RunsBatch t rows old new oldRoles newRoles u
+      → Call t (batch rows old oldRoles) (take (length (batch rows old oldRoles)) new) (take (length (batch rows old oldRoles)) newRoles) u
 
 -- Calls one after the other, each on the tables that the one before handed back.
 pub data Calls : Tables → List Request → List ℕ → List ℕ → Tables → Type 0 where
@@ -64,8 +64,8 @@ one-logged : {t u : Tables} {a : List Request} {p r : List ℕ} → Call t a p r
 unfolding runIn eachIn step
 one-logged (stepped e) =
     (ap (λ (o : Outcome). o .tables) e, ap (λ (o : Outcome). o .answer ∷ []) e, ap (λ (o : Outcome). roleByte (o .role) ∷ []) e)
-one-logged (ran {t = t} {rows = rows} {old = old} {unsaid = unsaid} b) =
-    let log = batch rows old unsaid in
+one-logged (ran {t = t} {rows = rows} {old = old} {oldRoles = oldRoles} b) =
+    let log = batch rows old oldRoles in
     (b .tables, rw (b .answered) (take-at (answers t log) _ _ (length-each answer t log)), rw (b .told) (take-at (bytes t log) _ _ (length-bytes t log)))
 
 logged : {t u : Tables} {a : List Request} {p r : List ℕ} → Calls t a p r u → Logged t a p r u

@@ -99,19 +99,19 @@ texts-all n marks given i lines h l p = let e : lines ≡ i = omega arith in rw 
 -- ---- what the guard hands back
 all-fit : (n answers roles : ℕ) → n ≤ answers → n ≤ roles → batchLength (rowLength * n) answers roles ≡ n
 unfolding batchLength shorter
-all-fit n answers roles h k = let e : (12 * n) / 12 ≡ n = omega arith in rw e (go (leb answers roles))
+all-fit n answers roles h k = let e : (12 * n) / 12 ≡ n = omega arith in rw e (go (leb roles answers))
   where
-    go : (b : Bool) → cond (leb n (cond b answers roles)) n (cond b answers roles) ≡ n
-    go true = rw (le-leb n answers h)
-    go false = rw (le-leb n roles k)
+    go : (b : Bool) → cond (leb n (cond b roles answers)) n (cond b roles answers) ≡ n
+    go true = rw (le-leb n roles k)
+    go false = rw (le-leb n answers h)
 
-module _ {t u : Tables} (rows : List ℕ) {old new unsaid said : List ℕ} (n : ℕ) (did : RunsBatch t (take (rowLength * n) rows) old new unsaid said u)
-    (within : rowLength * n ≤ length rows) (room : n ≤ length old) (space : n ≤ length unsaid) where
-  so-many : batchCount (take (rowLength * n) rows) old unsaid ≡ n
+module _ {t u : Tables} (rows : List ℕ) {old new oldRoles newRoles : List ℕ} (n : ℕ) (did : RunsBatch t (take (rowLength * n) rows) old new oldRoles newRoles u)
+    (within : rowLength * n ≤ length rows) (room : n ≤ length old) (space : n ≤ length oldRoles) where
+  so-many : batchCount (take (rowLength * n) rows) old oldRoles ≡ n
   so-many =
-      ap (λ (k : ℕ). batchLength k (length old) (length unsaid)) (length-take-le (rowLength * n) rows within) ∙ all-fit n (length old) (length unsaid) room space
+      ap (λ (k : ℕ). batchLength k (length old) (length oldRoles)) (length-take-le (rowLength * n) rows within) ∙ all-fit n (length old) (length oldRoles) room space
 
-  the-log : batch (take (rowLength * n) rows) old unsaid ≡ requests n rows
+  the-log : batch (take (rowLength * n) rows) old oldRoles ≡ requests n rows
   the-log = ap (λ (k : ℕ). requests k (take (rowLength * n) rows)) so-many ∙ requests-take n rows
 
   pub ran-tables : u ≡ run t (requests n rows)
@@ -132,10 +132,10 @@ pub room-for : {at s rows : List ℕ} {shut : Bool} {marks : List Bool} (told : 
     → (g .lines ≡ 0 → ⊥) → length told ≡ batchLines → (g .lines ≤ length marks) × (g .lines ≤ length told) × (12 * g .lines ≤ room) × (done + 1 + g .lines ≤ lastLine + 1)
 room-for told most took some d = (took .marked, omega (arith, took .few, most .fits), omega (arith, took .few, most .space), omega (arith, some, took .few, most .last))
 
-module _ (r : Runner) (piece old new : List ℕ) (end : Bool) (g : Gathered) (u : Tables) (rows : List ℕ) (marks : List Bool) (given told unsaid roles : List ℕ) (m n : ℕ)
+module _ (r : Runner) (piece old new : List ℕ) (end : Bool) (g : Gathered) (u : Tables) (rows : List ℕ) (marks : List Bool) (given told oldRoles roles : List ℕ) (m n : ℕ)
     (p : r .phase ≡ atLines) (k : r .skip ≡ false) (most : Most (r .done) (length old) m) (took : Batched (r .at) (r .shut) piece m rows marks g)
-    (some : g .lines ≡ 0 → ⊥) (deep : length given ≡ batchLines) (wide : length unsaid ≡ batchLines)
-    (did : RunsBatch (r .tables) (take (rowLength * g .count) rows) given told unsaid roles u)
+    (some : g .lines ≡ 0 → ⊥) (deep : length given ≡ batchLines) (wide : length oldRoles ≡ batchLines)
+    (did : RunsBatch (r .tables) (take (rowLength * g .count) rows) given told oldRoles roles u)
     (puts : Put old 0 (texts (r .done + 1) (take (g .lines) marks) told) new n) where
   abbrev asks : List Bool
   asks = take (g .lines) marks

@@ -54,15 +54,15 @@ rows-at c = entered c .args .rows .now
 abbrev old-at : At tie.After-count → List ℕ
 old-at c = entered c .args .answers .now
 
-abbrev unsaid-at : At tie.After-count → List ℕ
-unsaid-at c = entered c .args .roles .now
+abbrev old-roles-at : At tie.After-count → List ℕ
+old-roles-at c = entered c .args .roles .now
 
 -- the batch has room for its answers and for its roles
 room : (c : At tie.After-count) → c .count .result ≤ length (old-at c)
-room c = omega (arith, c .count .ensures, batch-room (length (rows-at c)) (length (old-at c)) (length (unsaid-at c)))
+room c = omega (arith, c .count .ensures, batch-room (length (rows-at c)) (length (old-at c)) (length (old-roles-at c)))
 
-space : (c : At tie.After-count) → c .count .result ≤ length (unsaid-at c)
-space c = omega (arith, c .count .ensures, batch-space (length (rows-at c)) (length (old-at c)) (length (unsaid-at c)))
+space : (c : At tie.After-count) → c .count .result ≤ length (old-roles-at c)
+space c = omega (arith, c .count .ensures, batch-space (length (rows-at c)) (length (old-at c)) (length (old-roles-at c)))
 
 sound-at : (c : At tie.Else2) → sound (entered (counted (c .before)) .args .t1) ≡ true
 sound-at c = sym (c .before .sound-by .ensures) ∙ not-false _ (c .if2 .left)
@@ -97,13 +97,13 @@ rows-of c = rows-at (began c)
 abbrev old-of : At tie.In-loop → List ℕ
 old-of c = old-at (began c)
 
-abbrev unsaid-of : At tie.In-loop → List ℕ
-unsaid-of c = unsaid-at (began c)
+abbrev old-roles-of : At tie.In-loop → List ℕ
+old-roles-of c = old-roles-at (began c)
 
 within : (c : At tie.In-loop) → c .before .loop .i < length (old-of c)
 within c = omega (arith, c .loop-test .taken, room (began c))
 
-within-roles : (c : At tie.In-loop) → c .before .loop .i < length (unsaid-of c)
+within-roles : (c : At tie.In-loop) → c .before .loop .i < length (old-roles-of c)
 within-roles c = omega (arith, c .loop-test .taken, space (began c))
 
 -- ---- the decision
@@ -128,8 +128,8 @@ judged c =
 turned : (c : At tie.After-judge) (u : Tables) (b : ℕ) → Stepped (tables (c .before)) (asked (c .before)) u (c .judge .result) b
     → (roles : List ℕ) → roles ≡ set (turn c .before .loop .roles) (turn c .before .loop .i) b → (k g : List ℕ) → Keys (u .entities) k → Grants (u .roles) g
     → (turn c .before .loop .i + 1 ≤ began (turn c) .count .result)
-    × (began (turn c) .count .result ≡ batchCount (rows-of (turn c)) (old-of (turn c)) (unsaid-of (turn c)))
-    × Held (entered (began (turn c)) .args .t1) (rows-of (turn c)) (old-of (turn c)) (unsaid-of (turn c)) (turn c .before .loop .i + 1) u (set (turn c .before .loop .answers) (turn c .before .loop .i) (c .judge .result)) roles k g
+    × (began (turn c) .count .result ≡ batchCount (rows-of (turn c)) (old-of (turn c)) (old-roles-of (turn c)))
+    × Held (entered (began (turn c)) .args .t1) (rows-of (turn c)) (old-of (turn c)) (old-roles-of (turn c)) (turn c .before .loop .i + 1) u (set (turn c .before .loop .answers) (turn c .before .loop .i) (c .judge .result)) roles k g
 turned c u b step roles same k g K G =
     let l = turn c in
     rw same
