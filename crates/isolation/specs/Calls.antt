@@ -31,8 +31,8 @@ use Rattle.isolation.specs.Theorem.{isolation}
 pub data Call : Tables → List Request → List ℕ → List ℕ → Tables → Type 0 where
   -- `t.step(q)` handed back o
   stepped : {t : Tables} {q : Request} {o : Outcome} → o ≡ step t q → Call t (q ∷ []) (o .answer ∷ []) (roleByte (o .role) ∷ []) (o .tables)
-  -- `t.run(&rows, &mut answers, &mut roles)` handed back u, and made `new` of the answers `old` and `newRoles` of the roles `oldRoles`: one
-  -- for each request, the rest as it was
+  -- `t.run(&rows, &mut answers, &mut roles)` handed back u, and made `new` of the answers `old` and `newRoles` of the roles
+  -- `oldRoles`: one for each request, the rest as it was
   ran : {t u : Tables} {rows old new oldRoles newRoles : List ℕ} → RunsBatch t rows old new oldRoles newRoles u
       → Call t (batch rows old oldRoles) (take (length (batch rows old oldRoles)) new) (take (length (batch rows old oldRoles)) newRoles) u
 

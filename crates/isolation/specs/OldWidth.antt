@@ -1,7 +1,7 @@
 -- Taking over tables of the old width: change A.1's promise, as one statement on all logs.
--- "The same rules" are the rules in force, in the old width: soundIn, answersIn, rolesToldIn, runIn (guard/specs: Sound, Step) at oldWidth. They
--- speak of numbers, and the numbers of old tables o are those of takenOver o (guard/specs/Old). PastOldWidth shows that the premise
--- on the log matters. Assumes nothing.
+-- "The same rules" are the rules in force, in the old width: soundIn, answersIn, rolesToldIn, runIn (guard/specs: Sound, Step) at
+-- oldWidth. They speak of numbers, and the numbers of old tables o are those of takenOver o (guard/specs/Old). PastOldWidth shows
+-- that the premise on the log matters. Assumes nothing.
 use mathlib.Core.Path.{_≡_}
 use mathlib.Core.Bool.{true}
 use mathlib.Core.List.{List, map}
