@@ -1,10 +1,11 @@
 -- Sets of numbers, each written as one number: i is a member where bit i is 1. Every operation is free of the width.
-use Prim.Native.Nat.{ℕ, _/_, _%_, _^_}
-use mathlib.Core.Bool.{Bool}
+use Prim.Native.Nat.{ℕ, zero, suc, _/_, _%_, _^_}
+use mathlib.Core.Bool.{Bool, cond}
 use lib.Dec.{eqb}
 use lib.Bits.{bitAnd, bitOr, bitXor}
 pub mod Laws
 pub mod Shift
+pub mod Keeping
 
 -- i is a member of s
 unfoldable pub has : ℕ → ℕ → Bool
@@ -29,6 +30,11 @@ with s i = join s (2 ^ i)
 -- s less the member i
 unfoldable pub without : ℕ → ℕ → ℕ
 without s i = minus s (2 ^ i)
+
+-- s less each number below n at which the test is not met
+unfoldable pub keeping : ℕ → (ℕ → Bool) → ℕ → ℕ
+keeping zero p s = s
+keeping (suc n) p s = cond (p n) (keeping n p s) (without (keeping n p s) n)
 
 -- the members from k on, counted from k
 unfoldable pub from : ℕ → ℕ → ℕ

@@ -82,3 +82,9 @@ pub fn minus16(s: u16, m: u16) -> u16
 {
     s & !m
 }
+
+pub fn minus64(s: u64, m: u64) -> u64
+    ensures { λ r. ⌜ r ≡ minus s m ⌝ }
+{
+    s & !m
+}

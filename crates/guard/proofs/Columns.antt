@@ -4,8 +4,6 @@
 --     put-four, cleared-all, Sides, sides-..      the code's stores into `grants`
 --     Gathering, gathering-..               the rights gathered role by role
 --     Giver, giver-..                       the lowest role held that gives a right
---     rights-of                             the rights gathered over the roles held are those of the session
---     role-of                               the lowest role held that gives the right, by the columns, is the one that the check tells
 --     way-of                                the climb by keys is "reaches"
 --     name-of, child-of                     a name among the children, a child
 -- Assumes nothing.
@@ -43,7 +41,7 @@ use Rattle.guard.specs.declared.Told.{Told}
 use Rattle.guard.specs.declared.Told.the-variants.{By, None}
 use Rattle.guard.proofs.Laws.Rights.{contains-read, contains-write, contains-execute, contains-own}
 use Rattle.guard.proofs.Laws.Told.{lowest-at, lowest-none, lowest-cong, Gives, right-some, Opening}
-use Rattle.guard.proofs.Laws.Sound.{sound-e, parent-level}
+use Rattle.guard.proofs.Laws.Sound.{Formed, formed-e, parent-level}
 use Rattle.guard.proofs.Soundness.Climb.{climbs-cong}
 use Rattle.guard.proofs.Soundness.Keys.{key-live, key-dead, parent-of-key}
 use Rattle.guard.proofs.Soundness.Whole.{numbers}
@@ -277,57 +275,6 @@ module _ (grants : List ℕ) (k e : ℕ) where
   pub giver-none : Giver 0 ≡ None
   unfolding every
   giver-none = lowest-none 16 _ (λ i l. rw (has-none i))
-
-module _ (t : Tables) (ok : sound t ≡ true) (grants : List ℕ) (G : Grants (t .roles) grants) (x : ℕ) where
-  module _ (right k : ℕ) (small : k < 4) (same : (p : Role) (e : ℕ) → contains (rightsOf p e) right ≡ has (side p k) e)
-      (within : (r e : ℕ) → r < 16 → e < 64 → has (side (roleAt t r) k) e ≡ true → leb (entityLevel e) (roleLevel r) ≡ true)
-    where
-      gives-right : (e : ℕ) → e < 64 → (r : ℕ) → r < 16 → gives grants (sessionAt t x .roles) k e r ≡ Gives t x right e r
-      gives-right e l r b = both _ _ forth back
-        where
-          forth : gives grants (sessionAt t x .roles) k e r ≡ true → Gives t x right e r ≡ true
-          forth h =
-              let inside = ap (λ (s : ℕ). has s e) (sym (G .at r k b small)) ∙ every-at _ h 1 in
-              every-i _ (within r e b l inside, (every-at _ h 0, (same (roleAt t r) e ∙ inside, tt)))
-
-          back : Gives t x right e r ≡ true → gives grants (sessionAt t x .roles) k e r ≡ true
-          back h =
-              every-i _ (every-at _ h 1, (ap (λ (s : ℕ). has s e) (G .at r k b small) ∙ sym (same (roleAt t r) e) ∙ every-at _ h 2, tt))
-
-      given-right : (e : ℕ) → e < 64 → given grants (sessionAt t x .roles) k e ≡ hasRight t x right e
-      unfolding given
-      given-right e l = some-cong 16 _ _ (gives-right e l) ∙ sym (right-some t x right e)
-
-      giver-right : (e : ℕ) → e < 64 → lowest 16 (gives grants (sessionAt t x .roles) k e) ≡ roleFor t x right e
-      unfolding roleFor
-      giver-right e l = lowest-cong 16 _ _ (gives-right e l)
-
-  -- of sound tables: a role has rights on no entity above its level
-  reads-within : (r e : ℕ) → r < 16 → e < 64 → has (side (roleAt t r) 0) e ≡ true → leb (entityLevel e) (roleLevel r) ≡ true
-  unfolding side
-  reads-within r e b c m = every-at _ (sound-e t ok .role r b .reads .members e c m) 1
-
-  writes-within : (r e : ℕ) → r < 16 → e < 64 → has (side (roleAt t r) 1) e ≡ true → leb (entityLevel e) (roleLevel r) ≡ true
-  unfolding side
-  writes-within r e b c m = every-at _ (sound-e t ok .role r b .writes .members e c m) 1
-
-  pub rights-of : (g : Rights) → Gathered grants (sessionAt t x .roles) g → RightsOf t x g
-  unfolding side
-  rights-of g h =
-      let role = sound-e t ok .role in
-      record {
-        reads = λ e l. h .reads e ∙ given-right read 0 (omega arith) contains-read reads-within e l;
-        writes = λ e l. h .writes e ∙ given-right write 1 (omega arith) contains-write writes-within e l;
-        executes = λ e l. h .executes e ∙ given-right execute 2 (omega arith) contains-execute (λ r f b c m. every-at _ (role r b .executes .members f c m) 1) e l;
-        owns = λ e l. h .owns e ∙ given-right own 3 (omega arith) contains-own (λ r f b c m. every-at _ (role r b .owns .members f c m) 1) e l;
-      }
-
-  -- the role that openr and openw tell
-  pub role-of : (call e : ℕ) → e < 64
-      → openedBy grants call (sessionAt t x .roles) e ≡ Opening t call x e
-  unfolding openedBy side
-  role-of call e l =
-      rw (giver-right read 0 (omega arith) contains-read reads-within e l, giver-right write 1 (omega arith) contains-write writes-within e l)
 
 -- ---- the way up, and the children
 module _ (t : Tables) (ok : sound t ≡ true) (keys : List ℕ) (K : Keys (t .entities) keys) where

@@ -1,5 +1,6 @@
--- Loops that fill an array with what a function gives at each number.
---     length-tabulate       .. it has as many as there are numbers
+-- Lists that a function gives, number by number, and loops that fill an array with one.
+--     length-tabulate, getD-tabulate       as many as there are numbers; what stands at one
+--     tabulate-is           a list with these elements is it
 --     filled, filled-none, filled-more, filled-all      the first i filled, the others as they were
 --     every-two       a list of two tests, the first of which is met
 -- Assumes nothing.
@@ -9,9 +10,10 @@ use mathlib.Core.Bool.{Bool, true, and-true}
 use mathlib.Core.List.{List, [], _∷_, _++_, append-nil}
 use native.Mathlib.Numerals.{add-one}
 use native.Mathlib.Nat.{sub-self, sub-zero}
+use native.Mathlib.Decide.{decLt}
 use native.Mathlib.Omega.{arith}
-use lib.ListN.{length, set, replicate, length-append}
-use lib.Seq.{set-at, append-snoc}
+use lib.ListN.{length, getD, set, replicate, length-append, List·getD-append}
+use lib.Seq.{set-at, append-snoc, getD-append-seam, ext-getD}
 use Rattle.bitset.specs.Tests.{every}
 use Rattle.guard.specs.Fresh.{tabulate}
 
@@ -23,6 +25,22 @@ pub length-tabulate : {A : Type 0} (f : ℕ → A) (i : ℕ) → length (tabulat
 unfolding tabulate
 length-tabulate f zero = refl
 length-tabulate f (suc i) = length-append (tabulate i f) (f i ∷ []) ∙ rw (length-tabulate f i) (add-one i)
+
+pub getD-tabulate : {A : Type 0} (f : ℕ → A) (n i : ℕ) (d : A) → i < n → getD (tabulate n f) i d ≡ f i
+unfolding tabulate
+getD-tabulate f zero i d h = absurd (omega arith)
+getD-tabulate f (suc n) i d h = go (decLt i n) (getD-tabulate f n i d)
+  where
+    go : Dec (i < n) → (i < n → getD (tabulate n f) i d ≡ f i) → getD (tabulate n f ++ (f n ∷ [])) i d ≡ f i
+    go (yes l) before = List·getD-append (tabulate n f) (f n ∷ []) d i (rw (length-tabulate f n) l) ∙ before l
+    go (no l) before =
+        let last : i ≡ n = omega arith in
+        rw last (rw (length-tabulate f n) at (getD-append-seam (tabulate n f) (f n) [] d))
+
+pub tabulate-is : {A : Type 0} (n : ℕ) (f : ℕ → A) (l : List A) (d : A) → length l ≡ n → ((i : ℕ) → i < n → f i ≡ getD l i d) → tabulate n f ≡ l
+tabulate-is n f l d long same =
+    let many = length-tabulate f n in
+    ext-getD d (tabulate n f) l (many ∙ sym long) (λ i h. getD-tabulate f n i d (rw many at h) ∙ same i (rw many at h))
 
 module _ {A : Type 0} (n : ℕ) (f : ℕ → A) (d : A) where
   abbrev pub filled : ℕ → List A

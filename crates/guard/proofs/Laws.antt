@@ -11,6 +11,7 @@ pub mod Refusals
 pub mod Requests
 pub mod Step
 pub mod Told
+pub mod Backed
 pub mod SameRequest
 pub mod Edition
 pub mod Morning

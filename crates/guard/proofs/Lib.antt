@@ -7,9 +7,12 @@ pub mod RefusalSearch
 pub mod Ranges
 pub mod Answers
 pub mod Sweeps
+pub mod BackedOpens
 pub mod Taking
 pub mod Filling
 pub mod Granting
+pub mod Given
+pub mod Swept
 pub mod Columns
 pub mod Logs
 pub mod Seen

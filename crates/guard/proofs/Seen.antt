@@ -24,7 +24,9 @@ use Rattle.guard.specs.declared.look.Places.{Places}
 use Rattle.guard.specs.declared.scan.Found.{Found}
 use Rattle.guard.specs.declared.view.View.{View}
 use Rattle.guard.proofs.Soundness.Whole.{numbers}
-use Rattle.guard.proofs.Columns.{rights-of, way-of, child-of, name-of}
+use Rattle.guard.proofs.Laws.Sound.{formed-e}
+use Rattle.guard.proofs.Given.{rights-of}
+use Rattle.guard.proofs.Columns.{way-of, child-of, name-of}
 
 abbrev pub viewAt : Tables → Places → ℕ → Found → View
 viewAt t p o f = viewOf p (sessionAt t (p .seat)) (userAt t (p .user)) (roleAt t (p .role)) (entityAt t (p .entity)) (entityAt t o) f (t .edition)
@@ -65,7 +67,7 @@ module _ (t : Tables) (ok : sound t ≡ true) (q : Request) (p : Places) (P : Pl
         rights : asksRights (q .call) ≡ true → q .seat < 16 → RightsOf t (q .seat) (f .rights)
         rights a s =
             let same : p .seat ≡ q .seat = P .seat .same s in
-            rights-of t ok grants G (q .seat) (f .rights) (rw same at (found .rights a))
+            rights-of t (formed-e t ok .role) grants G (q .seat) (f .rights) (rw same at (found .rights a))
 
         reached-so : asksWay (q .call) ≡ true → q .seat < 16 → q .entity < 64 → f .reached ≡ reaches t (q .seat) (q .entity)
         unfolding reachedBy asksRights either

@@ -1,25 +1,31 @@
 -- What a run stores where the answer is 0 is what the rule does.
---     Told, told              which kinds a change stands for
---     session-stored, create-stored, delete-stored, alone-stored, role-stored, unmake-stored
+--     Told, told, loses, no-loss      which kinds a change stands for, and which take rights away
+--     session-stored, create-stored, delete-stored, alone-stored, role-stored, loss-stored
 -- Assumes nothing.
 use Prim.Native.Nat.{ℕ, _≤_, _<_}
-use mathlib.Core.Path.{_≡_, refl, sym, subst, _∙_}
+use mathlib.Core.Path.{_≡_, refl, sym, ap, subst, _∙_}
 use mathlib.Core.Bool.{Bool, true, false, cond, _||_}
-use mathlib.Core.List.{map}
-use mathlib.Core.Logic.{inl, inr}
+use mathlib.Core.List.{List, map}
+use mathlib.Core.Logic.{_⊎_, inl, inr}
 use native.Mathlib.Decide.{decLt, ℕ-discrete}
 use native.Mathlib.Omega.{arith}
 use lib.Dec.{leb, eqb}
-use lib.ListN.{set}
-use borrow.Author.Tests.{leb-true, leb-false, eqb-true, eqb-false}
+use lib.ListN.{getD, set, length-map}
+use lib.Seq.{getD-set-same}
+use borrow.Author.Tests.{leb-true, leb-false, eqb-true, eqb-false, eq-eqb}
 use Rattle.bitset.specs.Tests.{either}
-use Rattle.bitset.specs.Tests.Laws.{clash, of-not-false}
-use Rattle.guard.specs.Tables.{sessionAt, roleAt, entityAt}
+use Rattle.bitset.specs.Tests.Laws.{clash, of-not-false, or-l, or-r}
+use Rattle.bitset.specs.Sets.{join, minus}
+use Rattle.guard.specs.Label.{allCategories}
+use Rattle.guard.specs.Tables.{noSession, noRole, sessionAt, roleAt, entityAt}
 use Rattle.guard.specs.Sound.{sound}
-use Rattle.guard.specs.Edits.{withSessions, withRoles, withEntities, atSession, atRole, atEntity, eachSession, eachRole, dropRole, closeBoth, clearRights, listUser, unlistUser}
-use Rattle.guard.specs.Requests.{rules, ruleOf, login, logout, take, drop, openr, openw, close, create, delete, rename, grant, revoke, list, unlist, make, unmake, share}
+use Rattle.guard.specs.Edits.{withSessions, withRoles, withEntities, atSession, atRole, atEntity, eachSession, eachRole, dropRole, closeBoth, removeRights, clearRights, listUser, unlistUser}
+use Rattle.guard.specs.Backed.{backed, endUnbacked}
+use Rattle.guard.specs.Requests.{Rule, rules, ruleOf, login, logout, take, drop, openr, openw, close, create, delete, rename, grant, revoke, list, unlist, make, unmake, share}
+use Rattle.guard.specs.Step.{inRangesIn}
 use Rattle.guard.specs.Kind as kind
 use Rattle.guard.specs.Private.Inside.{number, Placed, changeOf, OfEntity, sessionAfter, entityAfter, usersAfter, roleAfter, owning}
+use Rattle.guard.specs.Private.Scan.{Grants, backedBy, keptBy, leftBy}
 use Rattle.guard.specs.Private.InForce.{inRanges}
 use Rattle.guard.specs.declared.Session.{Session}
 use Rattle.guard.specs.declared.Role.{Role}
@@ -30,7 +36,13 @@ use Rattle.guard.specs.declared.change.Change.{Change}
 use Rattle.guard.specs.declared.change.Change.the-variants.{Session as ASession, Entity as AnEntity, Role as ARole}
 use Rattle.guard.specs.declared.look.Places.{Places}
 use Rattle.guard.proofs.Laws.Refusals.{unmet}
-use Rattle.guard.proofs.Laws.Sound.{sound-e}
+use Rattle.guard.proofs.Laws.Sound.{RoleOk, Formed, formed-e, backed-e}
+use Rattle.guard.proofs.Laws.Step.{DoneIn}
+use Rattle.guard.proofs.Laws.Backed.{ended-is, acting-alone}
+use Rattle.guard.proofs.Kept.EachStays.{map-each}
+use Rattle.guard.proofs.Kept.Roles.{revoked-formed, unmade-formed}
+use Rattle.guard.proofs.Given.{backed-by}
+use Rattle.guard.proofs.Swept.{kept-is, unmade-is}
 use Rattle.guard.proofs.Granting.{granted, revoked, owned}
 use Rattle.guard.proofs.Ranges.{span, is-nine, rule-at, fits-none, in-login, in-logout, in-take, in-drop, in-openr, in-openw, in-close, in-create, in-delete, in-rename, in-grant, in-revoke, in-list, in-unlist, in-make, in-unmake, in-share}
 use Rattle.guard.proofs.Answers.{done-in-range, done-allowed}
@@ -55,6 +67,17 @@ told-of n = go (leb n 6) refl (leb n 9) refl (eqb n 16) refl
 pub told : (c d : Change) (n : ℕ) → d ≡ changeOf n → d ≡ c → Told c n
 told c d n h k = subst (λ (x : Change). Told x n) (sym h ∙ k) (told-of n)
 
+-- revoke and unmake take rights away, and no other kind
+pub loses : (n : ℕ) → (eqb n 11 || eqb n 15) ≡ true → (n ≡ 11) ⊎ (n ≡ 15)
+loses n h = go (eqb n 11) refl h
+  where
+    go : (a : Bool) → eqb n 11 ≡ a → (a || eqb n 15) ≡ true → (n ≡ 11) ⊎ (n ≡ 15)
+    go true e h = inl (eqb-true n 11 e)
+    go false e h = inr (eqb-true n 15 h)
+
+pub no-loss : (n : ℕ) → (eqb n 11 || eqb n 15) ≡ false → (n ≡ 11 → ⊥) × (n ≡ 15 → ⊥)
+no-loss n h = (λ e. clash _ (or-l (eqb n 11) (eqb n 15) (eq-eqb n 11 e)) h, λ e. clash _ (or-r (eqb n 11) (eqb n 15) (eq-eqb n 15 e)) h)
+
 module _ (t : Tables) (q : Request) (z : 0 ≡ number (ruleOf q) t q) where
   ok : inRanges q ≡ true
   ok = done-in-range t q z
@@ -72,43 +95,60 @@ module _ (t : Tables) (q : Request) (z : 0 ≡ number (ruleOf q) t q) where
     abbrev Done : Tables → Type 0
     Done u = u ≡ ruleOf q .effect q t
 
-    abbrev SessionDone : ℕ → Type 0
-    SessionDone k = q .call ≡ k → Done (withSessions t (set (t .sessions) (p .seat) (sessionAfter q (sessionAt t (p .seat)))))
+    module _ (sure : sound t ≡ true) (grants : List ℕ) (G : Grants (t .roles) grants) where
+      abbrev SessionDone : ℕ → Type 0
+      SessionDone k = q .call ≡ k → Done (withSessions t (set (t .sessions) (p .seat) (sessionAfter (backedBy grants) q (sessionAt t (p .seat)))))
 
-    login-done : SessionDone 0
-    unfolding sessionAfter rules login atSession
-    login-done c = rw (rule-at q 0 c, c, P .seat .same (in-login q ok c .0))
+      login-done : SessionDone 0
+      unfolding sessionAfter rules login atSession
+      login-done c = rw (rule-at q 0 c, c, P .seat .same (in-login q ok c .0))
 
-    logout-done : SessionDone 1
-    unfolding sessionAfter rules logout atSession
-    logout-done c = rw (rule-at q 1 c, c, P .seat .same (in-logout q ok c))
+      logout-done : SessionDone 1
+      unfolding sessionAfter rules logout atSession
+      logout-done c = rw (rule-at q 1 c, c, P .seat .same (in-logout q ok c))
 
-    take-done : SessionDone 2
-    unfolding sessionAfter rules take atSession
-    take-done c = rw (rule-at q 2 c, c, P .seat .same (in-take q ok c .0))
+      take-done : SessionDone 2
+      unfolding sessionAfter rules take atSession
+      take-done c = rw (rule-at q 2 c, c, P .seat .same (in-take q ok c .0))
 
-    drop-done : SessionDone 3
-    unfolding sessionAfter rules drop atSession
-    drop-done c = rw (rule-at q 3 c, c, P .seat .same (in-drop q ok c .0))
+      -- a drop ends opens of the acting session alone
+      drop-done : SessionDone 3
+      unfolding sessionAfter rules drop atSession
+      drop-done c =
+          let x = in-drop q ok c .0 in
+          rw (rule-at q 3 c, c, P .seat .same x)
+          (ap (λ (s : Session). withSessions t (set (t .sessions) (q .seat) s)) (acting x)
+          ∙ sym (acting-alone t (q .seat) (dropRole (q .role)) (facts .manySessions) (backed-e _ t sure)))
+        where
+          facts : Formed allCategories t
+          facts = formed-e t sure
 
-    openr-done : SessionDone 4
-    unfolding sessionAfter rules openr atSession
-    openr-done c = rw (rule-at q 4 c, c, P .seat .same (in-openr q ok c .0))
+          dropped : Tables
+          dropped = atSession (q .seat) (dropRole (q .role)) t
 
-    openw-done : SessionDone 5
-    unfolding sessionAfter rules openw atSession
-    openw-done c = rw (rule-at q 5 c, c, P .seat .same (in-openw q ok c .0))
+          acting : q .seat < 16 → backedBy grants (dropRole (q .role) (sessionAt t (q .seat))) ≡ backed dropped (q .seat)
+          acting l =
+              ap (backedBy grants) (sym (getD-set-same (t .sessions) (q .seat) _ noSession (omega (arith, facts .manySessions))))
+              ∙ backed-by dropped (facts .role) grants G (q .seat)
 
-    close-done : SessionDone 6
-    unfolding sessionAfter rules close atSession
-    close-done c = rw (rule-at q 6 c, c, P .seat .same (in-close q ok c .0))
+      openr-done : SessionDone 4
+      unfolding sessionAfter rules openr atSession
+      openr-done c = rw (rule-at q 4 c, c, P .seat .same (in-openr q ok c .0))
 
-    pub session-stored : q .call ≤ 6 → (s : Session) → s ≡ sessionAfter q (sessionAt t (p .seat)) → Done (withSessions t (set (t .sessions) (p .seat) s))
-    session-stored h s same =
-        rw same
-        (span SessionDone 0 7
-        (login-done, (logout-done, (take-done, (drop-done, (openr-done, (openw-done, (close-done, tt)))))))
-        (q .call) (omega arith) (omega arith) refl)
+      openw-done : SessionDone 5
+      unfolding sessionAfter rules openw atSession
+      openw-done c = rw (rule-at q 5 c, c, P .seat .same (in-openw q ok c .0))
+
+      close-done : SessionDone 6
+      unfolding sessionAfter rules close atSession
+      close-done c = rw (rule-at q 6 c, c, P .seat .same (in-close q ok c .0))
+
+      pub session-stored : q .call ≤ 6 → (s : Session) → s ≡ sessionAfter (backedBy grants) q (sessionAt t (p .seat)) → Done (withSessions t (set (t .sessions) (p .seat) s))
+      session-stored h s same =
+          rw same
+          (span SessionDone 0 7
+          (login-done, (logout-done, (take-done, (drop-done, (openr-done, (openw-done, (close-done, tt)))))))
+          (q .call) (omega arith) (omega arith) refl)
 
     -- ---- the entity
     pub create-stored : q .call ≡ kind.create → (f : Entity) (r : Role) → f ≡ entityAfter q (entityAt t (p .entity)) → r ≡ owning (q .entity) (roleAt t (p .role))
@@ -151,10 +191,6 @@ module _ (t : Tables) (q : Request) (z : 0 ≡ number (ruleOf q) t q) where
     unfolding roleAfter rules grant atRole
     grant-done c = rw (rule-at q 10 c, c, granted (q .entity) (roleAt t (p .role)) (q .rights), P .role .same (in-grant q ok c .1))
 
-    revoke-done : RoleDone 11
-    unfolding roleAfter rules revoke atRole
-    revoke-done c = rw (rule-at q 11 c, c, revoked (q .entity) (roleAt t (p .role)) (q .rights), P .role .same (in-revoke q ok c .1))
-
     list-done : RoleDone 12
     unfolding roleAfter usersAfter rules list listUser atRole
     list-done c =
@@ -176,16 +212,92 @@ module _ (t : Tables) (q : Request) (z : 0 ≡ number (ruleOf q) t q) where
         let rule = rule-at q 14 c in
         let role = in-make q ok c .1 in
         let dead : roleAt t (q .role) .live ≡ false = unmet _ refl (rw rule at (done-allowed t q z)) 8 in
-        let facts = sound-e t sure .role (q .role) role in
+        let facts = formed-e t sure .role (q .role) role in
         rw (rule, c, P .role .same role, facts .users .none dead, facts .reads .none dead, facts .writes .none dead, facts .executes .none dead, facts .owns .none dead)
 
-    pub role-stored : sound t ≡ true → (10 ≤ q .call) × (q .call ≡ 16 → ⊥) → (q .call ≡ 15 → ⊥) → (r : Role) → r ≡ roleAfter q (roleAt t (p .role))
-        → Done (withRoles t (set (t .roles) (p .role) r))
-    role-stored sure (low, not) other r same =
-        rw same
-        (span RoleDone 10 5 (grant-done, (revoke-done, (list-done, (unlist-done, (make-done sure, tt))))) (q .call) low (omega (arith, known, not, other)) refl)
+    pub role-stored : sound t ≡ true → (10 ≤ q .call) × (q .call ≡ 16 → ⊥) → (q .call ≡ 11 → ⊥) → (q .call ≡ 15 → ⊥) → (r : Role)
+        → r ≡ roleAfter q (roleAt t (p .role)) → Done (withRoles t (set (t .roles) (p .role) r))
+    role-stored sure (low, not) other other′ r same = rw same (go (ℕ-discrete (q .call) 10))
+      where
+        go : Dec (q .call ≡ 10) → Done (withRoles t (set (t .roles) (p .role) (roleAfter q (roleAt t (p .role)))))
+        go (yes c) = grant-done c
+        go (no ne) =
+            span RoleDone 12 3 (list-done, (unlist-done, (make-done sure, tt))) (q .call) (omega (arith, low, ne, other)) (omega (arith, known, not, other′)) refl
 
-    pub unmake-stored : q .call ≡ kind.unmake → (r : Role) → r ≡ roleAfter q (roleAt t (p .role))
-        → Done (withSessions (withRoles t (set (t .roles) (p .role) r)) (map (dropRole (q .role)) (t .sessions)))
-    unfolding roleAfter rules unmake eachSession atRole
-    unmake-stored c r hr = rw (rule-at q 15 c, hr, c, P .role .same (in-unmake q ok c .1))
+    -- ---- the role loses rights, or goes: opens that are no longer backed end
+    module _ (sure : sound t ≡ true) (r : Role) (same : r ≡ roleAfter q (roleAt t (p .role))) (grants : List ℕ)
+        (G : Grants (set (t .roles) (p .role) r) grants) (lost : ℕ)
+        (is-lost : lost ≡ join (minus (roleAt t (p .role) .reads) (r .reads)) (minus (roleAt t (p .role) .writes) (r .writes))) where
+      facts : Formed allCategories t
+      facts = formed-e t sure
+
+      done-as : (rule : Rule) → ruleOf q ≡ rule → DoneIn allCategories rule t q
+      unfolding inRangesIn
+      done-as rule is = subst (λ (a : Rule). DoneIn allCategories a t q) is (record { isSound = sure; ranges = ok; none = done-allowed t q z })
+
+      abbrev replaced : Tables
+      replaced = withRoles t (set (t .roles) (p .role) r)
+
+      -- each session, where role q .role is the one stored
+      kept : q .role < 16 → ((k : ℕ) → k < 16 → RoleOk (t .entities) k (roleAt replaced k)) → (x : ℕ) → x < 16
+          → backed replaced x ≡ keptBy grants (q .role) lost (sessionAt t x)
+      kept l roles x k =
+          rw (sym (P .role .same l)) (kept-is t (p .role) r (P .role .small) (facts .manyRoles) lost is-lost (backed-e _ t sure) roles grants G x k)
+
+      revoke-stored : q .call ≡ 11 → Done (withSessions replaced (map (leftBy grants (q .role) lost false) (t .sessions)))
+      unfolding rules revoke leftBy roleAfter atRole
+      revoke-stored c = rw (rule-at q 11 c) (sym ended ∙ ap endUnbacked inner)
+        where
+          small : q .role < 16
+          small = in-revoke q ok c .1
+
+          inner : replaced ≡ atRole (q .role) (removeRights (q .entity) (q .rights)) t
+          inner = rw (same, c, revoked (q .entity) (roleAt t (p .role)) (q .rights), P .role .same small)
+
+          roles : (k : ℕ) → k < 16 → RoleOk (t .entities) k (roleAt replaced k)
+          roles =
+              subst (λ (u : Tables). (k : ℕ) → k < 16 → RoleOk (u .entities) k (roleAt u k)) (sym inner)
+              (revoked-formed t q (done-as revoke (rule-at q 11 c)) .role)
+
+          ended : endUnbacked replaced ≡ withSessions replaced (map (leftBy grants (q .role) lost false) (t .sessions))
+          ended =
+              ended-is replaced _ (length-map (t .sessions) _ ∙ facts .manySessions)
+              (map-each (λ x a. backed replaced x ≡ a) (leftBy grants (q .role) lost false) 16 (t .sessions) noSession (facts .manySessions) (kept small roles))
+
+      unmake-stored : q .call ≡ 15 → Done (withSessions replaced (map (leftBy grants (q .role) lost true) (t .sessions)))
+      unfolding rules unmake leftBy roleAfter eachSession atRole
+      unmake-stored c = rw (rule-at q 15 c) (sym ended ∙ ap endUnbacked inner)
+        where
+          small : q .role < 16
+          small = in-unmake q ok c .1
+
+          gone : r ≡ noRole
+          gone = same ∙ rw c
+
+          unheld : Tables
+          unheld = withSessions replaced (map (dropRole (q .role)) (t .sessions))
+
+          inner : unheld ≡ eachSession (dropRole (q .role)) (atRole (q .role) (λ old. noRole) t)
+          inner = rw (gone, P .role .same small)
+
+          roles : (k : ℕ) → k < 16 → RoleOk (t .entities) k (roleAt replaced k)
+          roles =
+              subst (λ (u : Tables). (k : ℕ) → k < 16 → RoleOk (u .entities) k (roleAt u k)) (sym inner)
+              (unmade-formed t q (done-as unmake (rule-at q 15 c)) .role)
+
+          empty : roleAt replaced (q .role) ≡ noRole
+          empty = rw (sym (P .role .same small)) (getD-set-same (t .roles) (p .role) r noRole (omega (arith, P .role .small, facts .manyRoles)) ∙ gone)
+
+          dropped : (x : ℕ) → x < 16 → getD (map (dropRole (q .role)) (t .sessions)) x noSession ≡ dropRole (q .role) (sessionAt t x)
+          dropped = map-each (λ x a. a ≡ dropRole (q .role) (sessionAt t x)) (dropRole (q .role)) 16 (t .sessions) noSession (facts .manySessions) (λ x l. refl)
+
+          ended : endUnbacked unheld ≡ withSessions replaced (map (leftBy grants (q .role) lost true) (t .sessions))
+          ended =
+              ended-is unheld _ (length-map (t .sessions) _ ∙ facts .manySessions)
+              (map-each (λ x a. backed unheld x ≡ a) (leftBy grants (q .role) lost true) 16 (t .sessions) noSession (facts .manySessions) (λ x l.
+              unmade-is replaced _ (q .role) empty x (dropped x l) ∙ ap (dropRole (q .role)) (kept small roles x l)))
+
+      pub loss-stored : (q .call ≡ 11) ⊎ (q .call ≡ 15) → (unmade : Bool) → unmade ≡ eqb (q .call) 15
+          → Done (withSessions replaced (map (leftBy grants (q .role) lost unmade) (t .sessions)))
+      loss-stored (inl c) unmade is = let kept′ : unmade ≡ false = is ∙ rw c in rw kept′ (revoke-stored c)
+      loss-stored (inr c) unmade is = let gone′ : unmade ≡ true = is ∙ rw c in rw gone′ (unmake-stored c)

@@ -34,9 +34,10 @@ use Rattle.guard.specs.declared.Outcome.{Outcome}
 use Rattle.guard.specs.declared.look.Places.{Places}
 use Rattle.guard.specs.declared.Told.{Told}
 use Rattle.guard.specs.declared.Told.the-variants.{None}
+use Rattle.guard.proofs.Laws.Sound.{formed-e}
 use Rattle.guard.proofs.Laws.Told.{byte-read, opening-same}
 use Rattle.guard.proofs.Ranges.{in-openr, in-openw}
-use Rattle.guard.proofs.Columns.{role-of}
+use Rattle.guard.proofs.Given.{role-of}
 use Rattle.guard.proofs.Kept.{sound-next}
 use Rattle.guard.proofs.Filling.{length-tabulate}
 use Rattle.guard.proofs.Logs.{each, run-snoc, each-snoc, length-each, store-more, all-refused}
@@ -70,7 +71,7 @@ pub opens-by : (t : Tables) → sound t ≡ true → (grants : List ℕ) → Gra
     → (b : ℕ) → b ≡ roleByte (openedBy grants (q .call) (sessionAt t (p .seat) .roles) (p .entity)) → b ≡ roleByte (roleOpening t q)
 unfolding roleOpening
 opens-by t ok grants G q fits p near b h =
-    h ∙ ap roleByte (role-of t ok grants G (p .seat) (q .call) (p .entity) (near .entity .small) ∙ opening-same t t (q .call) _ _ _ _ reads writes)
+    h ∙ ap roleByte (role-of t (formed-e t ok .role) grants G (p .seat) (q .call) (p .entity) (near .entity .small) ∙ opening-same t t (q .call) _ _ _ _ reads writes)
   where
     reads : q .call ≡ kind.openr → roleFor t (p .seat) read (p .entity) ≡ roleFor t (q .seat) read (q .entity)
     reads is = let (s, l) = in-openr q fits is in rw (near .seat .same s, near .entity .same l)

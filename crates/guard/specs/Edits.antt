@@ -1,4 +1,4 @@
--- The few edits of which every request's effect is made. None of them reads more than it changes.
+-- The few edits of which every request's effect is made. None of them reads more than it changes; the one that does is in Backed.
 use Prim.Native.Nat.{ℕ}
 use mathlib.Core.Bool.{Bool, true, cond}
 use mathlib.Core.List.{List, map}

@@ -9,6 +9,7 @@ pub mod Chain
 pub mod Sound
 pub mod Fresh
 pub mod Edits
+pub mod Backed
 pub mod Refusals
 pub mod Conditions
 pub mod Requests

@@ -10,6 +10,7 @@ use Rattle.guard.specs.Label.{labelInRangeIn}
 use Rattle.guard.specs.Tables.{inEdition1, noSession, noRole, noEntity, container, sharedMark, read, write, own, allRights}
 use Rattle.guard.specs.Sound.{topName}
 use Rattle.guard.specs.Edits.{atSession, atRole, atEntity, eachSession, eachRole, takeRole, dropRole, openReading, openWriting, closeBoth, addRights, removeRights, clearRights, listUser, unlistUser, renameTo, markAs, madeRole}
+use Rattle.guard.specs.Backed.{endUnbacked}
 use Rattle.guard.specs.Refusals.{Refusal, _when_}
 use Rattle.guard.specs.Conditions.{labelAsked, seatLive, userTooLow, seatDead, parentNoContainer, entityIsObject, recordedParent}
 use Rattle.guard.specs.Conditions.{entityBelowSeat, seatBelowEntity, createOutOfLevel, grantBelow, seatBelowRole, labelBelowEntity, labelsDiffer, labelBelowParent}
@@ -43,7 +44,7 @@ fieldInRangeIn width q rights = every (leb 1 (q .rights) ∷ leb (q .rights) all
 fieldInRangeIn width q shared = leb (q .shared) sharedMark
 
 -- What the papers say of one request: the fields that it uses, the refusals that apply after 1 and 2, and what it does.
--- Refusals read the tables; what is done is a matter of the request alone.
+-- Both read the tables: which opens a drop, revoke or unmake ends is a matter of the rights that are left.
 pub record Rule : Type 0 where
   pub uses : List Field
   pub refusals : Tables → Request → List Refusal
@@ -79,13 +80,13 @@ take =
       effect = λ q. atSession (q .seat) (takeRole (q .role));
     }
 
--- drop (x, role): 7, 16.
+-- drop (x, role): 7, 16. Opens that are no longer backed end.
 unfoldable pub drop : Rule
 drop =
     record {
       uses = seat ∷ role ∷ [];
       refusals = λ t q. 5 when seatDead t q ∷ 7 when roleDead t q ∷ 16 when roleNotHeld t q ∷ [];
-      effect = λ q. atSession (q .seat) (dropRole (q .role));
+      effect = λ q t. endUnbacked (atSession (q .seat) (dropRole (q .role)) t);
     }
 
 -- openr, openw (x, e): 7, 10, 11, 13, 16. In edition 2 openr has no condition 10.
@@ -183,7 +184,8 @@ rename =
       effect = λ q. atEntity (q .entity) (renameTo (q .name));
     }
 
--- grant, revoke (x, role, e, rights): 7, 10, 13. The named rights are added or taken away; those already so stay so.
+-- grant, revoke (x, role, e, rights): 7, 10, 13. The named rights are added or taken away; those already so stay so. After a revoke
+-- opens that are no longer backed end.
 unfoldable pub grant : Rule
 grant =
     record {
@@ -202,7 +204,7 @@ revoke =
     record {
       uses = grant .uses;
       refusals = grant .refusals;
-      effect = λ q. atRole (q .role) (removeRights (q .entity) (q .rights));
+      effect = λ q t. endUnbacked (atRole (q .role) (removeRights (q .entity) (q .rights)) t);
     }
 
 -- list, unlist (x, role, user): 7, 10, 12, 16. Seats that hold the role keep it.
@@ -240,7 +242,7 @@ make =
       effect = λ q. atRole (q .role) (λ old. madeRole);
     }
 
--- unmake (x, role): 6, 7, 10, 12. Its list, its rights and every holding of it go.
+-- unmake (x, role): 6, 7, 10, 12. Its list, its rights and every holding of it go. Opens that are no longer backed end.
 unfoldable pub unmake : Rule
 unmake =
     record {
@@ -252,7 +254,7 @@ unmake =
           ∷ 10 when seatBelowRole t q
           ∷ 12 when keeperNotHeld t q
           ∷ [];
-      effect = λ q t. eachSession (dropRole (q .role)) (atRole (q .role) (λ old. noRole) t);
+      effect = λ q t. endUnbacked (eachSession (dropRole (q .role)) (atRole (q .role) (λ old. noRole) t));
     }
 
 -- share (x, e, mark) sets the mark: 7, 9 (it is an object), 10 (the seat is below it), 13 (no own on it), 16.

@@ -7,7 +7,7 @@ use lib.ListN.{length, getD}
 use Rattle.bitset.specs.Tests.{every, implies, all}
 use Rattle.guard.specs.Level.{userCount, sessionCount, roleCount, entityCount, topLevel, sessionLevel, roleLevel, entityLevel, isRoot, isKeeper}
 use Rattle.guard.specs.Label.{allCategories, labelInRangeIn, dominates, sameLabel, noLabel}
-use Rattle.guard.specs.Tables.{edition1, edition2, inEdition1, noUser, sessionAt, roleAt, entityAt, object, container, sharedMark, holds, isReading, isWriting, rightsOn, isChild}
+use Rattle.guard.specs.Tables.{edition1, edition2, inEdition1, noUser, sessionAt, roleAt, entityAt, object, container, sharedMark, read, write, holds, isReading, isWriting, rightsOn, hasRight, isChild}
 use Rattle.guard.specs.Chain.{endsAtRoot}
 use Rattle.guard.specs.declared.User.{User}
 use Rattle.guard.specs.declared.Session.{Session}
@@ -181,6 +181,14 @@ writingWithin t =
     (λ e. implies (isWriting t s e)
     (every (leb (entityLevel e) (sessionLevel s) ∷ sameLabel (sessionAt t s .label) (entityAt t e .label) ∷ []))))
 
+-- ---- A seat has the read right on what it has open for reading, and the write right on what it has open for writing. Reaching the
+-- entity is not looked at again.
+unfoldable pub opensBacked : Tables → Bool
+opensBacked t =
+    all sessionCount
+    (λ s. all entityCount
+    (λ e. every (implies (isReading t s e) (hasRight t s read e) ∷ implies (isWriting t s e) (hasRight t s write e) ∷ [])))
+
 -- Tables are sound when all of this holds.
 unfoldable pub soundIn : ℕ → Tables → Bool
 soundIn width t =
@@ -195,6 +203,7 @@ soundIn width t =
     ∷ rightsWithin t
     ∷ readingWithin t
     ∷ writingWithin t
+    ∷ opensBacked t
     ∷ [])
 
 -- ---- the rules in force: the width is `allCategories`

@@ -4,6 +4,7 @@
 // sound, what each request answers and how it changes the tables is said by the definitions in specs/, in the paper's
 // order. Sets are bit sets: member `i` is bit `i` (crate `bitset`). No record of the tables holds an enum or a reference. Tables
 // of the old width, with a set of eight categories, have records of their own (`old`).
+mod backing;
 mod change;
 mod entities;
 mod fresh;

@@ -1,5 +1,6 @@
 // The body of every request: requests one after the other, with one test of soundness for all of them.
 use crate::Tables;
+use crate::backing;
 use crate::change;
 use crate::change::Change;
 use crate::entities;
@@ -28,12 +29,12 @@ impl Tables {
             return self;
         }
         let mut keys = self.keys();
-        if !self.sound_by(&keys) {
+        let mut grants = self.grants();
+        if !self.sound_by(&keys, &grants) {
             rows::fill(answers, count, 1);
             rows::fill(roles, count, sizes::NO_ROLE);
             return self;
         }
-        let mut grants = self.grants();
         let mut i = 0usize;
         while i < count {
             // The records that the request concerns.
@@ -62,7 +63,7 @@ impl Tables {
                 let changed = change::change_of(q.call);
                 match changed {
                     Change::Session => {
-                        self.sessions[x] = sessions::after(q, session);
+                        self.sessions[x] = sessions::after(&grants, q, session);
                         // What openr and openw tell.
                         roles[i - 1] = giver::role_told(&grants, q.call, session.roles, e);
                     }
@@ -86,9 +87,16 @@ impl Tables {
                         let p2 = roles::after(q, role);
                         self.roles[r] = p2;
                         scan::put(&mut grants, r, p2);
-                        if q.call == kinds::UNMAKE {
+                        if (q.call == kinds::REVOKE) | (q.call == kinds::UNMAKE) {
+                            let lost = backing::lost(role, p2);
                             let seats = self.sessions;
-                            self.sessions = sessions::without_role(seats, q.role);
+                            self.sessions = backing::swept(
+                                seats,
+                                &grants,
+                                q.role,
+                                lost,
+                                q.call == kinds::UNMAKE,
+                            );
                         }
                     }
                 }

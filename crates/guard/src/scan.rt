@@ -89,7 +89,7 @@ pub fn clear(grants: &mut [u64; GRANTS], e: usize) -> usize
 }
 
 // The rights that the roles held give, together.
-fn gather(grants: &[u64; GRANTS], held: u16) -> Rights
+pub fn gather(grants: &[u64; GRANTS], held: u16) -> Rights
     ensures { λ g. ⌜ Gathered (now (grants .entry)) held g ⌝ }
 {
     let mut reads = 0u64;

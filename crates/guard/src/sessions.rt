@@ -3,8 +3,10 @@
 use crate::Label;
 use crate::Request;
 use crate::Session;
+use crate::backing;
 use crate::kinds;
 use crate::labels;
+use crate::scan::GRANTS;
 use crate::sizes;
 use crate::sizes::SESSIONS;
 use crate::view::View;
@@ -23,6 +25,7 @@ ghost use Rattle.guard.specs.Refusals.{first, _when_};
 ghost use Rattle.guard.specs.Conditions.{labelAsked};
 ghost use Rattle.guard.specs.Requests.{loggedIn};
 ghost use Rattle.guard.specs.Private.Inside.{sessionAfter};
+ghost use Rattle.guard.specs.Private.Scan.{backedBy};
 ghost use Rattle.guard.specs.Private.InForce.{inRanges};
 
 pub fn login_refusal(q: Request, v: View) -> u8
@@ -114,7 +117,7 @@ pub fn empty() -> Session
 }
 
 // Session `s` without role `r`, and without entity `e` open.
-fn dropped(r: u32, s: Session) -> Session
+pub fn dropped(r: u32, s: Session) -> Session
     ensures { λ n. ⌜ n ≡ dropRole r s ⌝ }
 {
     let mut n = s;
@@ -131,10 +134,10 @@ fn closed(e: u32, s: Session) -> Session
     n
 }
 
-// The acting session after a request on it.
-pub fn after(q: Request, s: Session) -> Session
+// The acting session after a request on it; a drop also ends those of its opens that are no longer backed.
+pub fn after(grants: &[u64; GRANTS], q: Request, s: Session) -> Session
     requires { ⌜ inRanges q ≡ true ⌝ }
-    ensures { λ n. ⌜ n ≡ sessionAfter q s ⌝ }
+    ensures { λ n. ⌜ n ≡ sessionAfter (backedBy (now (grants .entry))) q s ⌝ }
 {
     let call = q.call;
     let mut n = s;
@@ -142,25 +145,10 @@ pub fn after(q: Request, s: Session) -> Session
         kinds::LOGIN => return entered(q),
         kinds::LOGOUT => return empty(),
         kinds::TAKE => n.roles = bitset::with16(s.roles, q.role),
-        kinds::DROP => return dropped(q.role, s),
+        kinds::DROP => return backing::backed(grants, dropped(q.role, s)),
         kinds::OPENR => n.reading = bitset::with64(s.reading, q.entity),
         kinds::OPENW => n.writing = bitset::with64(s.writing, q.entity),
         _ => return closed(q.entity, s),
-    }
-    n
-}
-
-// Every session without role `r`: an unmade role's holdings.
-pub fn without_role(sessions: [Session; SESSIONS], r: u32) -> [Session; SESSIONS]
-    ensures { λ n. ⌜ n ≡ map (dropRole r) sessions ⌝ }
-{
-    let mut n = sessions;
-    let mut i = 0usize;
-    while i < SESSIONS {
-        let s = n[i];
-        let s2 = dropped(r, s);
-        n[i] = s2;
-        i += 1;
     }
     n
 }

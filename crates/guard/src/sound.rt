@@ -10,8 +10,9 @@ pub mod tree;
 
 ghost use mathlib.Core.Path.{_≡_};
 ghost use Rattle.guard.specs.Sound.{sound};
-ghost use Rattle.guard.specs.Private.Scan.{Keys};
+ghost use Rattle.guard.specs.Private.Scan.{Keys, Grants};
 use crate::Tables;
+use crate::scan::GRANTS;
 use crate::sizes::ENTITIES;
 
 impl Tables {
@@ -23,9 +24,9 @@ impl Tables {
         tree::keys(entities)
     }
 
-    // Whether the tables are sound, by the keys of their entities.
-    pub(crate) fn sound_by(self, keys: &[u32; ENTITIES]) -> bool
-        requires { ⌜ Keys (self .entities) (now keys) ⌝ }
+    // Whether the tables are sound, by the keys of their entities and the sets of their roles.
+    pub(crate) fn sound_by(self, keys: &[u32; ENTITIES], grants: &[u64; GRANTS]) -> bool
+        requires { ⌜ Keys (self .entities) (now keys) × Grants (self .roles) (now grants) ⌝ }
         ensures { λ r. ⌜ r ≡ sound self ⌝ }
     {
         let edition = self.edition;
@@ -51,7 +52,7 @@ impl Tables {
         }
         let labels = opens::labels(entities);
         let sessions = self.sessions;
-        opens::sessions_ok(sessions, &labels, found.live, edition)
+        opens::sessions_ok(sessions, &labels, grants, found.live, edition)
     }
 
     // Whether the tables are sound, for all tables that the types admit.
@@ -59,6 +60,7 @@ impl Tables {
         ensures { λ r. ⌜ r ≡ sound self ⌝ }
     {
         let keys = self.keys();
-        self.sound_by(&keys)
+        let grants = self.grants();
+        self.sound_by(&keys, &grants)
     }
 }

@@ -3,6 +3,7 @@ pub mod Lists
 pub mod Views
 pub mod UpperInWords
 pub mod Edits
+pub mod Ending
 pub mod Keep
 pub mod Respect
 pub mod Agree

@@ -1,6 +1,7 @@
 //! Builds and editions, case by case: "an edition other than 1 or 2 gives 2 when building and 1
 //! afterwards", "a refused build hands back edition 1", and in edition 2 "soundness drops the level
-//! condition on reading" (document 02, A.13).
+//! condition on reading" (document 02, A.13); and the right behind an open, which soundness asks in every
+//! edition (A.3).
 
 use crate::cases::Script;
 use crate::logs::Asked;
@@ -78,23 +79,39 @@ fn every_call(script: &mut Script, edition: usize) {
     }
 }
 
+/// What stands behind an open: whether the role is held, and which of the four rights it has on the entity,
+/// read, write, execute and own, where the entity is open for reading and where it is for writing.
+const BEHIND: [(&str, bool, [[u64; 4]; 2]); 4] = [
+    ("", true, [[1, 0, 0, 0], [0, 1, 0, 0]]),
+    (" by other rights", true, [[0, 1, 1, 1], [1, 0, 1, 1]]),
+    (" by a role not held", false, [[1, 1, 1, 1]; 2]),
+    (" by nothing", true, [[0; 4]; 2]),
+];
+
 /// A seat of each level has an object of each level open, for reading or for writing, with labels of all
-/// kinds: sound or not, nothing else being open.
+/// kinds, by the keeper of the object's level or by nothing: sound or not, nothing else being open.
 fn every_open(script: &mut Script, edition: usize) {
     for (seat, entity) in (0..16).map(|pair| (pair / 4 * 4 + 1, pair % 4 * 16 + 2)) {
         for [grade, cats, of_entity, cats_of_entity] in LABELS {
-            for (way, opens) in [("reads", [1 << entity, 0]), ("writes", [0, 1 << entity])] {
-                script.clear();
-                let root = entity as u64 / 16 * 16;
-                let object = [1, 0, root, 1, of_entity, cats_of_entity, 0];
-                script.set("entity", entity, "live", &object);
-                let [reading, writing] = opens;
-                let session = [1, 0, grade, cats, 0, reading, writing];
-                script.set("seat", seat, "live", &session);
-                script.set_edition(edition);
-                let label = format!("{grade}/{cats} at {of_entity}/{cats_of_entity}");
-                let name = format!("seat {seat} {way} {entity}, {label} in edition {edition}");
-                script.ask(&request(Call::Logout, &[(Field::Seat, seat)]), &name);
+            for (way, open) in ["reads", "writes"].into_iter().zip([[1, 0], [0, 1]]) {
+                for (behind, held, rights) in BEHIND {
+                    script.clear();
+                    let keeper = entity / 16 * 4;
+                    let root = entity as u64 / 16 * 16;
+                    let object = [1, 0, root, 1, of_entity, cats_of_entity, 0];
+                    script.set("entity", entity, "live", &object);
+                    let rights = rights[open[1]].map(|right| 1 << root | right << entity);
+                    script.set("role", keeper, "reads", &rights);
+                    let [reading, writing] = open.map(|open| (open as u64) << entity);
+                    let roles = u64::from(held) << keeper;
+                    let session = [1, 0, grade, cats, roles, reading, writing];
+                    script.set("seat", seat, "live", &session);
+                    script.set_edition(edition);
+                    let label = format!("{grade}/{cats} at {of_entity}/{cats_of_entity}");
+                    let open = format!("{way} {entity}{behind}");
+                    let name = format!("seat {seat} {open}, {label} in edition {edition}");
+                    script.ask(&request(Call::Logout, &[(Field::Seat, seat)]), &name);
+                }
             }
         }
     }
@@ -168,6 +185,13 @@ mod tests {
             "seat 13 reads 2, 1/3 at 1/1 in edition 2: 0",
             "seat 13 writes 2, 1/3 at 1/1 in edition 2: 1",
             "seat 1 writes 50, 0/0 at 0/0 in edition 2: 1",
+            "seat 13 reads 50, 0/0 at 0/0 in edition 1: 0",
+            "seat 13 reads 50 by other rights, 0/0 at 0/0 in edition 1: 1",
+            "seat 13 reads 2 by a role not held, 0/0 at 0/0 in edition 2: 1",
+            "seat 5 reads 50 by nothing, 0/0 at 0/0 in edition 2: 1",
+            "seat 13 writes 50, 1/3 at 1/3 in edition 1: 0",
+            "seat 13 writes 2 by other rights, 1/3 at 1/3 in edition 1: 1",
+            "seat 5 writes 18 by a role not held, 0/0 at 0/0 in edition 2: 1",
             "seat 12 reading 0 in edition 1: 1",
             "seat 12 reading 0 in edition 2: 16",
             "  tables, edition 255",

@@ -6,9 +6,10 @@ use std::fs;
 use std::io;
 use std::path::Path;
 
+use crate::ends;
 use crate::logs::{Asked, Log, Ran};
 use crate::paper::{self, Tables, UserRecord};
-use crate::records::{self, KINDS};
+use crate::records::{self, Kind, KINDS};
 
 /// The most bytes of a file that the program reads, and of `list`.
 const FILE: usize = 65_536;
@@ -162,11 +163,14 @@ impl Script {
         }
     }
 
-    /// A request, and what it tells.
+    /// A request, and what it tells. Behind one that may have ended opens, what every seat has.
     pub fn ask(&mut self, asked: &Asked, name: &str) -> Answered {
         self.statements.push(format!("{} | {name}", words(asked)));
         let answered = self.make(asked);
         self.print(&format!("{name}: {}", told(answered.answer, answered.role)));
+        if seats_follow(asked, answered.answer) {
+            self.show_all(&records::SEATS);
+        }
         answered
     }
 
@@ -227,10 +231,14 @@ impl Script {
     /// The edition and every record.
     pub fn show(&mut self) {
         for kind in &KINDS {
-            for at in 0..kind.count {
-                self.statements.push(format!("show {} {at}", kind.word));
-                self.print(&records::shown(&self.tables, kind, at));
-            }
+            self.show_all(kind);
+        }
+    }
+
+    fn show_all(&mut self, kind: &Kind) {
+        for at in 0..kind.count {
+            self.statements.push(format!("show {} {at}", kind.word));
+            self.print(&records::shown(&self.tables, kind, at));
         }
     }
 
@@ -299,6 +307,10 @@ fn words(asked: &Asked) -> String {
     }
 }
 
+fn seats_follow(asked: &Asked, answer: usize) -> bool {
+    matches!(asked, Asked::Request(request) if ends::may_end(request, answer))
+}
+
 /// What the program printed for a log: its answers and the roles, and the tables shown after so many of its
 /// requests. None if it is of another form.
 pub fn read(output: &[u8], log: &Log, shows: &[usize]) -> Option<Ran> {
@@ -323,7 +335,11 @@ pub fn read(output: &[u8], log: &Log, shows: &[usize]) -> Option<Ran> {
                 Some((answer, role)) => (answer, Some(role.parse().ok()?)),
                 None => (told, None),
             };
-            ran.answers.push(answer.parse().ok()?);
+            let answer = answer.parse().ok()?;
+            if seats_follow(&entry.asked, answer) {
+                lines.nth(records::SEATS.count - 1)?;
+            }
+            ran.answers.push(answer);
             ran.roles.push(role);
         }
     }

@@ -1,13 +1,17 @@
 //! Counts what a run has met, and says what it has not.
 
 use crate::alone;
+use crate::ends;
 use crate::files::{self, Made};
 use crate::lines;
-use crate::marks::SITUATIONS;
+use crate::marks;
 use crate::paper::{self, Call, CALLS};
 use crate::program::{Report, Seen, What};
 
 const COUNT: usize = CALLS.len();
+
+/// A situation's name and calls, and how often it came, by call.
+type Shown<'a> = (&'static str, &'static [Call], &'a [usize; COUNT]);
 
 pub struct Coverage {
     /// By call and answer; 0 is done.
@@ -22,8 +26,9 @@ pub struct Coverage {
     together: [[[bool; 17]; 17]; COUNT],
     /// By call: refused for categories 8 to 15 alone.
     upper_half: [usize; COUNT],
-    /// By situation and call.
-    situations: Vec<[usize; COUNT]>,
+    /// By situation and call: of marks, and of opens that end.
+    marks: Vec<[usize; COUNT]>,
+    ends: Vec<[usize; COUNT]>,
     forms: Vec<(&'static str, usize)>,
     files: usize,
     lines: usize,
@@ -45,7 +50,8 @@ impl Coverage {
             alone: sides,
             together: [[[false; 17]; 17]; COUNT],
             upper_half: [0; COUNT],
-            situations: vec![[0; COUNT]; SITUATIONS.len()],
+            marks: vec![[0; COUNT]; marks::SITUATIONS.len()],
+            ends: vec![[0; COUNT]; ends::SITUATIONS.len()],
             forms: files::forms().into_iter().map(|form| (form, 0)).collect(),
             files: 0,
             lines: 0,
@@ -88,12 +94,15 @@ impl Coverage {
                 met,
                 upper_half,
                 situations,
+                ends,
             } => {
                 let call = request.call as usize;
                 self.answers[call][seen.answer] += 1;
                 self.upper_half[call] += usize::from(upper_half);
-                for (situation, counts) in self.situations.iter_mut().enumerate() {
-                    counts[call] += usize::from(situations & (1 << situation) != 0);
+                for (counts, shown) in [(&mut self.marks, situations), (&mut self.ends, ends)] {
+                    for (situation, counts) in counts.iter_mut().enumerate() {
+                        counts[call] += usize::from(shown & (1 << situation) != 0);
+                    }
                 }
                 for (side, text) in paper::sides(request.call).iter().enumerate() {
                     if met & (1 << side) != 0 {
@@ -156,16 +165,36 @@ impl Coverage {
         }
     }
 
-    /// What was seen of marks.
+    /// What was seen, by what it has to do with.
+    fn situations(&self) -> [(&'static str, Vec<Shown<'_>>); 2] {
+        let of_marks = marks::SITUATIONS.iter().zip(&self.marks);
+        let of_ends = ends::SITUATIONS.iter().zip(&self.ends);
+        [
+            (
+                "marks",
+                of_marks
+                    .map(|(at, counts)| (at.name, at.calls, counts))
+                    .collect(),
+            ),
+            (
+                "opens that end",
+                of_ends
+                    .map(|(at, counts)| (at.name, at.calls, counts))
+                    .collect(),
+            ),
+        ]
+    }
+
     pub fn print_situations(&self) {
-        println!("marks:");
-        for (situation, counts) in SITUATIONS.iter().zip(&self.situations) {
-            let counts: Vec<String> = situation
-                .calls
-                .iter()
-                .map(|&call| format!("{} {}", call.word(), counts[call as usize]))
-                .collect();
-            println!("  {}: {}", situation.name, counts.join(", "));
+        for (title, rows) in self.situations() {
+            println!("{title}:");
+            for (name, calls, counts) in rows {
+                let counts: Vec<String> = calls
+                    .iter()
+                    .map(|&call| format!("{} {}", call.word(), counts[call as usize]))
+                    .collect();
+                println!("  {name}: {}", counts.join(", "));
+            }
         }
     }
 
@@ -239,16 +268,20 @@ impl Coverage {
             }
             upper_half.push(format!("{} {count}", call.word()));
         }
-        let (mut situations, mut situations_met) = (0, 0);
-        for (situation, counts) in SITUATIONS.iter().zip(&self.situations) {
-            for &call in situation.calls {
-                situations += 1;
-                if counts[call as usize] > 0 {
-                    situations_met += 1;
-                } else {
-                    missing.push(format!("{}, {}: never seen", call.word(), situation.name));
+        let mut situations: Vec<String> = Vec::new();
+        for (title, rows) in self.situations() {
+            let (mut all, mut all_met) = (0, 0);
+            for (name, calls, counts) in rows {
+                for &call in calls {
+                    all += 1;
+                    if counts[call as usize] > 0 {
+                        all_met += 1;
+                    } else {
+                        missing.push(format!("{}, {name}: never seen", call.word()));
+                    }
                 }
             }
+            situations.push(format!("{all_met} of {all} situations with {title} met"));
         }
         for line in &missing {
             println!("unmet: {line}");
@@ -257,7 +290,9 @@ impl Coverage {
             "refused for categories 8 to 15 alone: {}",
             upper_half.join(", ")
         );
-        println!("{situations_met} of {situations} situations with marks met");
+        for line in situations {
+            println!("{line}");
+        }
         println!(
             "{} roles told, by the reference as by the paper",
             self.roles

@@ -87,14 +87,14 @@ pub static SITUATIONS: &[Situation] = &[
             && at.done()
             && (0..16).any(|seat| at.reads_down(seat, at.entity()))
     }),
-    in_2("revoke, the read down outliving the right", |at| {
-        at.request.call == Call::Revoke && at.outlives()
+    in_2("revoke, a read down ending with the right", |at| {
+        at.request.call == Call::Revoke && at.ends()
     }),
-    in_2("drop, the read down outliving the role", |at| {
-        at.request.call == Call::Drop && at.outlives()
+    in_2("drop, a read down ending with the role", |at| {
+        at.request.call == Call::Drop && at.ends()
     }),
-    in_2("unmake, the read down outliving the role", |at| {
-        at.request.call == Call::Unmake && at.outlives()
+    in_2("unmake, a read down ending with the role", |at| {
+        at.request.call == Call::Unmake && at.ends()
     }),
     in_2("logout of a seat that reads down", |at| {
         at.request.call == Call::Logout
@@ -184,16 +184,15 @@ impl Look<'_> {
         self.before.seats[seat].reading[entity] && entity_level(entity) < seat_level(seat)
     }
 
-    /// A seat loses read on what it reads down and still has it open: "an open lasts .. even if the right
-    /// or role behind it goes".
-    fn outlives(&self) -> bool {
+    /// A seat loses read on what it reads down, and the open with it (document 02, A.3).
+    fn ends(&self) -> bool {
         let may =
             |tables: &Tables, seat, entity| paper::has_right(tables, seat, entity, paper::READ);
         self.done()
             && (0..16).any(|seat| {
                 (0..64).any(|entity| {
                     self.reads_down(seat, entity)
-                        && self.after.seats[seat].reading[entity]
+                        && !self.after.seats[seat].reading[entity]
                         && may(self.before, seat, entity)
                         && !may(self.after, seat, entity)
                 })

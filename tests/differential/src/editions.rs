@@ -1,10 +1,10 @@
 //! The guard in edition 2, and in edition 1 by the same way (document 02, A.13), with the roles that it tells
 //! (A.6). The request program cannot choose and prints no roles, so the proved guard runs through the test
 //! program `guard_cases`. Each file is answered by the paper and by `reference --roles --edition 2`; its
-//! requests, written as statements, by the paper and by `guard_cases`, which shows every record too. A twin
-//! of each log is run as well, and the two are held against the isolation rule. The tables at the end are
-//! changed in a field, many times, and a request tells whether they are sound. At last the log is run as
-//! batches.
+//! requests, written as statements, by the paper and by `guard_cases`, which shows every record too, and
+//! every seat behind each request that may have ended opens (A.3). A twin of each log is run as well, and
+//! the two are held against the isolation rule. The tables at the end are changed in a field, many times,
+//! and a request tells whether they are sound. At last the log is run as batches.
 
 use std::fs;
 use std::path::Path;
@@ -14,6 +14,7 @@ use crate::batches;
 use crate::builds;
 use crate::cases::{self, Script};
 use crate::down;
+use crate::ends::{self, Lost};
 use crate::files;
 use crate::logs::{self, Asked, Log, Ran};
 use crate::paper::{self, entity_level, seat_level, Call, Field, CALLS};
@@ -170,6 +171,7 @@ fn by_guard(
     let shows: Vec<usize> = middle.into_iter().chain([log.entries.len()]).collect();
     let mut script = Script::new();
     let mut taken = Taken::new();
+    let mut lost = Lost::new();
     script.start(log);
     for done in 0..=log.entries.len() {
         for _ in shows.iter().filter(|&&show| show == done) {
@@ -195,6 +197,17 @@ fn by_guard(
             for situation in down::situations(&look) {
                 counts.down[situation] += 1;
             }
+            let look = ends::Look {
+                before: &before,
+                request,
+                met: answered.met,
+                after: &script.tables,
+                lost: &lost,
+            };
+            let shown = ends::situations(&look);
+            for (situation, by_call) in counts.ends.iter_mut().enumerate() {
+                by_call[request.call as usize] += usize::from(shown & (1 << situation) != 0);
+            }
             let look = told::Look {
                 tables: &before,
                 request,
@@ -210,7 +223,9 @@ fn by_guard(
             }
             if answered.answer == 0 {
                 taken.note(request);
+                lost.note(&before, request, &script.tables);
             }
+            counts.seats_shown += usize::from(ends::may_end(request, answered.answer));
         }
     }
     let changed = unsound::ask(&mut script, log, random, &mut counts.unsound);
@@ -269,15 +284,18 @@ struct Counts {
     lines: [usize; 2],
     requests: [usize; 2],
     answers: [[[usize; 17]; CALLS.len()]; 2],
-    /// What requests show of reading down, and, by call, of the role that is told.
+    /// What requests show of reading down, and, by call, of opens that end and of the role that is told.
     down: Vec<usize>,
+    ends: Vec<[usize; CALLS.len()]>,
     told: Vec<[usize; CALLS.len()]>,
+    /// Requests behind which every seat was shown.
+    seats_shown: usize,
     /// How often each role was told.
     roles: [usize; 16],
     twins: [usize; TWINS.len()],
     /// Tables with a field changed, by edition, and what they show.
     changed: [usize; 2],
-    unsound: Vec<usize>,
+    unsound: unsound::Counts,
     batches: batches::Counts,
     /// Pairs of twin logs; upper parts, answers of upper requests, and roles beside these, found equal.
     pairs: usize,
@@ -294,11 +312,13 @@ impl Counts {
             requests: [0; 2],
             answers: [[[0; 17]; CALLS.len()]; 2],
             down: vec![0; down::SITUATIONS.len()],
+            ends: vec![[0; CALLS.len()]; ends::SITUATIONS.len()],
             told: vec![[0; CALLS.len()]; told::SITUATIONS.len()],
+            seats_shown: 0,
             roles: [0; 16],
             twins: [0; TWINS.len()],
             changed: [0; 2],
-            unsound: vec![0; unsound::SITUATIONS.len()],
+            unsound: unsound::counts(),
             batches: batches::Counts::new(),
             pairs: 0,
             parts: 0,
@@ -344,7 +364,21 @@ impl Counts {
         for (name, count) in TWINS.iter().zip(self.twins) {
             rows.push((format!("twin logs, {name}"), count));
         }
-        for ((name, _), &count) in unsound::SITUATIONS.iter().zip(&self.unsound) {
+        for ((name, _), &count) in unsound::READING_DOWN.iter().zip(&self.unsound[0]) {
+            rows.push((format!("changed tables, {name}"), count));
+        }
+        rows
+    }
+
+    fn opens_that_end(&self) -> Vec<(String, usize)> {
+        let mut rows = Vec::new();
+        for (situation, counts) in ends::SITUATIONS.iter().zip(&self.ends) {
+            for &call in situation.calls {
+                let title = format!("{}, {}", call.word(), situation.name);
+                rows.push((title, counts[call as usize]));
+            }
+        }
+        for ((name, _), &count) in unsound::RIGHTS.iter().zip(&self.unsound[1]) {
             rows.push((format!("changed tables, {name}"), count));
         }
         rows
@@ -373,9 +407,10 @@ impl Counts {
     }
 
     /// What was seen, by what it has to do with.
-    fn situations(&self) -> [(&'static str, Vec<(String, usize)>); 3] {
+    fn situations(&self) -> [(&'static str, Vec<(String, usize)>); 4] {
         [
             ("reading down", self.reading_down()),
+            ("opens that end", self.opens_that_end()),
             ("roles told", self.roles_told()),
             ("batches", self.in_batches()),
         ]
@@ -430,6 +465,10 @@ impl Counts {
         println!(
             "pairs of request and number met, done among them: {}",
             pairs.join(", ")
+        );
+        println!(
+            "every seat shown behind {} requests that may have ended opens, 0 differences",
+            self.seats_shown
         );
         println!(
             "{} changed tables in edition 2 and {} in edition 1, sound or not as the paper has it",

@@ -9,6 +9,7 @@ mod cases;
 mod coverage;
 mod down;
 mod editions;
+mod ends;
 mod files;
 mod generator;
 mod lines;

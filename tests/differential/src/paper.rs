@@ -1,7 +1,8 @@
 //! Document 01 written down as it reads: the tables, the refusals that apply to each request, and what a done request
 //! changes. Of document 02 it has A.1: "Categories become a set of sixteen, 0 to 65,535, in users, seats and entities";
-//! A.2, shared drawers; A.6, "which role let them in"; and A.13, reading down: "Tables carry an edition, chosen when
-//! built". Nothing here is made for speed or shared between requests beyond what the papers share.
+//! A.2, shared drawers; A.3, "a dropped role ends its opens"; A.6, "which role let them in"; and A.13, reading down:
+//! "Tables carry an edition, chosen when built". Nothing here is made for speed or shared between requests beyond what
+//! the papers share.
 //!
 //! A refusal whose condition has parts joined by "or" is written as several sides of the same number. A side is a
 //! plain question about the tables and the request. Each one can be asked whatever the others say: the record of
@@ -371,8 +372,8 @@ pub fn build(users: &[UserRecord; 16], edition: usize) -> (Tables, usize) {
 
 // ---- Sound tables
 
-/// The six points on sound tables, in the paper's order, that of A.2 and that of A.13. Tables reached from fresh ones
-/// are sound; a run checks it.
+/// The six points on sound tables, in the paper's order, that of A.2, that of A.3 and that of A.13. Tables reached from
+/// fresh ones are sound; a run checks it.
 pub fn sound(tables: &Tables) -> bool {
     in_range(tables)
         && live_entities_placed(tables)
@@ -381,6 +382,7 @@ pub fn sound(tables: &Tables) -> bool {
         && reading_allowed(tables)
         && writing_allowed(tables)
         && objects_unshared(tables)
+        && rights_behind_opens(tables)
         && edition_known(tables)
 }
 
@@ -516,6 +518,18 @@ fn objects_unshared(tables: &Tables) -> bool {
         .entities
         .iter()
         .all(|entity| entity.kind != OBJECT || entity.shared == 0)
+}
+
+/// "Soundness gains the same condition": a seat has read on what it has open for reading, and write on what it has open
+/// for writing. Whether it reaches the entity is not asked.
+fn rights_behind_opens(tables: &Tables) -> bool {
+    (0..16).all(|seat| {
+        let record = &tables.seats[seat];
+        (0..64).all(|entity| {
+            (!record.reading[entity] || has_right(tables, seat, entity, READ))
+                && (!record.writing[entity] || has_right(tables, seat, entity, WRITE))
+        })
+    })
 }
 
 /// "An edition other than 1 or 2 gives 2 when building and 1 afterwards."
@@ -1065,7 +1079,10 @@ pub fn done(tables: &mut Tables, q: &Request) {
         }
         Logout => tables.seats[x] = EMPTY_SEAT,
         Take => tables.seats[x].roles[role] = true,
-        Drop => tables.seats[x].roles[role] = false,
+        Drop => {
+            tables.seats[x].roles[role] = false;
+            end_opens(tables);
+        }
         Openr => tables.seats[x].reading[entity] = true,
         Openw => tables.seats[x].writing[entity] = true,
         Close => {
@@ -1109,6 +1126,7 @@ pub fn done(tables: &mut Tables, q: &Request) {
                     *rights -= right;
                 }
             }
+            end_opens(tables);
         }
         List => tables.roles[role].users[user] = true,
         Unlist => tables.roles[role].users[user] = false,
@@ -1123,8 +1141,24 @@ pub fn done(tables: &mut Tables, q: &Request) {
             for seat in tables.seats.iter_mut() {
                 seat.roles[role] = false;
             }
+            end_opens(tables);
         }
         Share => tables.entities[entity].shared = q.at(Shared),
+    }
+}
+
+/// "After drop, revoke and unmake, every seat loses each open for which it no longer has the read or write right.
+/// Reaching the entity is not looked at again."
+fn end_opens(tables: &mut Tables) {
+    for seat in 0..16 {
+        for entity in 0..64 {
+            if !has_right(tables, seat, entity, READ) {
+                tables.seats[seat].reading[entity] = false;
+            }
+            if !has_right(tables, seat, entity, WRITE) {
+                tables.seats[seat].writing[entity] = false;
+            }
+        }
     }
 }
 
@@ -1288,6 +1322,115 @@ mod tests {
         tables.edition = 3;
         let openr = Request::with(Openr, &named);
         assert_eq!(step_telling(&mut tables, &openr), (1, None));
+    }
+
+    /// Of what seat 12 has open on the object 50, which is left after the request, for reading and for writing.
+    fn left(tables: &Tables, request: &Request) -> (bool, bool) {
+        let mut after = tables.clone();
+        assert_eq!(step(&mut after, request), 0, "{request:?}");
+        assert!(sound(&after));
+        (after.seats[12].reading[50], after.seats[12].writing[50])
+    }
+
+    #[test]
+    fn what_ends_opens() {
+        let mut tables = four_roles();
+        tables.seats[12].reading[50] = true;
+        tables.seats[12].writing[50] = true;
+        // Seat 13 keeps the house, and owns the object by role 12.
+        tables.seats[13].live = true;
+        tables.seats[13].roles[12] = true;
+        tables.roles[12].rights[50] = EXECUTE + OWN;
+        assert!(sound(&tables));
+        let drop = |role| Request::with(Drop, &[(Seat, 12), (Role, role)]);
+        let unmake = |role| Request::with(Unmake, &[(Seat, 13), (Role, role)]);
+        let revoke = |role, entity, rights| {
+            let named = [(Seat, 13), (Role, role), (Entity, entity), (Rights, rights)];
+            Request::with(Revoke, &named)
+        };
+        // Two roles give each right.
+        for role in [13, 14, 15] {
+            for request in [drop(role), unmake(role), revoke(role, 50, 15)] {
+                assert_eq!(left(&tables, &request), (true, true));
+            }
+        }
+        // Without role 14 there is one for each.
+        tables.seats[12].roles[14] = false;
+        for (role, is_left) in [(13, (false, true)), (15, (true, false))] {
+            for request in [drop(role), unmake(role), revoke(role, 50, 3)] {
+                assert_eq!(left(&tables, &request), is_left);
+            }
+        }
+        // The other right, execute, own and the reach end nothing.
+        for request in [
+            revoke(13, 50, WRITE + EXECUTE + OWN),
+            revoke(15, 50, READ + EXECUTE + OWN),
+            revoke(12, 50, 15),
+            drop(12),
+        ] {
+            assert_eq!(left(&tables, &request), (true, true));
+        }
+        for role in [12, 15] {
+            tables.roles[role].rights[49] = 0;
+        }
+        assert!(sound(&tables) && !reaches(&tables, 12, 50));
+        assert_eq!(left(&tables, &drop(12)), (true, true));
+    }
+
+    #[test]
+    fn what_brings_no_open_back() {
+        let mut tables = four_roles();
+        tables.seats[12].reading[50] = true;
+        tables.roles[14].rights[50] = 0;
+        tables.roles[13].users[0] = true;
+        for call in [Drop, Take] {
+            let held = Request::with(call, &[(Seat, 12), (Role, 13)]);
+            assert_eq!(step(&mut tables, &held), 0);
+            assert!(!tables.seats[12].reading[50]);
+        }
+        assert!(has_right(&tables, 12, 50, READ));
+        let openr = Request::with(Openr, &[(Seat, 12), (Entity, 50)]);
+        assert_eq!(step_telling(&mut tables, &openr), (0, Some(13)));
+    }
+
+    #[test]
+    fn opens_without_their_right_are_unsound() {
+        let tables = four_roles();
+        type Change = fn(&mut Tables);
+        let changes: [(bool, Change); 8] = [
+            (true, |t| t.seats[12].reading[50] = true),
+            (true, |t| t.seats[12].writing[50] = true),
+            // Role 12 has all rights on its root no longer, but execute.
+            (false, |t| t.seats[12].reading[48] = true),
+            (false, |t| t.seats[12].writing[49] = true),
+            // By the other right alone.
+            (false, |t| {
+                t.seats[12].reading[50] = true;
+                t.roles[13].rights[50] = 0;
+                t.roles[14].rights[50] = WRITE;
+            }),
+            (false, |t| {
+                t.seats[12].writing[50] = true;
+                t.roles[14].rights[50] = READ;
+                t.roles[15].rights[50] = READ;
+            }),
+            // By a role that is not held.
+            (false, |t| {
+                t.seats[12].writing[50] = true;
+                t.seats[12].roles[14] = false;
+                t.seats[12].roles[15] = false;
+            }),
+            (true, |t| {
+                t.seats[12].writing[50] = true;
+                t.seats[12].roles[12] = false;
+                t.seats[12].roles[15] = false;
+            }),
+        ];
+        for (place, (is_sound, change)) in changes.into_iter().enumerate() {
+            let mut changed = tables.clone();
+            change(&mut changed);
+            assert_eq!(sound(&changed), is_sound, "change {place}");
+        }
     }
 
     #[test]

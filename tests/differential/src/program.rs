@@ -3,6 +3,7 @@
 //! here, which the request program cannot: so one file serves for both. "The program prints as before" where a request
 //! tells a role (A.6); here the role can be printed too.
 
+use crate::ends::{self, Lost};
 use crate::marks;
 use crate::paper::{
     self, Call, Field, Label, Request, Tables, UserRecord, Values, CALLS, FIELDS, OPTIONAL,
@@ -60,6 +61,8 @@ pub enum What {
         upper_half: bool,
         /// What it shows of marks: bit i for `marks::SITUATIONS[i]`.
         situations: u32,
+        /// And of opens that end: bit i for `ends::SITUATIONS[i]`.
+        ends: u32,
     },
 }
 
@@ -77,6 +80,7 @@ pub struct Program {
     /// A readable line with another word than `user` has come.
     pub shut: bool,
     pub tables: Tables,
+    lost: Lost,
 }
 
 impl Program {
@@ -105,6 +109,7 @@ impl Program {
             users,
             shut: false,
             tables: paper::fresh(&users, edition),
+            lost: Lost::new(),
         })
     }
 
@@ -193,8 +198,19 @@ impl Program {
                 let upper_half =
                     [4, 11].contains(&answer) && paper::done_in_lower_half(&self.tables, &request);
                 let situations = marks::situations(&self.tables, &request, met);
+                let before = self.tables.clone();
                 if answer == 0 {
                     paper::done(&mut self.tables, &request);
+                }
+                let ends = ends::situations(&ends::Look {
+                    before: &before,
+                    request: &request,
+                    met,
+                    after: &self.tables,
+                    lost: &self.lost,
+                });
+                if answer == 0 {
+                    self.lost.note(&before, &request, &self.tables);
                 }
                 Seen {
                     what: What::Request {
@@ -202,6 +218,7 @@ impl Program {
                         met,
                         upper_half,
                         situations,
+                        ends,
                     },
                     answer,
                     role,

@@ -28,16 +28,18 @@ const fn kind(
     }
 }
 
+pub const SEATS: Kind = kind(
+    "seat",
+    "seats",
+    16,
+    &[
+        "live", "user", "grade", "cats", "roles", "reading", "writing",
+    ],
+);
+
 /// What the tables hold beside the records, the edition, counts as one of a kind of its own.
 pub static KINDS: [Kind; 5] = [
-    kind(
-        "seat",
-        "seats",
-        16,
-        &[
-            "live", "user", "grade", "cats", "roles", "reading", "writing",
-        ],
-    ),
+    SEATS,
     kind("user", "users", 16, &["ceiling", "grade", "cats"]),
     kind(
         "role",

@@ -24,11 +24,12 @@ impl Writer {
                 7..=8 => self.recycle_entity(),
                 9 => self.recycle_role(),
                 10 => self.recycle_seat(),
-                11..=13 => self.outlive(),
+                11..=13 => self.undermine(),
                 14..=15 => self.survey(),
                 16..=17 => self.hand_on(),
                 18 => self.write_object(),
                 19..=21 => self.drawer(),
+                22..=24 => self.end_opens(),
                 _ => self.aimed(),
             }
             if self.random.chance(self.habits.unreadable, 100) {
@@ -385,7 +386,7 @@ impl Writer {
     }
 
     /// Takes away what stands behind an open, a holding or a listing, and asks again.
-    fn outlive(&mut self) {
+    fn undermine(&mut self) {
         let seat = self.one_of(16, |t, seat| {
             t.seats[seat].writing.contains(&true) || t.seats[seat].reading.contains(&true)
         });
@@ -411,7 +412,11 @@ impl Writer {
             }
             _ => {
                 let user = self.tables().seats[seat].user;
-                self.wish(Call::Unlist, &[(Field::Role, role), (Field::User, user)]);
+                let listed = [(Field::Role, role), (Field::User, user)];
+                self.wish(Call::Unlist, &listed);
+                if self.random.chance(1, 4) {
+                    self.ask(Call::Unlist, &listed);
+                }
                 self.ask(Call::Take, &[(Field::Seat, seat), (Field::Role, role)]);
             }
         }
@@ -435,6 +440,138 @@ impl Writer {
                 self.ask(Call::Openw, &[(Field::Seat, seat), (Field::Entity, entity)]);
             }
             _ => {}
+        }
+    }
+
+    /// Seats of several levels open a sheet by one role or by two. Then a role is dropped, loses rights or is unmade, and
+    /// each of them asks what it has left; and again, where it may open the sheet once more.
+    fn end_opens(&mut self) {
+        let owns = |t: &Tables, seat, e| {
+            paper::has_right(t, seat, e, paper::OWN)
+                && paper::seat_level(seat) >= paper::entity_level(e)
+        };
+        let owner = self.one_of(16, |t, seat| (0..64).any(|e| owns(t, seat, e)));
+        let sheet = self.one_of(64, |t, e| owns(t, owner, e));
+        if !owns(self.tables(), owner, sheet) {
+            return;
+        }
+        let (level, label) = (
+            paper::entity_level(sheet),
+            self.tables().entities[sheet].label,
+        );
+        let mut roles: Vec<usize> = (4 * level..4 * (paper::seat_level(owner) + 1)).collect();
+        roles.retain(|&role| {
+            !paper::is_keeper(role) && self.tables().seats[owner].roles[paper::keeper_of(role)]
+        });
+        self.random.shuffle(&mut roles);
+        roles.truncate(2);
+        if roles.is_empty() {
+            return;
+        }
+        let give = |role, entity, rights| {
+            [
+                (Field::Seat, owner),
+                (Field::Role, role),
+                (Field::Entity, entity),
+                (Field::Rights, rights),
+            ]
+        };
+        for &role in &roles {
+            if !self.tables().roles[role].live {
+                self.wish(Call::Make, &[(Field::Seat, owner), (Field::Role, role)]);
+            }
+            let rights = self.random.pick(&[3, 3, 7, 1, 2, 15]);
+            self.wish(Call::Grant, &give(role, sheet, rights));
+            let mut at = sheet;
+            while !paper::is_root(at) {
+                at = self.tables().entities[at].parent;
+                self.wish(Call::Grant, &give(role, at, paper::EXECUTE));
+            }
+        }
+        // One of the sheet's level, which can have it open in both ways in any edition, one below the owner, and another.
+        let mut seats = vec![owner];
+        for levels in [level..level + 1, 0..paper::seat_level(owner), 0..4] {
+            let seat = self.one_of(16, |t, seat| {
+                levels.contains(&paper::seat_level(seat))
+                    && (!t.seats[seat].live || t.seats[seat].label == label)
+            });
+            if !self.tables().seats[seat].live {
+                let as_the_sheet = [
+                    (Field::Seat, seat),
+                    (Field::Level, label.grade),
+                    (Field::Cats, label.cats),
+                ];
+                self.wish(Call::Login, &as_the_sheet);
+            }
+            seats.push(seat);
+        }
+        for &seat in &seats {
+            let user = self.tables().seats[seat].user;
+            for &role in &roles {
+                let listed = [
+                    (Field::Seat, owner),
+                    (Field::Role, role),
+                    (Field::User, user),
+                ];
+                self.wish(Call::List, &listed);
+                if self.random.chance(4, 5) {
+                    self.wish(Call::Take, &[(Field::Seat, seat), (Field::Role, role)]);
+                }
+            }
+            for call in [Call::Openr, Call::Openw] {
+                self.wish(call, &[(Field::Seat, seat), (Field::Entity, sheet)]);
+                if self.random.chance(1, 3) {
+                    self.wish(call, &[(Field::Seat, seat)]);
+                }
+            }
+            if self.tables().seats[seat].writing[sheet] {
+                self.wish(Call::Create, &[(Field::Seat, seat), (Field::Parent, sheet)]);
+            }
+        }
+        for _ in 0..self.random.between(1, 3) {
+            let (seat, role) = (self.random.pick(&seats), self.random.pick(&roles));
+            let held = [(Field::Seat, seat), (Field::Role, role)];
+            let rights = self.random.pick(&[1, 1, 2, 2, 3, 15, 4, 8, 12, 7]);
+            match self.random.below(8) {
+                0..=2 => self.wish(Call::Drop, &held),
+                3..=5 => self.wish(Call::Revoke, &give(role, sheet, rights)),
+                6 => self.wish(Call::Unmake, &[(Field::Seat, owner), (Field::Role, role)]),
+                // By one that may not, most often.
+                _ => {
+                    let call = self.random.pick(&[Call::Unmake, Call::Revoke]);
+                    let mut asked = give(role, sheet, rights);
+                    asked[0] = (Field::Seat, seat);
+                    self.ask(call, &asked)
+                }
+            };
+            self.ask_what_is_left(&seats, sheet);
+            if self.random.chance(1, 2) {
+                self.wish(Call::Grant, &give(role, sheet, rights));
+                self.wish(Call::Take, &held);
+                self.ask_what_is_left(&[seat], sheet);
+            }
+        }
+    }
+
+    /// Each of the seats asks for the entity, so that its answers tell whether it has it open and in which way.
+    fn ask_what_is_left(&mut self, seats: &[usize], entity: usize) {
+        for &seat in seats {
+            let named = [(Field::Seat, seat), (Field::Entity, entity)];
+            match self.random.below(6) {
+                0 => self.ask(Call::Openr, &named),
+                1 => self.ask(Call::Openw, &named),
+                2 => self.ask(Call::Close, &named),
+                3 => {
+                    let inside = [(Field::Seat, seat), (Field::Parent, entity)];
+                    self.ask(Call::Create, &inside)
+                }
+                4 => {
+                    let child = self.one_of(64, |t, e| paper::is_child(t, e, entity));
+                    let call = self.random.pick(&[Call::Delete, Call::Rename]);
+                    self.ask(call, &[(Field::Seat, seat), (Field::Entity, child)])
+                }
+                _ => false,
+            };
         }
     }
 

@@ -1,10 +1,13 @@
 //! Tables with a field changed, in either edition: "1 the tables are not sound", or the request's own
 //! answer. In edition 2 "soundness drops the level condition on reading" (document 02, A.13), and nothing
-//! else.
+//! else. Of an open it asks the read or write right (A.3), and not whether the entity is reached.
 
 use crate::cases::Script;
+use crate::ends::{self, Open};
 use crate::logs::Log;
-use crate::paper::{self, dominates, entity_level, seat_level, Tables, EDITIONS};
+use crate::paper::{
+    self, dominates, entity_level, has_right, seat_level, Tables, EDITIONS, READ, WRITE,
+};
 use crate::random::Random;
 use crate::records::{self, Kind, KINDS};
 
@@ -13,33 +16,31 @@ const TIMES: usize = 60;
 
 type Situation = (&'static str, fn(&Tables) -> bool);
 
-/// What these tables have to show.
-pub static SITUATIONS: &[Situation] = &[
+/// What these tables have to show of reading down.
+pub static READING_DOWN: &[Situation] = &[
     ("edition 1, unsound for a read down alone", |t| {
         t.edition == 1 && !paper::sound(t) && paper::sound(&in_edition_2(t))
     }),
     ("edition 2, sound with a read down", |t| {
-        t.edition == 2 && paper::sound(t) && *t != without(t, reads_down)
+        t.edition == 2 && paper::sound(t) && ends::opens(t).any(|open| reads_down(&open))
     }),
     ("edition 2, unsound for a write up alone", |t| {
-        t.edition == 2 && alone(t, writes_up)
+        let faulty = |open: &Open| writes_up(open) && open.has_right(t) && labels_allow(t, open);
+        t.edition == 2 && alone(t, faulty)
     }),
     (
         "edition 2, unsound for the label of a read down alone",
         |t| {
-            let faulty = |t: &Tables, seat, entity| {
-                reads_down(t, seat, entity)
-                    && t.entities[entity].live
-                    && !dominates(t.seats[seat].label, t.entities[entity].label)
-            };
+            let faulty =
+                |open: &Open| reads_down(open) && open.has_right(t) && !labels_allow(t, open);
             t.edition == 2 && alone(t, faulty)
         },
     ),
     (
+        // Nobody has rights on it either.
         "edition 2, unsound for a read down of what is not live alone",
         |t| {
-            let faulty =
-                |t: &Tables, seat, entity| reads_down(t, seat, entity) && !t.entities[entity].live;
+            let faulty = |open: &Open| reads_down(open) && !t.entities[open.entity].live;
             t.edition == 2 && alone(t, faulty)
         },
     ),
@@ -48,6 +49,48 @@ pub static SITUATIONS: &[Situation] = &[
     }),
 ];
 
+/// And of the rights behind opens.
+pub static RIGHTS: &[Situation] = &[
+    ("unsound for a read without the right alone", |t| {
+        alone(t, |open| open.right == READ && lacks_right_alone(t, open))
+    }),
+    ("unsound for a write without the right alone", |t| {
+        alone(t, |open| open.right == WRITE && lacks_right_alone(t, open))
+    }),
+    ("unsound for a read by the write right alone", |t| {
+        alone(t, |open| open.right == READ && by_the_other(t, open))
+    }),
+    ("unsound for a write by the read right alone", |t| {
+        alone(t, |open| open.right == WRITE && by_the_other(t, open))
+    }),
+    ("unsound for an open by a role not held alone", |t| {
+        alone(t, |open| {
+            let has = |role: usize| paper::has(t.roles[role].rights[open.entity], open.right);
+            lacks_right_alone(t, open) && (0..16).any(has)
+        })
+    }),
+    ("unsound for an open root without the right alone", |t| {
+        alone(t, |open| {
+            paper::is_root(open.entity) && lacks_right_alone(t, open)
+        })
+    }),
+    (
+        "edition 2, unsound for a read down without the right alone",
+        |t| t.edition == 2 && alone(t, |open| reads_down(open) && lacks_right_alone(t, open)),
+    ),
+    ("sound with an open of what is not reached", |t| {
+        let unreached = |open: Open| !paper::reaches(t, open.seat, open.entity);
+        paper::sound(t) && ends::opens(t).any(unreached)
+    }),
+];
+
+/// How often each of these came.
+pub type Counts = [Vec<usize>; 2];
+
+pub fn counts() -> Counts {
+    [READING_DOWN, RIGHTS].map(|situations| vec![0; situations.len()])
+}
+
 fn in_edition_2(tables: &Tables) -> Tables {
     Tables {
         edition: 2,
@@ -55,39 +98,54 @@ fn in_edition_2(tables: &Tables) -> Tables {
     }
 }
 
-fn reads_down(tables: &Tables, seat: usize, entity: usize) -> bool {
-    tables.seats[seat].reading[entity] && entity_level(entity) < seat_level(seat)
+fn reads_down(open: &Open) -> bool {
+    open.right == READ && entity_level(open.entity) < seat_level(open.seat)
 }
 
-fn writes_up(tables: &Tables, seat: usize, entity: usize) -> bool {
-    tables.seats[seat].writing[entity] && entity_level(entity) > seat_level(seat)
+fn writes_up(open: &Open) -> bool {
+    open.right == WRITE && entity_level(open.entity) > seat_level(open.seat)
 }
 
-/// The tables with the opens closed that are so.
-fn without(tables: &Tables, so: impl Fn(&Tables, usize, usize) -> bool) -> Tables {
-    let mut without = tables.clone();
-    for seat in 0..16 {
-        for entity in (0..64).filter(|&entity| so(tables, seat, entity)) {
-            without.seats[seat].reading[entity] = false;
-            without.seats[seat].writing[entity] = false;
-        }
+fn labels_allow(tables: &Tables, open: &Open) -> bool {
+    let own = tables.seats[open.seat].label;
+    let entity = tables.entities[open.entity].label;
+    match open.right {
+        READ => dominates(own, entity),
+        _ => own == entity,
     }
-    without
 }
 
-/// Unsound, and sound without these opens.
-fn alone(tables: &Tables, so: impl Fn(&Tables, usize, usize) -> bool) -> bool {
-    !paper::sound(tables) && paper::sound(&without(tables, so))
+/// The open has all that soundness asks, but for the right behind it.
+fn lacks_right_alone(tables: &Tables, open: &Open) -> bool {
+    let level_allows = match open.right {
+        READ => tables.edition == 2 || !reads_down(open),
+        _ => !writes_up(open),
+    };
+    tables.seats[open.seat].live
+        && tables.entities[open.entity].live
+        && level_allows
+        && labels_allow(tables, open)
+        && !open.has_right(tables)
+}
+
+/// And the seat has the other right of the two.
+fn by_the_other(tables: &Tables, open: &Open) -> bool {
+    let other = READ + WRITE - open.right;
+    lacks_right_alone(tables, open) && has_right(tables, open.seat, open.entity, other)
+}
+
+/// Unsound, and sound without the opens that are so.
+fn alone(tables: &Tables, so: impl Fn(&Open) -> bool) -> bool {
+    let mut without = tables.clone();
+    for open in ends::opens(tables).filter(so) {
+        open.close(&mut without);
+    }
+    *tables != without && !paper::sound(tables) && paper::sound(&without)
 }
 
 /// Changes the script's tables so many times, and each time asks one of the log's requests and goes back.
 /// Hands back how many were tables of each edition, and counts what they show.
-pub fn ask(
-    script: &mut Script,
-    log: &Log,
-    random: &mut Random,
-    counts: &mut [usize],
-) -> [usize; 2] {
+pub fn ask(script: &mut Script, log: &Log, random: &mut Random, counts: &mut Counts) -> [usize; 2] {
     let mut asked = [0; 2];
     if log.entries.is_empty() {
         return asked;
@@ -101,8 +159,10 @@ pub fn ask(
         for _ in 0..random.pick(&[1, 1, 1, 2]) {
             change(script, random);
         }
-        for (count, (_, shows)) in counts.iter_mut().zip(SITUATIONS) {
-            *count += usize::from(shows(&script.tables));
+        for (counts, situations) in counts.iter_mut().zip([READING_DOWN, RIGHTS]) {
+            for (count, (_, shows)) in counts.iter_mut().zip(situations) {
+                *count += usize::from(shows(&script.tables));
+            }
         }
         if let Some(at) = EDITIONS.iter().position(|&of| of == script.tables.edition) {
             asked[at] += 1;
@@ -137,17 +197,30 @@ fn change(script: &mut Script, random: &mut Random) {
         "live" => 1 - old,
         "roles" | "users" => old ^ 1 << random.below(16),
         "reading" | "writing" | "reads" | "writes" | "executes" | "owns" => {
-            let entities = &script.tables.entities;
-            let live: Vec<usize> = (0..64).filter(|&entity| entities[entity].live).collect();
-            let entity = if random.chance(1, 4) {
-                random.below(64)
-            } else {
-                random.pick(&live)
-            };
-            old ^ 1 << entity
+            old ^ 1 << some_entity(&script.tables, at, field, random)
         }
         "name" | "cats" => random.pick(&[0, 1, 2, 3, 256, 65_535]),
         _ => random.pick(&[0, 1, 2, 3, 4, 15, 16, 32, 63, 64, 255]),
     };
     script.set(kind.word, at, field, &[value]);
+}
+
+/// Of the entities any one, a live one, or one on which the seat has the right of the open that is changed, or the other
+/// right. There is always a live one.
+fn some_entity(tables: &Tables, at: usize, field: &str, random: &mut Random) -> usize {
+    let right = match (field, random.below(8)) {
+        (_, 0) => return random.below(64),
+        ("reading", 1..=3) | ("writing", 4) => Some(READ),
+        ("writing", 1..=3) | ("reading", 4) => Some(WRITE),
+        _ => None,
+    };
+    let entities = |so: &dyn Fn(usize) -> bool| (0..64).filter(|&e| so(e)).collect::<Vec<_>>();
+    let mut among = Vec::new();
+    if let Some(right) = right {
+        among = entities(&|entity| has_right(tables, at, entity, right));
+    }
+    if among.is_empty() {
+        among = entities(&|entity| tables.entities[entity].live);
+    }
+    random.pick(&among)
 }

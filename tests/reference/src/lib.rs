@@ -1,8 +1,9 @@
 //! The access guard of document 01 in plain Rust, with the categories, the
-//! shared drawers, the role told and the editions of document 02, A.1, A.2, A.6
-//! and A.13: the tables are changed in place, sets are bit sets and no request
-//! touches the heap. It follows the papers alone and shares no line with the
-//! proved guard, so that the two can be held against each other.
+//! shared drawers, the opens that end with their rights, the role told and the
+//! editions of document 02, A.1, A.2, A.3, A.6 and A.13: the tables are changed
+//! in place, sets are bit sets and no request touches the heap. It follows the
+//! papers alone and shares no line with the proved guard, so that the two can be
+//! held against each other.
 //!
 //! Numbers handed back are those of the paper: 0 for done, otherwise the
 //! refusal. The refusals of a request stand in the order in which they are
@@ -383,8 +384,9 @@ impl Tables {
     }
 
     fn drop(&mut self, r: &Request) -> u8 {
-        let seat = &mut self.seats[row!(r.seat, SEATS)];
+        let x = row!(r.seat, SEATS);
         let p = row!(r.role, ROLES);
+        let seat = &mut self.seats[x];
         if !seat.live {
             return 5;
         }
@@ -395,6 +397,8 @@ impl Tables {
             return 16;
         }
         seat.roles &= !(1 << p);
+        // Nobody else's rights change.
+        self.end_opens(x, u64::MAX);
         0
     }
 
@@ -585,7 +589,15 @@ impl Tables {
     }
 
     fn revoke(&mut self, r: &Request) -> u8 {
-        self.regrant(r, |held, named| held & !named)
+        let answer = self.regrant(r, |held, named| held & !named);
+        if answer == 0 && r.rights & u32::from(READ | WRITE) != 0 {
+            for x in 0..SEATS {
+                if self.seats[x].roles >> r.role & 1 != 0 {
+                    self.end_opens(x, 1 << r.entity);
+                }
+            }
+        }
+        answer
     }
 
     #[inline]
@@ -687,8 +699,12 @@ impl Tables {
             return 12;
         }
         *role = Role::EMPTY;
-        for seat in &mut self.seats {
-            seat.roles &= !(1 << p);
+        for x in 0..SEATS {
+            let held = &mut self.seats[x].roles;
+            if *held >> p & 1 != 0 {
+                *held &= !(1 << p);
+                self.end_opens(x, u64::MAX);
+            }
         }
         0
     }
@@ -755,6 +771,23 @@ impl Tables {
             }
         }
         true
+    }
+
+    /// "Every seat loses each open for which it no longer has the read or write
+    /// right. Reaching the entity is not looked at again" (document 02, A.3). This is
+    /// for one seat, and for the entities of the set.
+    #[inline]
+    fn end_opens(&mut self, x: usize, among: u64) {
+        let seat = &self.seats[x];
+        let lost = |open: u64, right| {
+            members(open & among)
+                .filter(|&e| !self.has(seat.roles, right, e))
+                .fold(0u64, |lost, e| lost | 1 << e)
+        };
+        let (reading, writing) = (lost(seat.reading, READ), lost(seat.writing, WRITE));
+        let seat = &mut self.seats[x];
+        seat.reading &= !reading;
+        seat.writing &= !writing;
     }
 
     /// What create, delete and rename ask of the seat at the parent.
@@ -913,11 +946,17 @@ impl Tables {
                 && seat.roles & !live_roles == 0
                 && members(seat.reading).all(|e| {
                     let entity = &self.entities[e];
-                    entity.live && entity_level(e) >= lowest && seat.label.dominates(entity.label)
+                    entity.live
+                        && entity_level(e) >= lowest
+                        && seat.label.dominates(entity.label)
+                        && self.has(seat.roles, READ, e)
                 })
                 && members(seat.writing).all(|e| {
                     let entity = &self.entities[e];
-                    entity.live && entity_level(e) <= level(x) && seat.label == entity.label
+                    entity.live
+                        && entity_level(e) <= level(x)
+                        && seat.label == entity.label
+                        && self.has(seat.roles, WRITE, e)
                 })
         })
     }

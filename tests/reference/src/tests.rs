@@ -540,8 +540,10 @@ fn different_roles_may_carry_one_chain() {
             (openr(0, 50), 13),
             (take(0, 14), 0),
             (openr(0, 50), 0),
-            (drop(0, 13), 0),
-            (drop(0, 13), 16),
+            (drop(0, 14), 0),
+            (drop(0, 14), 16),
+            // Out of reach, but read by the other role.
+            (openr(0, 50), 13),
             (close(0, 50), 0),
             (close(0, 50), 16),
             (openr(0, 50), 13),
@@ -639,9 +641,9 @@ fn roles() {
             (list(12, 8, 0), 12),
             (drop(12, 12), 0),
             (unmake(12, 13), 12),
-            // What is open stays open without the role.
+            // What was open by it is closed.
             (openw(12, 48), 13),
-            (close(12, 48), 0),
+            (close(12, 48), 16),
             (logout(12), 0),
             (logout(12), 5),
         ],
@@ -980,10 +982,14 @@ fn unsound_tables_give_1() {
         |t| t.seats[12].roles |= 1 << 1,
         |t| t.seats[12].reading |= 1 << 52,
         |t| t.seats[12].writing |= 1 << 52,
-        |t| t.seats[12].reading |= 1 << 32,
+        |t| {
+            t.roles[12].rights[32] = READ;
+            t.seats[12].reading |= 1 << 32;
+        },
         |t| {
             t.seats[8] = Seat {
                 live: true,
+                roles: 1 << 12,
                 writing: 1 << 48,
                 ..Seat::default()
             }
@@ -991,20 +997,56 @@ fn unsound_tables_give_1() {
         |t| t.seats[12].label.cats = 1,
         |t| t.seats[12].label.cats = 256,
         |t| {
+            t.roles[12].rights[51] = READ;
             t.entities[51].label.cats = 1;
             t.seats[12].reading |= 1 << 51;
         },
         |t| {
+            t.roles[12].rights[51] = READ;
             t.entities[51].label.cats = 256;
             t.seats[12].reading |= 1 << 51;
         },
         |t| {
+            t.roles[12].rights[51] = WRITE;
             t.entities[51].label.cats = 1;
             t.seats[12].writing |= 1 << 51;
         },
         |t| {
+            t.roles[12].rights[51] = WRITE;
             t.entities[51].label.cats = 256;
             t.seats[12].writing |= 1 << 51;
+        },
+        // Opens without the right behind them, or with the other one alone.
+        |t| t.seats[12].roles = 1 << 13,
+        |t| t.roles[12].rights[48] &= !WRITE,
+        |t| t.roles[12].rights[49] &= !READ,
+        |t| t.roles[12].rights[49] &= !WRITE,
+        |t| t.roles[12].rights[49] = 0,
+        |t| t.seats[12].reading |= 1 << 51,
+        |t| t.seats[12].writing |= 1 << 51,
+        |t| {
+            t.roles[12].rights[51] = WRITE | EXECUTE | OWN;
+            t.seats[12].reading |= 1 << 51;
+        },
+        |t| {
+            t.roles[12].rights[51] = READ | EXECUTE | OWN;
+            t.seats[12].writing |= 1 << 51;
+        },
+        // That a role has it which is not held does not count.
+        |t| {
+            t.seats[13] = Seat {
+                live: true,
+                roles: 1 << 13,
+                reading: 1 << 48,
+                ..Seat::default()
+            }
+        },
+        |t| {
+            t.seats[0] = Seat {
+                live: true,
+                reading: 1 << 48,
+                ..Seat::default()
+            }
         },
     ];
     let tables = full();
@@ -1023,7 +1065,16 @@ fn unsound_tables_give_1() {
 fn what_soundness_does_not_ask() {
     let changes: &[fn(&mut Tables)] = &[
         |t| t.roles[12].users = 0,
-        |t| t.roles[12].rights = [0; ENTITIES],
+        // Of an open the read or write right alone, and no reach.
+        |t| {
+            for rights in &mut t.roles[12].rights {
+                *rights &= READ | WRITE;
+            }
+        },
+        |t| {
+            t.roles[13].rights[49] = READ | WRITE;
+            t.roles[12].rights[49] = 0;
+        },
         |t| t.users[0] = User::default(),
         |t| {
             t.entities[51].label = Label {
@@ -1036,7 +1087,10 @@ fn what_soundness_does_not_ask() {
         |t| t.entities[16].shared = 1,
         |t| t.entities[50].shared = 1,
         |t| t.roles[12].rights[0] = 15,
-        |t| t.seats[12].writing |= 1,
+        |t| {
+            t.roles[12].rights[0] = WRITE;
+            t.seats[12].writing |= 1;
+        },
         |t| {
             t.seats[0] = Seat {
                 live: true,
@@ -1257,16 +1311,18 @@ fn the_role_behind_a_read_down() {
                 (grant(15, role, 0, 4), 0),
                 (grant(15, role, 1, 4), 0),
                 (openr(12, 2), 0),
-                // The open outlives the right and the role.
-                (revoke(15, role, 2, 1), 0),
-                (drop(12, role), 0),
-                (unmake(15, role), 0),
-                (openr(12, 2), 13),
             ],
         );
-        assert_eq!(tables.seats[12].reading, 1 << 2);
-        run(&mut tables, &[(close(12, 2), 0), (close(12, 2), 16)]);
-        assert_eq!(tables.seats[12].reading, 0);
+        // The open ends with the right and with the role.
+        for ends in [revoke(15, role, 2, 1), drop(12, role), unmake(15, role)] {
+            let mut tables = tables.clone();
+            assert_eq!(tables.seats[12].reading, 1 << 2);
+            run(
+                &mut tables,
+                &[(ends, 0), (openr(12, 2), 13), (close(12, 2), 16)],
+            );
+            assert_eq!(tables.seats[12].reading, 0);
+        }
     }
 }
 
@@ -1321,11 +1377,23 @@ fn soundness_of_reads_down() {
     let changes: &[fn(&mut Tables)] = &[
         |t| t.seats[15].reading |= 1 << 3,
         |t| t.seats[15].reading |= 1 << 4,
-        |t| t.seats[15].writing |= 1 << 3,
+        |t| {
+            t.roles[0].rights[3] |= WRITE;
+            t.seats[15].writing |= 1 << 3;
+        },
         |t| {
             t.seats[11] = Seat {
                 live: true,
+                roles: 1 << 12,
                 writing: 1 << 48,
+                ..Seat::default()
+            }
+        },
+        // The right behind it.
+        |t| {
+            t.seats[14] = Seat {
+                live: true,
+                reading: 1 << 2,
                 ..Seat::default()
             }
         },
@@ -1586,5 +1654,255 @@ fn the_role_told_for_each_pair_of_levels() {
                 opens(&mut tables, openw(x, root), 4 * entity_level as u8);
             }
         }
+    }
+}
+
+/// As `four_roles`, with these rights on the object 50 for roles 13, 14 and 15. Seat 12,
+/// of level 3, holds role 12 alone. Seat 13, of its level, and seat 5, of level 1, hold
+/// these three, and also 12, by which they reach the object.
+fn three_rights(rights: [u32; 3]) -> Tables {
+    let mut tables = four_roles();
+    run(
+        &mut tables,
+        &[(login(13, 0, 0, 0), 0), (login(5, 0, 0, 0), 0)],
+    );
+    run(&mut tables, &[(take(13, 12), 0), (take(5, 12), 0)]);
+    for (role, rights) in (13..).zip(rights) {
+        run(
+            &mut tables,
+            &[
+                (grant(12, role, 50, rights), 0),
+                (take(13, role), 0),
+                (take(5, role), 0),
+            ],
+        );
+    }
+    tables
+}
+
+/// What the seat has open for reading and for writing.
+fn open(tables: &Tables, seat: usize) -> [u64; 2] {
+    [tables.seats[seat].reading, tables.seats[seat].writing]
+}
+
+#[test]
+fn who_revokes_write_from_its_own_role() {
+    let mut tables = at_work();
+    run(
+        &mut tables,
+        &[
+            (create(12, 49, OBJECT, 48, 1, 12), 0),
+            (openr(12, 48), 0),
+            (revoke(12, 12, 48, 2), 0),
+            (create(12, 50, OBJECT, 48, 2, 12), 13),
+            (rename(12, 49, 2), 13),
+            (delete(12, 49), 13),
+            (openw(12, 48), 13),
+            (openr(12, 48), 16),
+            // The right is there again, the open is not.
+            (grant(12, 12, 48, 2), 0),
+            (create(12, 50, OBJECT, 48, 2, 12), 13),
+            (openw(12, 48), 0),
+            (create(12, 50, OBJECT, 48, 2, 12), 0),
+            (openw(12, 48), 16),
+        ],
+    );
+}
+
+#[test]
+fn a_dropped_role_ends_its_opens() {
+    let mut tables = three_rights([3, 3, 3]);
+    let (root, inner, object) = (1 << 48, 1 << 49, 1 << 50);
+    run(
+        &mut tables,
+        &[
+            (openr(13, 50), 0),
+            (openw(13, 50), 0),
+            (openw(13, 49), 0),
+            (openr(13, 48), 0),
+            // Another one held gives both.
+            (drop(13, 13), 0),
+            (drop(13, 15), 0),
+        ],
+    );
+    assert_eq!(open(&tables, 13), [root | object, inner | object]);
+    // Some end and some stay.
+    run(&mut tables, &[(drop(13, 14), 0)]);
+    assert_eq!(open(&tables, 13), [root, inner]);
+    run(&mut tables, &[(drop(13, 12), 0)]);
+    assert_eq!(open(&tables, 13), [0, 0]);
+    // The acting seat's alone: the others hold it still.
+    assert_eq!(open(&tables, 12), [0, root | inner]);
+    // Taking the roles again brings nothing back.
+    run(
+        &mut tables,
+        &[
+            (take(13, 12), 0),
+            (take(13, 14), 0),
+            (close(13, 48), 16),
+            (close(13, 49), 16),
+            (close(13, 50), 16),
+            (openr(13, 50), 0),
+        ],
+    );
+    assert_eq!(open(&tables, 13), [object, 0]);
+}
+
+#[test]
+fn each_open_by_its_own_right() {
+    // Read by 13 and 15, write by 14 and 15.
+    let mut tables = three_rights([1, 2, 3]);
+    run(&mut tables, &[(openr(13, 50), 0), (openw(13, 50), 0)]);
+    let both = [1 << 50, 1 << 50];
+    for (gone, left) in [
+        ([13, 14], both),
+        ([13, 15], [0, 1 << 50]),
+        ([14, 15], [1 << 50, 0]),
+    ] {
+        let mut tables = tables.clone();
+        assert_eq!(open(&tables, 13), both);
+        run(&mut tables, &[(drop(13, gone[0]), 0)]);
+        assert_eq!(open(&tables, 13), both);
+        run(&mut tables, &[(drop(13, gone[1]), 0)]);
+        assert_eq!(open(&tables, 13), left);
+    }
+}
+
+#[test]
+fn a_revoke_ends_the_opens_of_every_seat() {
+    let mut tables = three_rights([3, 1, 2]);
+    run(
+        &mut tables,
+        &[
+            (grant(12, 12, 50, 3), 0),
+            (openr(12, 50), 0),
+            (openw(12, 50), 0),
+            (openr(13, 50), 0),
+            (openw(13, 50), 0),
+            (openr(5, 50), 0),
+            (openr(5, 49), 0),
+            (revoke(12, 12, 50, 3), 0),
+        ],
+    );
+    let (object, inner) = (1 << 50, 1 << 49);
+    // The acting one has no other role.
+    assert_eq!(open(&tables, 12), [0, 1 << 48 | inner]);
+    assert_eq!(open(&tables, 13), [object, object]);
+    assert_eq!(open(&tables, 5), [object | inner, 0]);
+    // Read by 14 and write by 15 are left.
+    run(&mut tables, &[(revoke(12, 13, 50, 15), 0)]);
+    assert_eq!(open(&tables, 13), [object, object]);
+    // Of read alone; what is open for writing stays.
+    run(&mut tables, &[(revoke(12, 14, 50, 1), 0)]);
+    assert_eq!(open(&tables, 13), [0, object]);
+    assert_eq!(open(&tables, 5), [inner, 0]);
+    // Nothing is taken away.
+    run(&mut tables, &[(revoke(12, 14, 50, 3), 0)]);
+    assert_eq!(open(&tables, 13), [0, object]);
+    run(
+        &mut tables,
+        &[
+            (revoke(12, 15, 50, 2), 0),
+            (grant(12, 15, 50, 3), 0),
+            (close(13, 50), 16),
+            (close(5, 50), 16),
+            (openr(5, 50), 0),
+        ],
+    );
+}
+
+#[test]
+fn unmake_ends_opens_at_every_level() {
+    let mut tables = three_rights([3, 1, 0b1100]);
+    run(
+        &mut tables,
+        &[
+            (openr(13, 50), 0),
+            (openw(13, 50), 0),
+            (openr(5, 50), 0),
+            (openr(5, 48), 0),
+            (drop(5, 14), 0),
+            (unmake(12, 15), 0),
+        ],
+    );
+    let (root, object) = (1 << 48, 1 << 50);
+    assert_eq!(open(&tables, 13), [object, object]);
+    assert_eq!(open(&tables, 5), [root | object, 0]);
+    let acting = open(&tables, 12);
+    run(&mut tables, &[(unmake(12, 13), 0)]);
+    assert_eq!(open(&tables, 13), [object, 0]);
+    assert_eq!(open(&tables, 5), [root, 0]);
+    assert_eq!(open(&tables, 12), acting);
+    // Made again, listed, granted and taken, it brings nothing back.
+    run(
+        &mut tables,
+        &[
+            (make(12, 13), 0),
+            (list(12, 13, 0), 0),
+            (grant(12, 13, 50, 3), 0),
+            (take(5, 13), 0),
+            (take(13, 13), 0),
+            (close(5, 50), 16),
+            (openw(13, 50), 0),
+            (openr(5, 50), 0),
+        ],
+    );
+}
+
+#[test]
+fn what_ends_no_open() {
+    let mut tables = three_rights([3, 8, 3]);
+    run(
+        &mut tables,
+        &[
+            (grant(12, 12, 50, 7), 0),
+            (openr(13, 50), 0),
+            (openw(13, 50), 0),
+            (openw(13, 49), 0),
+            (openr(5, 50), 0),
+            (drop(13, 12), 0),
+            (drop(13, 15), 0),
+        ],
+    );
+    let object = 1 << 50;
+    assert_eq!(open(&tables, 13), [object, object]);
+    let all: Vec<_> = tables
+        .seats
+        .iter()
+        .map(|s| (s.reading, s.writing))
+        .collect();
+    for (request, answer) in [
+        // Execute and own, also where the object is no longer reached by it.
+        (revoke(12, 12, 50, 12), 0),
+        (grant(13, 12, 50, 8), 0),
+        (revoke(12, 12, 49, 4), 0),
+        (revoke(12, 12, 48, 4), 0),
+        (openr(5, 50), 13),
+        (revoke(12, 14, 50, 8), 0),
+        // Refused.
+        (revoke(13, 13, 50, 3), 13),
+        (revoke(5, 13, 50, 3), 10),
+        (revoke(14, 13, 50, 3), 5),
+        (revoke(12, 13, 50, 16), 2),
+        (unmake(13, 13), 12),
+        (unmake(5, 13), 10),
+        (unmake(12, 12), 6),
+        (drop(13, 12), 16),
+        // The holding and the open stay without the listing.
+        (unlist(12, 13, 0), 0),
+        (list(12, 13, 0), 0),
+        (take(13, 15), 0),
+        (grant(12, 14, 50, 1), 0),
+        (share(12, 49, 1), 0),
+        (unmake(12, 14), 0),
+        (make(12, 14), 0),
+    ] {
+        run(&mut tables, &[(request, answer)]);
+        let now: Vec<_> = tables
+            .seats
+            .iter()
+            .map(|s| (s.reading, s.writing))
+            .collect();
+        assert_eq!(now, all, "{request:?}");
     }
 }

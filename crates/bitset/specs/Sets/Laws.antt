@@ -9,7 +9,7 @@
 --     join-none, minus-all, minus-zero-l, without-none          against 0
 --     contains-has, has-contains, contains-all                  containment by mask is containment of sets
 --     contains-refl, contains-trans, contains-antisym, contains-le, contains-zero, contains-in-zero
--- The laws of `from` are in Shift. Assumes nothing.
+-- The laws of `from` are in Shift, those of `keeping` in Keeping. Assumes nothing.
 use Prim.Native.Nat.{ℕ, zero, suc, _+_, _/_, _%_, _^_, _≤_, _<_}
 use mathlib.Core.Bool.{Bool, true, false, not, _&&_, _||_, cond, and-true, and-false, or-true, or-false, and-not-self, and-self-left, and-eq-true-iff}
 use mathlib.Core.Path.{_≡_, refl, sym, ap, _∙_}

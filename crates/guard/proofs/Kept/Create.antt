@@ -1,8 +1,8 @@
--- Soundness is kept where an entity is made at a dead number, in a live container of its level, and one role gains own on
+-- Tables stay formed where an entity is made at a dead number, in a live container of its level, and one role gains own on
 -- it: create.
 --     new-chain               the new entity's chain ends at the root: no ancestor of its parent is dead, so their line stays,
 --                             and it ends one step earlier
---     made-sound              the edit
+--     made-formed              the edit
 --     keeps-create            the rule
 -- Assumes nothing.
 use Prim.Native.Nat.{ℕ, zero, suc, _<_}
@@ -18,7 +18,7 @@ use Rattle.bitset.specs.Tests.Laws.{decide, clash, of-not-false, every-i, every
 use Rattle.guard.specs.Level.{roleLevel, entityLevel, isRoot}
 use Rattle.guard.specs.Tables.{noEntity, entityAt}
 use Rattle.guard.specs.Chain.{climbs, parentOf}
-use Rattle.guard.specs.Sound.{entityInRangeIn, isRootRecord, isMarkAllowed, soundIn}
+use Rattle.guard.specs.Sound.{entityInRangeIn, isRootRecord, isMarkAllowed}
 use Rattle.guard.specs.Edits.{withEntities, atEntity, setRights, addRights}
 use Rattle.guard.specs.Conditions.{createOutOfLevel}
 use Rattle.guard.specs.Requests.{fieldInRangeIn, created, create}
@@ -26,13 +26,13 @@ use Rattle.guard.specs.declared.Entity.{Entity}
 use Rattle.guard.specs.declared.Tables.{Tables}
 use Rattle.guard.proofs.Laws.Refusals.{unmet}
 use Rattle.guard.proofs.Laws.Chain.{ancestor, ancestor-same, Ends, ends-somewhere, ends-within}
-use Rattle.guard.proofs.Laws.Sound.{entityIn, parentIn, grantable, fitsIn, OwnName, Sound, sound-e}
+use Rattle.guard.proofs.Laws.Sound.{entityIn, parentIn, grantable, fitsIn, OwnName, Formed, formed-e}
 use Rattle.guard.proofs.Kept.Sessions.{Keeps, not-below}
 use Rattle.guard.proofs.Kept.Roles.{granted-ok, role-kept}
 use Rattle.guard.proofs.Kept.Entities.{Kin, parent-kin, kin, others-stay, dead-unused, entity-kept}
 use Rattle.guard.proofs.Kept.Rename.{free-name}
 
-module _ {width : ℕ} (t : Tables) (ok : Sound width t) (e : ℕ) (n : Entity) (l : e < 64) (dead : entityAt t e .live ≡ false) where
+module _ {width : ℕ} (t : Tables) (ok : Formed width t) (e : ℕ) (n : Entity) (l : e < 64) (dead : entityAt t e .live ≡ false) where
   -- what is live is not e
   not-new : (f : ℕ) → entityAt t f .live ≡ true → f ≡ e → ⊥
   not-new f live same = clash (entityAt t e .live) (ap (λ (a : ℕ). entityAt t a .live) (sym same) ∙ live) dead
@@ -67,15 +67,14 @@ module _ {width : ℕ} (t : Tables) (ok : Sound width t) (e : ℕ) (n : Entity) 
         go (inl root) = by (0, omega arith, root)
         go (inr other) = by (ends-somewhere (parentOf t) _ 16 (n .parent) (ok .entity (n .parent) below .placed live other .inside .chain))
 
-pub made-sound : (width : ℕ) (t : Tables) (e : ℕ) (n : Entity) → soundIn width t ≡ true → e < 64 → entityAt t e .live ≡ false → n .live ≡ true
+pub made-formed : (width : ℕ) (t : Tables) (e : ℕ) (n : Entity) → Formed width t → e < 64 → entityAt t e .live ≡ false → n .live ≡ true
     → entityInRangeIn width n ≡ true → isMarkAllowed n ≡ true → leb 1 (n .name) ≡ true → fitsIn e n (entityAt t (n .parent)) ≡ true
     → OwnName (t .entities) e n
-    → soundIn width (withEntities t (set (t .entities) e n)) ≡ true
+    → Formed width (withEntities t (set (t .entities) e n))
 unfolding entityInRangeIn isRootRecord
-made-sound width t e n h l dead live range mark name fits free =
-    let ok = sound-e t h in
+made-formed width t e n ok l dead live range mark name fits free =
     let alive = every-at _ fits 0 in
-    entity-kept t e n h (inr (dead-unused t ok e l dead))
+    entity-kept t e n ok (inr (dead-unused t ok e l dead))
     (λ f k up s. others-stay t e n _ (not-new t ok e n l dead _ (parent-kin t ok f k up .live)))
     (record {
       range = range;
@@ -101,11 +100,11 @@ keeps-create t q d =
     let level = eqb-true (entityLevel (q .entity)) (entityLevel (q .parent)) (of-not-false _ (either-no-l _ _ (no 10))) in
     let fits : fitsIn (q .entity) (created q) (entityAt t (q .parent)) ≡ true =
     every-i _ (of-not-false _ (either-no-l _ _ (no 7)), (of-not-false _ (no 9), (eq-eqb _ _ (sym level), (of-not-false _ (no 11), tt)))) in
-    let made = made-sound _ t (q .entity) (created q) (d .isSound) l (no 8) refl
+    let made = made-formed _ t (q .entity) (created q) (formed-e t (d .isSound)) l (no 8) refl
     (every-i _ (range 2, (range 3, (every-at _ (range 4) 1, (range 5, (refl, tt)))))) (implies-i _ _ (λ object. refl)) (every-at _ (range 4) 0) fits
     (λ f k ne. free-name t q _ (no 14) f k) in
     let can : grantable (q .role) (q .entity) (created q) ≡ true =
     every-i _ (refl, (not-below (roleLevel (q .role)) (entityLevel (q .entity)) (either-no-r _ _ (no 10)), tt)) in
-    let at = at-new t (sound-e t (d .isSound)) (q .entity) (created q) l (no 8) in
+    let at = at-new t (formed-e t (d .isSound)) (q .entity) (created q) l (no 8) in
     role-kept _ (atEntity (q .entity) (λ old. created q) t) (q .role) _ made (λ s k m live. live) (λ k old.
     granted-ok _ _ _ old (q .entity) _ (of-not-false _ (either-no-r _ _ (no 7))) l (ap (λ (a : Entity). grantable (q .role) (q .entity) a) at ∙ can))

@@ -1,7 +1,7 @@
--- Soundness is kept where an entity without children is emptied, and all rights on it and opens of it go: delete.
+-- Tables stay formed where an entity without children is emptied, and all rights on it and opens of it go: delete.
 --     barren                              an entity without children that is no root is no live entity's parent
---     emptied-sound                       the edit, of an entity that nobody uses
---     cleared-sound, cleared-unused       what makes it so
+--     emptied-formed                       the edit, of an entity that nobody uses
+--     cleared-formed, cleared-unused       what makes it so
 --     keeps-delete                        the rule
 -- Assumes nothing.
 use Prim.Native.Nat.{ℕ, _<_}
@@ -18,7 +18,7 @@ use Rattle.guard.specs.Level.{isRoot}
 use Rattle.guard.specs.Label.{sameLabel}
 use Rattle.guard.specs.Tables.{noSession, noRole, noEntity, entityAt, rightsOf, isChild}
 use Rattle.guard.specs.Chain.{parentOf}
-use Rattle.guard.specs.Sound.{entityInRangeIn, isMarkAllowed, isEmptyEntity, soundIn}
+use Rattle.guard.specs.Sound.{entityInRangeIn, isMarkAllowed, isEmptyEntity}
 use Rattle.guard.specs.Edits.{withEntities, atEntity, eachSession, eachRole, closeBoth, setRights, clearRights}
 use Rattle.guard.specs.Conditions.{hasChildren}
 use Rattle.guard.specs.Requests.{fieldInRangeIn, delete}
@@ -27,7 +27,7 @@ use Rattle.guard.specs.declared.Request.{Request}
 use Rattle.guard.proofs.Laws.Label.{none-in-range as label-in-range}
 use Rattle.guard.proofs.Laws.Refusals.{unmet}
 use Rattle.guard.proofs.Laws.Rights.{rights-cleared}
-use Rattle.guard.proofs.Laws.Sound.{Sound, sound-e}
+use Rattle.guard.proofs.Laws.Sound.{Formed, formed-e}
 use Rattle.guard.proofs.Kept.EachStays.{map-each}
 use Rattle.guard.proofs.Kept.Sessions.{Keeps, closed-ok, each-session-kept}
 use Rattle.guard.proofs.Kept.Roles.{fewer-ok, each-role-kept}
@@ -41,7 +41,7 @@ none-empty : isEmptyEntity noEntity ≡ true
 unfolding isEmptyEntity sameLabel every
 none-empty = refl
 
-barren : {width : ℕ} (t : Tables) (q : Request) → Sound width t → isRoot (q .entity) ≡ false → hasChildren t q ≡ false
+barren : {width : ℕ} (t : Tables) (q : Request) → Formed width t → isRoot (q .entity) ≡ false → hasChildren t q ≡ false
     → (f : ℕ) → f < 64 → entityAt t f .live ≡ true → parentOf t f ≡ q .entity → ⊥
 unfolding hasChildren isChild
 barren t q ok other none f l live parent = go (decide (isRoot f))
@@ -52,11 +52,11 @@ barren t q ok other none f l live parent = go (decide (isRoot f))
         clash _ (every-i _ (live, (not-of-false _ inner, (eq-eqb _ _ parent, tt)))) (some-no-e 64 _ none f l)
 
 -- nobody has the entity open, nobody has rights on it, and it is no live entity's parent
-pub emptied-sound : (width : ℕ) (t : Tables) (e : ℕ) → soundIn width t ≡ true → isRoot e ≡ false → Unused t e
+pub emptied-formed : (width : ℕ) (t : Tables) (e : ℕ) → Formed width t → isRoot e ≡ false → Unused t e
     → ((f : ℕ) → f < 64 → entityAt t f .live ≡ true → parentOf t f ≡ e → ⊥)
-    → soundIn width (withEntities t (set (t .entities) e noEntity)) ≡ true
+    → Formed width (withEntities t (set (t .entities) e noEntity))
 unfolding isMarkAllowed
-emptied-sound width t e h other unused none =
+emptied-formed width t e h other unused none =
     entity-kept t e noEntity h (inr unused) (λ f l live s. others-stay t e noEntity _ (none f l live))
     (record {
       range = none-in-range width;
@@ -67,15 +67,15 @@ emptied-sound width t e h other unused none =
     })
 
 -- each session closes e, and each role has no rights on it
-module _ (width : ℕ) (t : Tables) (e : ℕ) (h : soundIn width t ≡ true) (l : e < 64) where
+module _ (width : ℕ) (t : Tables) (e : ℕ) (ok : Formed width t) (l : e < 64) where
   abbrev cleared : Tables
   cleared = eachRole (clearRights e) (eachSession (closeBoth e) t)
 
-  cleared-sound : soundIn width cleared ≡ true
+  cleared-formed : Formed width cleared
   unfolding clearRights setRights
-  cleared-sound =
+  cleared-formed =
       each-role-kept _ (eachSession (closeBoth e) t) (clearRights e)
-      (each-session-kept t (closeBoth e) h (λ s r ok. closed-ok _ _ _ _ ok e))
+      (each-session-kept t (closeBoth e) ok (λ s r old. closed-ok _ _ _ _ old e))
       (λ p. refl) (λ r p ok. fewer-ok _ _ _ ok e 0 (contains-zero _))
 
   cleared-unused : Unused cleared e
@@ -86,9 +86,6 @@ module _ (width : ℕ) (t : Tables) (e : ℕ) (h : soundIn width t ≡ true) (l 
         writing = map-each (λ s r. has (r .writing) e ≡ false) (closeBoth e) 16 (t .sessions) noSession (ok .manySessions) (λ s k. has-without-same _ e);
         rights = map-each (λ r p. rightsOf p e ≡ 0) (clearRights e) 16 (t .roles) noRole (ok .manyRoles) (λ r k. rights-cleared e _);
       }
-    where
-      ok : Sound width t
-      ok = sound-e t h
 
 -- clearing first and emptying then is the same as the rule's order
 pub keeps-delete : {width : ℕ} → Keeps width delete
@@ -96,5 +93,5 @@ unfolding delete atEntity eachRole eachSession fieldInRangeIn
 keeps-delete t q d =
     let no = unmet _ refl (d .none) in
     let l = ltb-true _ _ (every-at _ (d .ranges) 1) in
-    emptied-sound _ (cleared _ t (q .entity) (d .isSound) l) (q .entity) (cleared-sound _ t (q .entity) (d .isSound) l) (no 6)
-    (cleared-unused _ t (q .entity) (d .isSound) l) (barren t q (sound-e t (d .isSound)) (no 6) (no 15))
+    emptied-formed _ (cleared _ t (q .entity) (formed-e t (d .isSound)) l) (q .entity) (cleared-formed _ t (q .entity) (formed-e t (d .isSound)) l) (no 6)
+    (cleared-unused _ t (q .entity) (formed-e t (d .isSound)) l) (barren t q (formed-e t (d .isSound)) (no 6) (no 15))

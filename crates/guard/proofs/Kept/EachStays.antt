@@ -1,7 +1,7 @@
 -- What is said of each element of a list or each member of a set stays so: after a store, a map, or a change of the set.
---     set-each, map-each                          of each element of a list, after a store, and after a map
+--     set-each, map-each, tabulate-each           of each element of a list, after a store, after a map, and of a list made by numbers
 --     as-ok, seen-ok                              of each member of a set, after a change in what it names
---     none-ok, join-ok, with-ok, minus-ok, without-ok, put-ok   .. and after a change of the set
+--     none-ok, join-ok, with-ok, minus-ok, without-ok, put-ok, keeping-ok   .. and after a change of the set
 -- Assumes nothing.
 use Prim.Native.Nat.{ℕ, zero, suc, _^_, _<_}
 use mathlib.Core.Path.{_≡_, refl, sym, _∙_}
@@ -15,10 +15,13 @@ use native.Mathlib.Decide.{ℕ-discrete}
 use native.Mathlib.Omega.{arith}
 use borrow.Author.Tests.{eqb-true}
 use Rattle.bitset.specs.Tests.Laws.{decide, clash}
-use Rattle.bitset.specs.Sets.{has, join, minus, with, without}
+use Rattle.bitset.specs.Sets.{has, join, minus, with, without, keeping}
 use Rattle.bitset.specs.Sets.Laws.{has-join, has-minus, has-none, has-one, join-lt, minus-le}
+use Rattle.bitset.specs.Sets.Keeping.{has-keeping, keeping-le}
 use Rattle.guard.specs.Edits.{putIn}
+use Rattle.guard.specs.Fresh.{tabulate}
 use Rattle.guard.proofs.Laws.Sound.{SetOk}
+use Rattle.guard.proofs.Filling.{getD-tabulate}
 
 -- ---- lists
 module _ {A : Type 0} (P : ℕ → A → Type 0) (n : ℕ) (l : List A) (d : A) (long : length l ≡ n) where
@@ -38,6 +41,10 @@ getD-map f (x ∷ l) (suc i) d h = getD-map f l i d (omega arith)
 pub map-each : {A : Type 0} (P : ℕ → A → Type 0) (f : A → A) (n : ℕ) (l : List A) (d : A) → length l ≡ n
     → ((j : ℕ) → j < n → P j (f (getD l j d))) → (j : ℕ) → j < n → P j (getD (map f l) j d)
 map-each P f n l d long each j h = rw (getD-map f l j d (omega arith)) (each j h)
+
+pub tabulate-each : {A : Type 0} (P : ℕ → A → Type 0) (n : ℕ) (f : ℕ → A) (d : A) → ((j : ℕ) → j < n → P j (f j)) → (j : ℕ) → j < n
+    → P j (getD (tabulate n f) j d)
+tabulate-each P n f d each j h = rw (getD-tabulate f n j d h) (each j h)
 
 -- ---- sets
 -- the same set, where its members are asked for something else
@@ -91,3 +98,11 @@ module _ (w : ℕ) (live : Bool) (Q : ℕ → Bool) where
   unfolding putIn
   put-ok true i s ok new = new refl
   put-ok false i s ok new = without-ok s i ok
+
+  pub keeping-ok : (p : ℕ → Bool) (s : ℕ) → SetOk w live Q s → SetOk w live Q (keeping w p s)
+  keeping-ok p s ok =
+      record {
+        small = omega (arith, ok .small, keeping-le p s w);
+        none = λ d. omega (arith, ok .none d, keeping-le p s w);
+        members = λ i l e. ok .members i l (and-eq-true-iff (has s i) (p i) .0 (sym (has-keeping p s w i l) ∙ e) .0);
+      }

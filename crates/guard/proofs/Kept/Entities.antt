@@ -1,4 +1,4 @@
--- Soundness is kept where one entity is replaced, by what the edit leaves of it and of its line: either its being live, its kind,
+-- Tables stay formed where one entity is replaced, by what the edit leaves of it and of its line: either its being live, its kind,
 -- parent and label are kept, or nobody has it open or rights on it; every live entity's parent stays as it was; and
 -- where the new record is live, no other child of its parent has its name.
 --     shape, Stays, others-stay       what an entity's place rests on
@@ -22,13 +22,13 @@ use Rattle.bitset.specs.Sets.{has}
 use Rattle.guard.specs.Level.{entityLevel, isRoot}
 use Rattle.guard.specs.Tables.{noEntity, sessionAt, roleAt, entityAt, rightsOn}
 use Rattle.guard.specs.Chain.{parentOf}
-use Rattle.guard.specs.Sound.{entityInRangeIn, isRootRecord, isMarkAllowed, isEmptyEntity, soundIn}
+use Rattle.guard.specs.Sound.{entityInRangeIn, isRootRecord, isMarkAllowed, isEmptyEntity}
 use Rattle.guard.specs.Edits.{withEntities}
 use Rattle.guard.specs.declared.Entity.{Entity}
 use Rattle.guard.specs.declared.Tables.{Tables}
 use Rattle.guard.proofs.Laws.Chain.{ancestor, climbs-same}
 use Rattle.guard.proofs.Laws.Rights.{rights-none, rights-zero}
-use Rattle.guard.proofs.Laws.Sound.{entityIn, readable, writable, grantable, childOf, fitsIn, SetOk, SessionOk, RoleOk, OwnName, Inside, EntityOk, Sound, sound-e, sound-i}
+use Rattle.guard.proofs.Laws.Sound.{entityIn, readable, writable, grantable, childOf, fitsIn, SetOk, SessionOk, RoleOk, OwnName, Inside, EntityOk, Formed}
 use Rattle.guard.proofs.Kept.EachStays.{set-each, seen-ok}
 
 -- all of an entity but its name and its mark
@@ -48,7 +48,7 @@ pub record Kin (t : Tables) (f a : ℕ) : Type 0 where
   pub live : entityAt t a .live ≡ true
   pub level : entityLevel a ≡ entityLevel f
 
-module _ {width : ℕ} (t : Tables) (ok : Sound width t) where
+module _ {width : ℕ} (t : Tables) (ok : Formed width t) where
   pub root-parent : (f : ℕ) → f < 64 → isRoot f ≡ true → parentOf t f ≡ f
   unfolding isRootRecord
   root-parent f l root = eqb-true _ _ (every-at _ (ok .entity f l .root root) 4)
@@ -86,7 +86,7 @@ pub record New (width : ℕ) (t : Tables) (e : ℕ) (n : Entity) : Type 0 where
   pub placed : n .live ≡ true → isRoot e ≡ false → (leb 1 (n .name) ≡ true) × Inside (set (t .entities) e n) e n × OwnName (t .entities) e n
 
 -- ---- the entities, with n at e
-module _ {width : ℕ} (t : Tables) (ok : Sound width t) (e : ℕ) (n : Entity)
+module _ {width : ℕ} (t : Tables) (ok : Formed width t) (e : ℕ) (n : Entity)
     (stay : (f : ℕ) → f < 64 → entityAt t f .live ≡ true → Stays t e n f → Stays t e n (parentOf t f)) where
   pub inside-kept : (f : ℕ) → f < 64 → entityAt t f .live ≡ true → Stays t e n f → Inside (t .entities) f (entityAt t f)
       → (n′ : Entity) → shape n′ ≡ shape (entityAt t f) → Inside (set (t .entities) e n) f n′
@@ -156,7 +156,7 @@ pub record Unused (t : Tables) (e : ℕ) : Type 0 where
   pub writing : (s : ℕ) → s < 16 → has (sessionAt t s .writing) e ≡ false
   pub rights : (r : ℕ) → r < 16 → rightsOn t r e ≡ 0
 
-pub dead-unused : {width : ℕ} (t : Tables) → Sound width t → (e : ℕ) → e < 64 → entityAt t e .live ≡ false → Unused t e
+pub dead-unused : {width : ℕ} (t : Tables) → Formed width t → (e : ℕ) → e < 64 → entityAt t e .live ≡ false → Unused t e
 dead-unused t ok e l dead =
     record {
       reading = λ s k. is-false _ (λ m. clash _ (every-at _ (ok .session s k .reading .members e l m) 0) dead);
@@ -168,13 +168,12 @@ dead-unused t ok e l dead =
           rights-none _ e (out _ (role .reads)) (out _ (role .writes)) (out _ (role .executes)) (out _ (role .owns));
     }
 
-pub entity-kept : {width : ℕ} (t : Tables) (e : ℕ) (n : Entity) → soundIn width t ≡ true
+pub entity-kept : {width : ℕ} (t : Tables) (e : ℕ) (n : Entity) → Formed width t
     → (shape n ≡ shape (entityAt t e)) ⊎ Unused t e
     → ((f : ℕ) → f < 64 → entityAt t f .live ≡ true → Stays t e n f → Stays t e n (parentOf t f)) → New width t e n
-    → soundIn width (withEntities t (set (t .entities) e n)) ≡ true
-entity-kept {width} t e n h way stay new =
-    sound-i _
-    (record {
+    → Formed width (withEntities t (set (t .entities) e n))
+entity-kept {width} t e n ok way stay new =
+    record {
       edition = ok .edition;
       users = ok .users;
       manySessions = ok .manySessions;
@@ -183,11 +182,8 @@ entity-kept {width} t e n h way stay new =
       session = session;
       role = role;
       entity = entities-kept t ok e n stay new;
-    })
+    }
   where
-    ok : Sound width t
-    ok = sound-e t h
-
     -- what was asked of the old record where it was used is so of the new one
     kept : (P : Entity → Bool) (uses : Bool) → (Unused t e → uses ≡ false) → (shape n ≡ shape (entityAt t e)) ⊎ Unused t e
         → uses ≡ true → P (shape (entityAt t e)) ≡ true → P (shape n) ≡ true
@@ -227,12 +223,12 @@ entity-kept {width} t e n h way stay new =
         }
 
 -- ---- the shape stays
-pub same-shape-kept : (width : ℕ) (t : Tables) (e : ℕ) (n : Entity) → soundIn width t ≡ true → e < 64 → shape n ≡ shape (entityAt t e)
+pub same-shape-kept : (width : ℕ) (t : Tables) (e : ℕ) (n : Entity) → Formed width t → e < 64 → shape n ≡ shape (entityAt t e)
     → entityAt t e .live ≡ true → entityInRangeIn width n ≡ true → (isRoot e ≡ true → isRootRecord e n ≡ true) → isMarkAllowed n ≡ true
     → (isRoot e ≡ false → (leb 1 (n .name) ≡ true) × OwnName (t .entities) e n)
-    → soundIn width (withEntities t (set (t .entities) e n)) ≡ true
-same-shape-kept width t e n h l same live range root mark named =
-    entity-kept t e n h (inl same) stay
+    → Formed width (withEntities t (set (t .entities) e n))
+same-shape-kept width t e n ok l same live range root mark named =
+    entity-kept t e n ok (inl same) stay
     (record {
       range = range;
       root = root;
@@ -243,9 +239,6 @@ same-shape-kept width t e n h l same live range root mark named =
           (named other .0, inside-kept t ok e n stay e l live (stays e l) old n same, named other .1);
     })
   where
-    ok : Sound width t
-    ok = sound-e t h
-
     stays : (f : ℕ) → f < 64 → Stays t e n f
     stays = set-each (λ f a. shape a ≡ shape (entityAt t f)) 64 (t .entities) noEntity (ok .manyEntities) e n (λ f k ne. refl) (λ k. same)
 

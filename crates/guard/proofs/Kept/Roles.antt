@@ -1,9 +1,9 @@
--- Soundness is kept where one role is replaced: grant, revoke, list, unlist, make; and where every session drops a role
+-- Tables stay formed where one role is replaced: grant, revoke, list, unlist, make; and where every session drops a role
 -- that is then emptied: unmake.
 --     listed-ok, empty-ok                     a role with other users listed, or with nothing
 --     granted-ok, fewer-ok                    .. with other rights on one entity: any that it may have, or none that it has not
 --     role-kept, each-role-kept               the edits, of one role and of each
---     keeps-grant .. keeps-unmake             the rules
+--     keeps-grant .. keeps-unmake             the rules; revoked-formed and unmade-formed before opens end
 -- Assumes nothing.
 use Prim.Native.Nat.{ℕ, _<_}
 use mathlib.Core.Path.{_≡_, refl, sym, _∙_}
@@ -16,18 +16,19 @@ use Rattle.bitset.specs.Sets.{has, minus, contains, with}
 use Rattle.bitset.specs.Sets.Laws.{has-minus, has-without-same, has-contains, contains-trans}
 use Rattle.guard.specs.Level.{roleLevel, entityLevel, isKeeper}
 use Rattle.guard.specs.Tables.{noSession, noRole, sessionAt, roleAt, entityAt, rightsOf}
-use Rattle.guard.specs.Sound.{soundIn}
 use Rattle.guard.specs.Edits.{withRoles, atRole, eachRole, eachSession, dropRole, listing, putIn, granting, setRights, addRights, removeRights, listUser, unlistUser}
 use Rattle.guard.specs.Conditions.{grantBelow}
 use Rattle.guard.specs.Requests.{fieldInRangeIn, grant, revoke, list, unlist, make, unmake}
 use Rattle.guard.specs.declared.Role.{Role}
 use Rattle.guard.specs.declared.Entity.{Entity}
 use Rattle.guard.specs.declared.Tables.{Tables}
+use Rattle.guard.specs.declared.Request.{Request}
 use Rattle.guard.proofs.Laws.Refusals.{unmet}
+use Rattle.guard.proofs.Laws.Step.{DoneIn}
 use Rattle.guard.proofs.Laws.Rights.{contains-read, contains-write, contains-execute, contains-own, put-same}
-use Rattle.guard.proofs.Laws.Sound.{roleIn, entityIn, grantable, SetOk, RoleOk, Sound, sound-e, sound-i}
+use Rattle.guard.proofs.Laws.Sound.{roleIn, entityIn, grantable, SetOk, RoleOk, Formed, formed-e}
 use Rattle.guard.proofs.Kept.EachStays.{set-each, map-each, as-ok, seen-ok, none-ok, with-ok, without-ok, put-ok}
-use Rattle.guard.proofs.Kept.Sessions.{Keeps, not-below, dropped-ok, each-session-kept}
+use Rattle.guard.proofs.Kept.Sessions.{Keeps, not-below, dropped-ok, each-session-kept, ended-kept}
 
 -- ---- a set with a member that it has, and one less some members
 with-same : (s e : ℕ) → has s e ≡ true → with s e ≡ s
@@ -82,12 +83,11 @@ empty-ok es r live keeper =
     }
 
 -- ---- the roles replaced
-roles-kept : {width : ℕ} (t : Tables) (roles : List Role) → Sound width t → length roles ≡ 16
+roles-kept : {width : ℕ} (t : Tables) (roles : List Role) → Formed width t → length roles ≡ 16
     → ((s : ℕ) → s < 16 → SetOk 16 (sessionAt t s .live) (λ p. roleIn roles p .live) (sessionAt t s .roles))
-    → ((r : ℕ) → r < 16 → RoleOk (t .entities) r (roleIn roles r)) → soundIn width (withRoles t roles) ≡ true
+    → ((r : ℕ) → r < 16 → RoleOk (t .entities) r (roleIn roles r)) → Formed width (withRoles t roles)
 roles-kept t roles ok many held new =
-    sound-i _
-    (record {
+    record {
       edition = ok .edition;
       users = ok .users;
       manySessions = ok .manySessions;
@@ -98,27 +98,25 @@ roles-kept t roles ok many held new =
           record { user = old .user; label = old .label; empty = old .empty; held = held s l; reading = old .reading; writing = old .writing };
       role = new;
       entity = ok .entity;
-    })
+    }
 
 -- a role that somebody holds stays live
-pub role-kept : (width : ℕ) (t : Tables) (r : ℕ) (f : Role → Role) → soundIn width t ≡ true
+pub role-kept : (width : ℕ) (t : Tables) (r : ℕ) (f : Role → Role) → Formed width t
     → ((s : ℕ) → s < 16 → has (sessionAt t s .roles) r ≡ true → roleAt t r .live ≡ true → f (roleAt t r) .live ≡ true)
     → (r < 16 → RoleOk (t .entities) r (roleAt t r) → RoleOk (t .entities) r (f (roleAt t r)))
-    → soundIn width (atRole r f t) ≡ true
+    → Formed width (atRole r f t)
 unfolding atRole
-role-kept width t r f h stays new =
-    let ok = sound-e t h in
+role-kept width t r f ok stays new =
     roles-kept t _ ok (length-set (t .roles) r _ ∙ ok .manyRoles)
     (λ s l. seen-ok 16 _ (λ j a. a .live) _ (t .roles) _ r _ (ok .manyRoles) (ok .session s l .held) (stays s l))
     (set-each (RoleOk (t .entities)) 16 (t .roles) _ (ok .manyRoles) r _ (λ j l ne. ok .role j l) (λ l. new l (ok .role r l)))
 
-pub each-role-kept : (width : ℕ) (t : Tables) (f : Role → Role) → soundIn width t ≡ true
+pub each-role-kept : (width : ℕ) (t : Tables) (f : Role → Role) → Formed width t
     → ((p : Role) → f p .live ≡ p .live)
     → ((r : ℕ) (p : Role) → RoleOk (t .entities) r p → RoleOk (t .entities) r (f p))
-    → soundIn width (eachRole f t) ≡ true
+    → Formed width (eachRole f t)
 unfolding eachRole
-each-role-kept width t f h live new =
-    let ok = sound-e t h in
+each-role-kept width t f ok live new =
     roles-kept t _ ok (length-map (t .roles) f ∙ ok .manyRoles)
     (λ s l. as-ok 16 _ _ _ _ (ok .session s l .held)
     (map-each (λ j a. has (sessionAt t s .roles) j ≡ true → roleAt t j .live ≡ true → a .live ≡ true) f 16 (t .roles) _ (ok .manyRoles)
@@ -133,43 +131,53 @@ keeps-grant t q d =
     let level = not-below (roleLevel (q .role)) (entityLevel (q .entity)) (either-no-r _ _ (no 10)) in
     let can : grantable (q .role) (q .entity) (entityAt t (q .entity)) ≡ true =
     every-i _ (of-not-false _ (either-no-l _ _ (no 7)), (level, tt)) in
-    role-kept _ t (q .role) _ (d .isSound) (λ s l m live. live) (λ l old.
+    role-kept _ t (q .role) _ (formed-e t (d .isSound)) (λ s l m live. live) (λ l old.
     granted-ok _ _ _ old (q .entity) _ (of-not-false _ (either-no-r _ _ (no 7))) (ltb-true _ _ (every-at _ (d .ranges) 2)) can)
 
-pub keeps-revoke : {width : ℕ} → Keeps width revoke
-unfolding revoke removeRights setRights
-keeps-revoke t q d =
-    role-kept _ t (q .role) _ (d .isSound) (λ s l m live. live)
+-- before opens end
+pub revoked-formed : {width : ℕ} (t : Tables) (q : Request) → DoneIn width revoke t q → Formed width (atRole (q .role) (removeRights (q .entity) (q .rights)) t)
+unfolding removeRights setRights
+revoked-formed t q d =
+    role-kept _ t (q .role) _ (formed-e t (d .isSound)) (λ s l m live. live)
     (λ l old. fewer-ok _ _ _ old (q .entity) _ (contains-minus _ (q .rights)))
+
+pub keeps-revoke : {width : ℕ} → Keeps width revoke
+unfolding revoke
+keeps-revoke t q d = ended-kept _ (revoked-formed t q d)
 
 pub keeps-list : {width : ℕ} → Keeps width list
 unfolding list listUser fieldInRangeIn
 keeps-list t q d =
-    role-kept _ t (q .role) _ (d .isSound) (λ s l m live. live) (λ l old.
+    role-kept _ t (q .role) _ (formed-e t (d .isSound)) (λ s l m live. live) (λ l old.
     listed-ok _ _ _ old _
     (with-ok _ _ _ _ (q .user) (old .users) (of-not-false _ (unmet _ refl (d .none) 7)) (ltb-true _ _ (every-at _ (d .ranges) 2)) refl))
 
 pub keeps-unlist : {width : ℕ} → Keeps width unlist
 unfolding unlist unlistUser
 keeps-unlist t q d =
-    role-kept _ t (q .role) _ (d .isSound) (λ s l m live. live)
+    role-kept _ t (q .role) _ (formed-e t (d .isSound)) (λ s l m live. live)
     (λ l old. listed-ok _ _ _ old _ (without-ok _ _ _ _ (q .user) (old .users)))
 
 pub keeps-make : {width : ℕ} → Keeps width make
 unfolding make
 keeps-make t q d =
-    role-kept _ t (q .role) _ (d .isSound) (λ s l m live. refl) (λ l old. empty-ok _ _ true (λ k. refl))
+    role-kept _ t (q .role) _ (formed-e t (d .isSound)) (λ s l m live. refl) (λ l old. empty-ok _ _ true (λ k. refl))
 
 -- every session drops the role, and it is emptied then
-pub keeps-unmake : {width : ℕ} → Keeps width unmake
+pub unmade-formed : {width : ℕ} (t : Tables) (q : Request) → DoneIn width unmake t q
+    → Formed width (eachSession (dropRole (q .role)) (atRole (q .role) (λ old. noRole) t))
 unfolding unmake eachSession atRole dropRole
-keeps-unmake t q d =
-    let dropped = each-session-kept t (dropRole (q .role)) (d .isSound) (λ s r ok. dropped-ok _ _ _ _ ok (q .role)) in
+unmade-formed t q d =
+    let dropped = each-session-kept t (dropRole (q .role)) (formed-e t (d .isSound)) (λ s r ok. dropped-ok _ _ _ _ ok (q .role)) in
     role-kept _ (eachSession (dropRole (q .role)) t) (q .role) (λ old. noRole) dropped
     (λ s l m live. absurd (clash _ m (none s l)))
     (λ l old. empty-ok _ _ false (λ k. absurd (clash _ k (unmet _ refl (d .none) 6))))
   where
     none : (s : ℕ) → s < 16 → has (getD (map (dropRole (q .role)) (t .sessions)) s noSession .roles) (q .role) ≡ false
     none =
-        map-each (λ s a. has (a .roles) (q .role) ≡ false) (dropRole (q .role)) 16 (t .sessions) noSession (sound-e t (d .isSound) .manySessions)
+        map-each (λ s a. has (a .roles) (q .role) ≡ false) (dropRole (q .role)) 16 (t .sessions) noSession (formed-e t (d .isSound) .manySessions)
         (λ s l. has-without-same _ (q .role))
+
+pub keeps-unmake : {width : ℕ} → Keeps width unmake
+unfolding unmake
+keeps-unmake t q d = ended-kept _ (unmade-formed t q d)

@@ -1,8 +1,9 @@
--- Soundness is kept where one session is replaced: login, logout, take, drop, openr, openw, close.
---     Keeps                                   a rule that hands back sound tables where it is done
+-- Tables stay formed where sessions are replaced: login, logout, take, drop, openr, openw, close; and where opens end.
+--     Keeps                                   a rule that hands back formed tables where it is done
 --     held-ok, open-ok                        a session with other roles held, or other entities open
 --     dropped-ok, closed-ok                   .. with one less of them
 --     session-kept, each-session-kept         the edits, of one session and of each
+--     ended-kept                              .. and the end of the opens that are no longer backed
 --     keeps-login .. keeps-close              the rules
 -- Assumes nothing.
 use Prim.Native.Nat.{ℕ, _<_}
@@ -18,8 +19,8 @@ use Rattle.bitset.specs.Tests.Laws.{is-false, clash, of-not-false, every-i, eve
 use Rattle.guard.specs.Level.{sessionLevel, entityLevel}
 use Rattle.guard.specs.Label.{labelInRangeIn, sameLabel, noLabel}
 use Rattle.guard.specs.Tables.{noSession, sessionAt}
-use Rattle.guard.specs.Sound.{soundIn}
 use Rattle.guard.specs.Edits.{withSessions, atSession, eachSession, holding, opening, takeRole, dropRole, openReading, openWriting, closeBoth}
+use Rattle.guard.specs.Backed.{backed, endUnbacked}
 use Rattle.guard.specs.Conditions.{labelAsked}
 use Rattle.guard.specs.Requests.{Rule, fieldInRangeIn, loggedIn, login, logout, take, drop, openr, openw, close}
 use Rattle.guard.specs.declared.Label.{Label}
@@ -31,11 +32,12 @@ use Rattle.guard.specs.declared.Request.{Request}
 use Rattle.guard.proofs.Laws.Label.{none-in-range}
 use Rattle.guard.proofs.Laws.Refusals.{unmet}
 use Rattle.guard.proofs.Laws.Step.{DoneIn}
-use Rattle.guard.proofs.Laws.Sound.{roleIn, entityIn, readable, writable, SetOk, SessionOk, Sound, sound-e, sound-i}
-use Rattle.guard.proofs.Kept.EachStays.{set-each, map-each, none-ok, with-ok, without-ok}
+use Rattle.guard.proofs.Filling.{length-tabulate}
+use Rattle.guard.proofs.Laws.Sound.{roleIn, entityIn, readable, writable, SetOk, SessionOk, Formed, formed-e}
+use Rattle.guard.proofs.Kept.EachStays.{set-each, map-each, tabulate-each, none-ok, with-ok, without-ok, keeping-ok}
 
 abbrev pub Keeps : ℕ → Rule → Type 0
-Keeps width rule = (t : Tables) (q : Request) → DoneIn width rule t q → soundIn width (rule .effect q t) ≡ true
+Keeps width rule = (t : Tables) (q : Request) → DoneIn width rule t q → Formed width (rule .effect q t)
 
 -- ---- one session, over the roles and entities of the tables
 module _ {width edition : ℕ} (roles : List Role) (es : List Entity) (s : ℕ) (r : Session) (ok : SessionOk width edition roles es s r) where
@@ -64,11 +66,10 @@ nothing-ok roles es s live user label small range empty =
     record { user = small; label = range; empty = empty; held = none-ok _ _ _; reading = none-ok _ _ _; writing = none-ok _ _ _ }
 
 -- ---- the sessions replaced
-sessions-kept : {width : ℕ} (t : Tables) (sessions : List Session) → Sound width t → length sessions ≡ 16
-    → ((s : ℕ) → s < 16 → SessionOk width (t .edition) (t .roles) (t .entities) s (getD sessions s noSession)) → soundIn width (withSessions t sessions) ≡ true
+sessions-kept : {width : ℕ} (t : Tables) (sessions : List Session) → Formed width t → length sessions ≡ 16
+    → ((s : ℕ) → s < 16 → SessionOk width (t .edition) (t .roles) (t .entities) s (getD sessions s noSession)) → Formed width (withSessions t sessions)
 sessions-kept t sessions ok many new =
-    sound-i _
-    (record {
+    record {
       edition = ok .edition;
       users = ok .users;
       manySessions = many;
@@ -77,26 +78,32 @@ sessions-kept t sessions ok many new =
       session = new;
       role = ok .role;
       entity = ok .entity;
-    })
+    }
 
-pub session-kept : {width : ℕ} (t : Tables) (x : ℕ) (f : Session → Session) → soundIn width t ≡ true
+pub session-kept : {width : ℕ} (t : Tables) (x : ℕ) (f : Session → Session) → Formed width t
     → (x < 16 → SessionOk width (t .edition) (t .roles) (t .entities) x (sessionAt t x) → SessionOk width (t .edition) (t .roles) (t .entities) x (f (sessionAt t x)))
-    → soundIn width (atSession x f t) ≡ true
+    → Formed width (atSession x f t)
 unfolding atSession
-session-kept {width} t x f h new =
-    let ok = sound-e t h in
+session-kept {width} t x f ok new =
     sessions-kept t _ ok (length-set (t .sessions) x _ ∙ ok .manySessions)
     (set-each (SessionOk width (t .edition) (t .roles) (t .entities)) 16 (t .sessions) noSession (ok .manySessions) x _
     (λ s l ne. ok .session s l) (λ l. new l (ok .session x l)))
 
-pub each-session-kept : {width : ℕ} (t : Tables) (f : Session → Session) → soundIn width t ≡ true
+pub each-session-kept : {width : ℕ} (t : Tables) (f : Session → Session) → Formed width t
     → ((s : ℕ) (r : Session) → SessionOk width (t .edition) (t .roles) (t .entities) s r → SessionOk width (t .edition) (t .roles) (t .entities) s (f r))
-    → soundIn width (eachSession f t) ≡ true
+    → Formed width (eachSession f t)
 unfolding eachSession
-each-session-kept {width} t f h new =
-    let ok = sound-e t h in
+each-session-kept {width} t f ok new =
     sessions-kept t _ ok (length-map (t .sessions) f ∙ ok .manySessions)
     (map-each (SessionOk width (t .edition) (t .roles) (t .entities)) f 16 (t .sessions) noSession (ok .manySessions) (λ s l. new s _ (ok .session s l)))
+
+pub ended-kept : {width : ℕ} (t : Tables) → Formed width t → Formed width (endUnbacked t)
+unfolding endUnbacked backed
+ended-kept {width} t ok =
+    sessions-kept t _ ok (length-tabulate _ 16)
+    (tabulate-each (SessionOk width (t .edition) (t .roles) (t .entities)) 16 _ noSession (λ s l.
+    let old = ok .session s l in
+    open-ok _ _ _ _ old _ _ (keeping-ok _ _ _ _ _ (old .reading)) (keeping-ok _ _ _ _ _ (old .writing))))
 
 -- ---- the rules
 pub not-below : (a b : ℕ) → ltb a b ≡ false → leb b a ≡ true
@@ -109,32 +116,32 @@ every-no a b h k = is-false b (λ m. clash _ (every-i _ (h, (m, tt))) k)
 pub keeps-login : {width : ℕ} → Keeps width login
 unfolding login loggedIn fieldInRangeIn
 keeps-login t q d =
-    session-kept t (q .seat) _ (d .isSound)
+    session-kept t (q .seat) _ (formed-e t (d .isSound))
     (λ l old. nothing-ok _ _ _ true (q .user) (labelAsked q) (ltb-true _ _ (every-at _ (d .ranges) 1)) (every-at _ (d .ranges) 2) (λ dead. absurd (clash true refl dead)))
 
 pub keeps-logout : {width : ℕ} → Keeps width logout
 unfolding logout sameLabel every
 keeps-logout t q d =
-    session-kept t (q .seat) _ (d .isSound) (λ l old. nothing-ok _ _ _ false 0 noLabel (omega arith) (none-in-range _) (λ dead. (refl, refl)))
+    session-kept t (q .seat) _ (formed-e t (d .isSound)) (λ l old. nothing-ok _ _ _ false 0 noLabel (omega arith) (none-in-range _) (λ dead. (refl, refl)))
 
 pub keeps-take : {width : ℕ} → Keeps width take
 unfolding take takeRole fieldInRangeIn
 keeps-take t q d =
     let no = unmet _ refl (d .none) in
-    session-kept t (q .seat) _ (d .isSound) (λ l old.
+    session-kept t (q .seat) _ (formed-e t (d .isSound)) (λ l old.
     held-ok _ _ _ _ old _
     (with-ok _ _ _ _ (q .role) (old .held) (of-not-false _ (no 5)) (ltb-true _ _ (every-at _ (d .ranges) 1)) (of-not-false _ (no 7))))
 
 pub keeps-drop : {width : ℕ} → Keeps width drop
 unfolding drop
-keeps-drop t q d = session-kept t (q .seat) _ (d .isSound) (λ l old. dropped-ok _ _ _ _ old (q .role))
+keeps-drop t q d = ended-kept _ (session-kept t (q .seat) _ (formed-e t (d .isSound)) (λ l old. dropped-ok _ _ _ _ old (q .role)))
 
 pub keeps-openr : {width : ℕ} → Keeps width openr
 unfolding openr openReading fieldInRangeIn
 keeps-openr t q d =
     let no = unmet _ refl (d .none) in
     let level = implies-i _ _ (λ first. not-below (entityLevel (q .entity)) (sessionLevel (q .seat)) (every-no _ _ first (no 10))) in
-    session-kept t (q .seat) _ (d .isSound) (λ l old.
+    session-kept t (q .seat) _ (formed-e t (d .isSound)) (λ l old.
     open-ok _ _ _ _ old _ _
     (with-ok _ _ _ _ (q .entity) (old .reading) (of-not-false _ (no 5)) (ltb-true _ _ (every-at _ (d .ranges) 1))
     (every-i _ (of-not-false _ (no 7), (level, (of-not-false _ (no 11), tt)))))
@@ -145,7 +152,7 @@ unfolding openw openWriting fieldInRangeIn
 keeps-openw t q d =
     let no = unmet _ refl (d .none) in
     let level = not-below (sessionLevel (q .seat)) (entityLevel (q .entity)) (no 10) in
-    session-kept t (q .seat) _ (d .isSound) (λ l old.
+    session-kept t (q .seat) _ (formed-e t (d .isSound)) (λ l old.
     open-ok _ _ _ _ old _ _
     (old .reading)
     (with-ok _ _ _ _ (q .entity) (old .writing) (of-not-false _ (no 5)) (ltb-true _ _ (every-at _ (d .ranges) 1))
@@ -153,4 +160,4 @@ keeps-openw t q d =
 
 pub keeps-close : {width : ℕ} → Keeps width close
 unfolding close
-keeps-close t q d = session-kept t (q .seat) _ (d .isSound) (λ l old. closed-ok _ _ _ _ old (q .entity))
+keeps-close t q d = session-kept t (q .seat) _ (formed-e t (d .isSound)) (λ l old. closed-ok _ _ _ _ old (q .entity))

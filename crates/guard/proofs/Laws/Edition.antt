@@ -19,13 +19,14 @@ use Rattle.guard.specs.Tables.{edition1, edition2, roleFor, hasRight, is
 use Rattle.guard.specs.Chain.{reaches}
 use Rattle.guard.specs.Sound.{sound, editionInRange}
 use Rattle.guard.specs.Edits.{atSession, atRole, atEntity, eachSession, eachRole}
+use Rattle.guard.specs.Backed.{backed, endUnbacked}
 use Rattle.guard.specs.Conditions.{entityBelowSeat, userTooLow, createOutOfLevel, grantBelow, cannotOpen, cannotChangeIn, cannotChange, notOpen, nameTaken, hasChildren}
 use Rattle.guard.specs.Requests.{Rule, login, logout, take, drop, openr, openw, close, create, delete, rename, grant, revoke, list, unlist, make, unmake, share, unknown, rules, ruleOf}
 use Rattle.guard.specs.Kind as kind
 use Rattle.guard.specs.Step.{answer, answerIn, next, nextIn, roleOpening, roleTold, roleToldIn, run, runIn}
 use Rattle.guard.specs.declared.Tables.{Tables}
 use Rattle.guard.specs.declared.Request.{Request}
-use Rattle.guard.proofs.Laws.Sound.{sound-e, sound-i}
+use Rattle.guard.proofs.Laws.Sound.{formed-e, backed-e, sound-i}
 use Rattle.guard.proofs.Laws.Refusals.{conditionOf}
 use Rattle.guard.proofs.Laws.Requests.{conditions, numbered, answer-met}
 use Rattle.guard.proofs.Laws.Step.{next-by, Each, EachAt, each-rule, each-numbered}
@@ -39,7 +40,7 @@ abbrev Does : Rule → Type 0
 Does rule = (edition : ℕ) (q : Request) (t : Tables) → rule .effect q (withEdition edition t) ≡ withEdition edition (rule .effect q t)
 
 each-does : Each Does rules
-unfolding rules login logout take drop openr openw close create delete rename grant revoke list unlist make unmake share atSession atRole atEntity eachSession eachRole
+unfolding rules login logout take drop openr openw close create delete rename grant revoke list unlist make unmake share atSession atRole atEntity eachSession eachRole endUnbacked backed hasRight roleFor
 each-does = (λ n q t. refl, (λ n q t. refl, (λ n q t. refl, (λ n q t. refl, (λ n q t. refl, (λ n q t. refl, (λ n q t. refl, (λ n q t. refl, (λ n q t. refl, (λ n q t. refl, (λ n q t. refl, (λ n q t. refl, (λ n q t. refl, (λ n q t. refl, (λ n q t. refl, (λ n q t. refl, (λ n q t. refl, tt)))))))))))))))))
 
 unknown-does : Does unknown
@@ -64,7 +65,7 @@ ranged-2 = refl
 
 pub sound-in-2 : (t : Tables) → sound (withEdition edition1 t) ≡ true → sound (withEdition edition2 t) ≡ true
 sound-in-2 t h =
-    let ok = sound-e _ h in
+    let ok = formed-e _ h in
     sound-i _
     (record {
       edition = ranged-2;
@@ -91,6 +92,7 @@ sound-in-2 t h =
       role = ok .role;
       entity = ok .entity;
     })
+    (backed-e _ _ h)
 
 module _ (t : Tables) (q : Request) where
   -- the rule at number n refuses alike in both editions, unless it is an openr of what is below the seat

@@ -1,9 +1,9 @@
 -- Sound tables, read as facts (Facts), and with the paper's own chain of parents (Chains).
---     sound-e, sound-i                the test `soundIn` says this, and no more
+--     formed-e, backed-e, sound-i     the test `soundIn` says this, and no more
 --     writing-level, parent-level     two of the facts, of the tables
 -- Assumes nothing.
 use Prim.Native.Nat.{ℕ, _^_, _≤_, _<_}
-use mathlib.Core.Path.{_≡_, refl}
+use mathlib.Core.Path.{_≡_, refl, sym, _∙_}
 use mathlib.Core.Bool.{Bool, true, false, not}
 use mathlib.Core.List.{List, [], _∷_}
 use lib.Dec.{eqb}
@@ -12,14 +12,15 @@ use Rattle.bitset.specs.Tests.{every, implies, all}
 use Rattle.bitset.specs.Tests.Laws.{is-false, clash, not-of-true, not-of-false, of-not-true, of-not-false, every-i, every-e, every-at, implies-i, implies-e, all-i, all-e}
 use Rattle.bitset.specs.Sets.{has}
 use Rattle.guard.specs.Level.{sessionLevel, entityLevel, isRoot}
-use Rattle.guard.specs.Tables.{sessionAt, roleAt, entityAt, isWriting, rightsOf, rightsOn, isChild}
+use Rattle.guard.specs.Tables.{sessionAt, roleAt, entityAt, read, write, isWriting, rightsOf, rightsOn, isChild}
 use Rattle.guard.specs.Chain.{endsAtRoot}
-use Rattle.guard.specs.Sound.{sessionInRangeIn, roleInRange, fieldsInRangeIn, rootsAsSaid, keepersAsSaid, hasOwnName, isPlaced, entitiesPlaced, objectsUnshared, isEmptySession, isEmptyRole, deadAreEmpty, deadAreUnused, rightsWithin, readingWithin, writingWithin, sound, soundIn}
+use Rattle.guard.specs.Sound.{sessionInRangeIn, roleInRange, fieldsInRangeIn, rootsAsSaid, keepersAsSaid, hasOwnName, isPlaced, entitiesPlaced, objectsUnshared, isEmptySession, isEmptyRole, deadAreEmpty, deadAreUnused, rightsWithin, readingWithin, writingWithin, opensBacked, sound, soundIn}
 use Rattle.guard.specs.declared.Session.{Session}
 use Rattle.guard.specs.declared.Role.{Role}
 use Rattle.guard.specs.declared.Entity.{Entity}
 use Rattle.guard.specs.declared.Tables.{Tables}
 use Rattle.guard.proofs.Laws.Rights.{rights-none, rights-zero}
+use Rattle.guard.proofs.Laws.Told.{right-some}
 pub mod Facts
 pub mod Chains
 pub use Facts.*
@@ -117,9 +118,9 @@ entity-e t h e l =
       empty = λ d. dead _ _ (all-e 64 _ (every-at _ (every-at _ h 5) 2) e l) d;
     }
 
-pub sound-e : {width : ℕ} (t : Tables) → soundIn width t ≡ true → Sound width t
+pub formed-e : {width : ℕ} (t : Tables) → soundIn width t ≡ true → Formed width t
 unfolding soundIn fieldsInRangeIn
-sound-e t h =
+formed-e t h =
     let fields = every-at _ h 0 in
     record {
       edition = every-at _ fields 7;
@@ -130,6 +131,16 @@ sound-e t h =
       session = session-e t h;
       role = role-e _ t h;
       entity = entity-e t h;
+    }
+
+-- each open has the right behind it
+pub backed-e : (width : ℕ) (t : Tables) → soundIn width t ≡ true → Backed t
+unfolding soundIn opensBacked
+backed-e width t h s l =
+    let each = all-e 64 _ (all-e 16 _ (every-at _ h 10) s l) in
+    record {
+      reading = λ e k m. sym (right-some t s read e) ∙ implies-e _ _ (every-at _ (each e k) 0) m;
+      writing = λ e k m. sym (right-some t s write e) ∙ implies-e _ _ (every-at _ (each e k) 1) m;
     }
 
 -- ---- and back
@@ -215,9 +226,9 @@ placed-i t e ok =
     own : hasOwnName t e ≡ true
     own = all-i 64 _ (λ f l. implies-i _ _ (λ h. not-of-false _ (ok .ownName f l (eqb-false f e (of-not-true _ (every-at _ h 1))) (every-at _ h 0))))
 
-pub sound-i : {width : ℕ} (t : Tables) → Sound width t → soundIn width t ≡ true
-unfolding soundIn fieldsInRangeIn rootsAsSaid keepersAsSaid entitiesPlaced objectsUnshared deadAreEmpty deadAreUnused rightsWithin readingWithin writingWithin
-sound-i {width} t ok =
+pub sound-i : {width : ℕ} (t : Tables) → Formed width t → Backed t → soundIn width t ≡ true
+unfolding soundIn fieldsInRangeIn rootsAsSaid keepersAsSaid entitiesPlaced objectsUnshared deadAreEmpty deadAreUnused rightsWithin readingWithin writingWithin opensBacked
+sound-i {width} t ok backs =
     every-of _
     (fields
     also all-i 64 _ (λ e l. implies-i _ _ (ok .entity e l .root))
@@ -229,6 +240,11 @@ sound-i {width} t ok =
     also all-i 16 _ (λ r l. all-i 64 _ (λ e k. implies-i _ _ (λ some. every-at _ (granted r e l k (of-not-true _ some)) 1)))
     also all-i 16 _ (λ s l. open-i _ _ _ _ (ok .session s l .reading .members) .1)
     also all-i 16 _ (λ s l. open-i _ _ _ _ (ok .session s l .writing .members) .1)
+    also all-i 16 _ (λ s l. all-i 64 _ (λ e k.
+    every-of _
+    (implies-i _ _ (λ m. right-some t s read e ∙ backs s l .reading e k m)
+    also implies-i _ _ (λ m. right-some t s write e ∙ backs s l .writing e k m)
+    also no-more)))
     also no-more)
   where
     fields : fieldsInRangeIn width t ≡ true

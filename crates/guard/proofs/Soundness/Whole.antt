@@ -6,12 +6,12 @@
 -- Assumes nothing.
 use Prim.Native.Nat.{ℕ, _%_, _≤_, _<_}
 use mathlib.Core.Bool.{Bool, true, false, not}
-use mathlib.Core.List.{List}
+use mathlib.Core.List.{List, [], _∷_}
 use mathlib.Core.Path.{_≡_, refl, sym, _∙_}
 use native.Mathlib.Omega.{arith}
 use lib.ListN.{length, getD}
 use borrow.Author.Tests.{eq-eqb}
-use Rattle.bitset.specs.Tests.{all}
+use Rattle.bitset.specs.Tests.{every, all}
 use Rattle.bitset.specs.Tests.Laws.{both, clash, is-false, of-not-true, of-not-false, every-i, every-at, all-i, all-e}
 use Rattle.bitset.specs.Sets.{has}
 use Rattle.guard.specs.Level.{sessionLevel, isRoot}
@@ -19,11 +19,12 @@ use Rattle.guard.specs.Tables.{noUser, sessionAt, roleAt, entityAt}
 use Rattle.guard.specs.Label.{allCategories}
 use Rattle.guard.specs.Sound.{usersInRangeIn, editionInRange, sound}
 use Rattle.guard.specs.Private.Tested.{parentByKey, liveByKey, grantableIn, ends, entityTest, ownKey, roleTest, sessionTest}
-use Rattle.guard.specs.Private.Scan.{Keys}
+use Rattle.guard.specs.Private.Scan.{Keys, Grants, opensGiven}
 use Rattle.guard.specs.Private.InForce.{userInRange}
 use Rattle.guard.specs.declared.Tables.{Tables}
-use Rattle.guard.proofs.Laws.Sound.{sound-e, sound-i}
-use Rattle.guard.proofs.Laws.Sound.Facts.{Sound, EntityOk, parentIn}
+use Rattle.guard.proofs.Laws.Sound.{formed-e, backed-e, sound-i}
+use Rattle.guard.proofs.Laws.Sound.Facts.{Formed, EntityOk, parentIn}
+use Rattle.guard.proofs.Given.{opens-right}
 use Rattle.guard.proofs.Soundness.Climb.{climbs-root, climbs-on}
 use Rattle.guard.proofs.Soundness.EntityFacts.{Settled, Known, settled, test-of, known}
 use Rattle.guard.proofs.Soundness.Keys.{chains-as, own-e, own-i, live-of-key, key-small}
@@ -45,8 +46,9 @@ namesTest keys = all 64 (ownKey keys)
 abbrev pub rolesTest : Tables → ℕ → Bool
 rolesTest t live = all 16 (λ r. roleTest (grantableIn live r) r (roleAt t r))
 
-abbrev pub sessionsTest : Tables → List ℕ → ℕ → Bool
-sessionsTest t labels roles = all 16 (λ s. sessionTest labels roles (t .edition) (sessionLevel s) (sessionAt t s))
+abbrev pub sessionsTest : Tables → List ℕ → List ℕ → ℕ → Bool
+sessionsTest t labels grants roles =
+    all 16 (λ s. every (sessionTest labels roles (t .edition) (sessionLevel s) (sessionAt t s) ∷ opensGiven grants (sessionAt t s) ∷ []))
 
 -- the set of the live entities, as the code takes it from the keys
 abbrev pub Taken : List ℕ → ℕ → Type 0
@@ -75,8 +77,8 @@ settled-of t e ok = record {
 }
 
 module _ (t : Tables) (h : sound t ≡ true) where
-  ok : Sound allCategories t
-  ok = sound-e t h
+  ok : Formed allCategories t
+  ok = formed-e t h
 
   pub numbers : (e : ℕ) → e < 64 → Known e (entityAt t e)
   numbers e l = known t e _ (settled-of t e (ok .entity e l))
@@ -105,8 +107,9 @@ module _ (t : Tables) (h : sound t ≡ true) where
   pub roles-pass : (keys : List ℕ) (live : ℕ) → Keys (t .entities) keys → Taken keys live → rolesTest t live ≡ true
   roles-pass keys live K L = all-i 16 _ (λ r l. role-i t live (λ e k. L e k ∙ live-of-key t keys K numbers e k) r _ (ok .role r l))
 
-  pub sessions-pass : (labels : List ℕ) (roles : ℕ) → Labels t labels → LiveRoles t roles → sessionsTest t labels roles ≡ true
-  sessions-pass labels roles L R = all-i 16 _ (λ s l. session-i t labels L numbers roles R s _ (ok .session s l))
+  pub sessions-pass : (labels grants : List ℕ) (roles : ℕ) → Labels t labels → Grants (t .roles) grants → LiveRoles t roles → sessionsTest t labels grants roles ≡ true
+  sessions-pass labels grants roles L G R =
+      all-i 16 _ (λ s l. every-i _ (session-i t labels L numbers roles R s _ (ok .session s l), (opens-right t (ok .role) grants G s .1 (backed-e _ t h s l), tt)))
 
 -- ---- a part that fails, and one that is met
 pub refuted : (t : Tables) (r p : Bool) → r ≡ p → (sound t ≡ true → p ≡ true) → not r ≡ true → false ≡ sound t
@@ -122,18 +125,18 @@ pub record Sized (t : Tables) : Type 0 where
   pub roles : length (t .roles) ≡ 16
   pub entities : length (t .entities) ≡ 64
 
-passed : (t : Tables) (keys labels : List ℕ) (live roles : ℕ) → Sized t → Keys (t .entities) keys → Taken keys live → Labels t labels → LiveRoles t roles
-    → editionInRange (t .edition) ≡ true → usersTest t ≡ true → entitiesTest t ≡ true → chainsTest keys ≡ true → namesTest keys ≡ true → rolesTest t live ≡ true → sessionsTest t labels roles ≡ true
-    → sound t ≡ true
+passed : (t : Tables) (keys labels grants : List ℕ) (live roles : ℕ) → Sized t → Keys (t .entities) keys → Taken keys live → Labels t labels → LiveRoles t roles
+    → editionInRange (t .edition) ≡ true → usersTest t ≡ true → entitiesTest t ≡ true → chainsTest keys ≡ true → namesTest keys ≡ true → rolesTest t live ≡ true → sessionsTest t labels grants roles ≡ true
+    → Formed allCategories t
 unfolding usersInRangeIn
-passed t keys labels live roles size K L B R d u e c n r s =
-    sound-i t (record {
+passed t keys labels grants live roles size K L B R d u e c n r s =
+    record {
       edition = d;
       users = every-i _ (eq-eqb _ _ (size .users), (u, tt));
       manySessions = size .sessions;
       manyRoles = size .roles;
       manyEntities = size .entities;
-      session = λ k l. session-e t labels B numbers′ roles R k _ (all-e 16 _ s k l);
+      session = λ k l. session-e t labels B numbers′ roles R k _ (every-at _ (all-e 16 _ s k l) 0);
       role = λ k l. role-e t live (λ f b. L f b ∙ live-of-key t keys K numbers′ f b) k _ (all-e 16 _ r k l);
       entity = λ k l.
           let set = settled′ k l in
@@ -149,7 +152,7 @@ passed t keys labels live roles size K L B R d u e c n r s =
                   ownName = own-e t keys K numbers′ k l (all-e 64 _ n k l) live other;
                 };
           };
-    })
+    }
   where
     settled′ : (k : ℕ) → k < 64 → Settled t k (entityAt t k)
     settled′ = settled-by t e
@@ -157,8 +160,13 @@ passed t keys labels live roles size K L B R d u e c n r s =
     numbers′ : (k : ℕ) → k < 64 → Known k (entityAt t k)
     numbers′ k l = known t k _ (settled′ k l)
 
-pub decided : (t : Tables) (keys labels : List ℕ) (live roles : ℕ) → Sized t → Keys (t .entities) keys → Taken keys live → Labels t labels → LiveRoles t roles
+pub decided : (t : Tables) (keys grants labels : List ℕ) (live roles : ℕ) → Sized t → Keys (t .entities) keys → Grants (t .roles) grants → Taken keys live → Labels t labels → LiveRoles t roles
     → editionInRange (t .edition) ≡ true → usersTest t ≡ true → entitiesTest t ≡ true → chainsTest keys ≡ true → namesTest keys ≡ true → rolesTest t live ≡ true
-    → (r : Bool) → r ≡ sessionsTest t labels roles → r ≡ sound t
-decided t keys labels live roles size K L B R d u e c n p r s =
-    both r (sound t) (λ h. passed t keys labels live roles size K L B R d u e c n p (sym s ∙ h)) (λ h. s ∙ sessions-pass t h labels roles B R)
+    → (r : Bool) → r ≡ sessionsTest t labels grants roles → r ≡ sound t
+decided t keys grants labels live roles size K G L B R d u e c n p r s = both r (sound t) forth (λ h. s ∙ sessions-pass t h labels grants roles B G R)
+  where
+    forth : r ≡ true → sound t ≡ true
+    forth h =
+        let all-met = sym s ∙ h in
+        let ok = passed t keys labels grants live roles size K L B R d u e c n p all-met in
+        sound-i t ok (λ x l. opens-right t (ok .role) grants G x .0 (every-at _ (all-e 16 _ all-met x l) 1))

@@ -117,14 +117,14 @@ changeOf call =
 abbrev pub OfEntity : ℕ → Type 0
 OfEntity call = ((kind.create ≤ call) × (call ≤ kind.rename)) ⊎ (call ≡ kind.share)
 
--- the acting session s after a request of the first seven kinds
-unfoldable pub sessionAfter : Request → Session → Session
-sessionAfter q s =
+-- the acting session s after a request of the first seven kinds; `keep` is what a drop leaves of its opens
+unfoldable pub sessionAfter : (Session → Session) → Request → Session → Session
+sessionAfter keep q s =
     getD
     (loggedIn q
     ∷ noSession
     ∷ takeRole (q .role) s
-    ∷ dropRole (q .role) s
+    ∷ keep (dropRole (q .role) s)
     ∷ openReading (q .entity) s
     ∷ openWriting (q .entity) s
     ∷ [])

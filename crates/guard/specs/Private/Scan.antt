@@ -4,19 +4,22 @@
 --   grants    for each role four sets of entities, one for each right: those of role r stand from 4 r on
 use Prim.Native.Nat.{ℕ, _+_, _*_, _/_, _%_, _<_}
 use mathlib.Core.Path.{_≡_}
-use mathlib.Core.Bool.{Bool, true, false, cond}
+use mathlib.Core.Bool.{Bool, true, false, not, cond}
 use mathlib.Core.List.{List, [], _∷_}
+use lib.Bits.{bitAnd}
 use lib.Dec.{eqb}
 use lib.ListN.{length, getD}
 use Rattle.bitset.specs.Tests.{every, some}
-use Rattle.bitset.specs.Sets.{has, without}
+use Rattle.bitset.specs.Sets.{has, without, join, keeping}
 use Rattle.guard.specs.Level.{roleCount, entityCount, entitiesPerLevel}
 use Rattle.guard.specs.Told.{lowest, roleByte}
 use Rattle.guard.specs.Tables.{noRole, noEntity}
+use Rattle.guard.specs.Edits.{opening, dropRole}
 use Rattle.guard.specs.Chain.{climbs}
-use Rattle.guard.specs.Private.Tested.{keyOf, parentByKey}
+use Rattle.guard.specs.Private.Tested.{keyOf, parentByKey, members}
 use Rattle.guard.specs.Private.Inside.{asksWay, asksName, asksRights}
 use Rattle.guard.specs.Kind as kind
+use Rattle.guard.specs.declared.Session.{Session}
 use Rattle.guard.specs.declared.Role.{Role}
 use Rattle.guard.specs.declared.Entity.{Entity}
 use Rattle.guard.specs.declared.Request.{Request}
@@ -79,6 +82,28 @@ pub record Gathered (grants : List ℕ) (held : ℕ) (g : Rights) : Type 0 where
   pub executes : (e : ℕ) → has (g .executes) e ≡ given grants held 2 e
   pub owns : (e : ℕ) → has (g .owns) e ≡ given grants held 3 e
 
+-- ---- what backs an open: one of the roles held gives the right
+-- each open of s is backed
+unfoldable pub opensGiven : List ℕ → Session → Bool
+opensGiven grants s =
+    every (members (given grants (s .roles) 0) (s .reading) ∷ members (given grants (s .roles) 1) (s .writing) ∷ [])
+
+-- s with those of its opens that are
+unfoldable pub backedBy : List ℕ → Session → Session
+backedBy grants s =
+    opening (keeping entityCount (given grants (s .roles) 0) (s .reading)) (keeping entityCount (given grants (s .roles) 1) (s .writing)) s
+
+-- s after role r lost rights on the entities of a set: those of its opens that are backed, where it holds the role and has one of
+-- them open
+unfoldable pub keptBy : List ℕ → ℕ → ℕ → Session → Session
+keptBy grants r lost s =
+    cond (every (has (s .roles) r ∷ not (eqb (bitAnd (join (s .reading) (s .writing)) lost) 0) ∷ [])) (backedBy grants s) s
+
+-- .. and without the role, where it is unmade
+unfoldable pub leftBy : List ℕ → ℕ → ℕ → Bool → Session → Session
+leftBy grants r lost unmade s = cond unmade (dropRole r (keptBy grants r lost s)) (keptBy grants r lost s)
+
+-- ---- the tree
 -- the containers above e are all in the set
 abbrev pub climbsBy : List ℕ → ℕ → ℕ → Bool
 climbsBy keys through e = climbs (parentByKey keys) (has through) entitiesPerLevel e

@@ -1,5 +1,6 @@
 -- Keep: a request that is done, and whose seat or something that it names is lower, leaves the upper part alone.
---     keeps           each rule: what it changes is lower, since the rule's conditions put it below what is named
+--     keeps           each rule: what it changes is lower, since the rule's conditions put it below what is named; opens that end
+--                     after it are of lower entities or lower seats (Ending)
 -- Assumes nothing.
 use Prim.Native.Nat.{ℕ, _≤_, _<_}
 use mathlib.Core.Path.{_≡_, refl}
@@ -28,6 +29,7 @@ use Rattle.guard.proofs.Laws.Sound.{writing-level, parent-level}
 use Rattle.isolation.specs.Proof.Lists.{Hidden}
 use Rattle.isolation.specs.Proof.Views.{Same, lower-seat, lower-role, lower-entity}
 use Rattle.isolation.specs.Proof.Edits.{sessionTable, roleTable, entityTable, same-refl, same-trans, row-low, row-hidden, rows-hidden, taking, dropping, opening-r, opening-w, closing, setting}
+use Rattle.isolation.specs.Proof.Ending.{ending-hidden}
 use Rattle.isolation.specs.Proof.{_and_}
 
 -- not every test is met, and the first is
@@ -157,7 +159,7 @@ module _ (L : ℕ) (t : Tables) (q : Request) where
       ((λ d. seat-alone _ (true ∷ true ∷ []) (refl, (refl, tt)))  -- login
       and (λ d. seat-alone _ [] tt)  -- logout
       and (λ d low. at-seat _ _ low (λ h. taking L (q .role) .0 (lower-role L (q .role) (one-false _ h))))  -- take
-      and (λ d low. at-seat _ _ low (λ h. dropping L (q .role) .0 (lower-role L (q .role) (one-false _ h))))  -- drop
+      and (λ d low. ending-hidden L t _ (d .isSound) (at-seat _ _ low (λ h. dropping L (q .role) .0 (lower-role L (q .role) (one-false _ h)))))  -- drop
       and (λ d low. at-seat _ _ low (λ h. opening-r L (q .entity) .0 (lower-entity L (q .entity) (one-false _ h))))  -- openr
       and (λ d low. at-seat _ _ low (λ h. opening-w L (q .entity) .0 (lower-entity L (q .entity) (one-false _ h))))  -- openw
       and (λ d low. at-seat _ _ low (λ h. closing L (q .entity) .0 (lower-entity L (q .entity) (one-false _ h))))  -- close
@@ -165,7 +167,7 @@ module _ (L : ℕ) (t : Tables) (q : Request) where
       and delete-keeps  -- delete
       and (λ d low. at-entity _ (rename-lower d low))  -- rename
       and (λ d low. at-rights _ t (grant-lower (unmet (grant .refusals t q) refl (d .none) 10) low))  -- grant
-      and (λ d low. at-rights _ t (grant-lower (unmet (revoke .refusals t q) refl (d .none) 10) low))  -- revoke
+      and (λ d low. ending-hidden L t _ (d .isSound) (at-rights _ t (grant-lower (unmet (revoke .refusals t q) refl (d .none) 10) low)))  -- revoke
       and (λ d low. at-role _ (role-lower (true ∷ []) (refl, tt) (unmet (list .refusals t q) refl (d .none) 10) low))  -- list
       and (λ d low. at-role _ (role-lower (true ∷ []) (refl, tt) (unmet (unlist .refusals t q) refl (d .none) 10) low))  -- unlist
       and (λ d low. at-role _ (role-lower [] tt (unmet (make .refusals t q) refl (d .none) 10) low))  -- make
@@ -186,4 +188,5 @@ module _ (L : ℕ) (t : Tables) (q : Request) where
       unmake-keeps : Keeps unmake
       unmake-keeps d low =
           let lower = role-lower [] tt (unmet (unmake .refusals t q) refl (d .none) 10) low in
-          same-trans L _ _ _ (rows-hidden L (sessionTable L) (dropRole (q .role)) _ (dropping L (q .role) .0 lower)) (at-role _ lower)
+          ending-hidden L t _ (d .isSound)
+          (same-trans L _ _ _ (rows-hidden L (sessionTable L) (dropRole (q .role)) _ (dropping L (q .role) .0 lower)) (at-role _ lower))

@@ -36,8 +36,8 @@ use Rattle.guard.specs.declared.old.OldSession.{OldSession}
 use Rattle.guard.specs.declared.old.OldEntity.{OldEntity}
 use Rattle.guard.specs.declared.old.OldTables.{OldTables}
 use Rattle.guard.proofs.Laws.Label.{grade-in, cats-in, in-range}
-use Rattle.guard.proofs.Laws.Sound.Facts.{Sound, SessionOk, EntityOk}
-use Rattle.guard.proofs.Laws.Sound.{sound-e, sound-i}
+use Rattle.guard.proofs.Laws.Sound.Facts.{Formed, SessionOk, EntityOk}
+use Rattle.guard.proofs.Laws.Sound.{formed-e, backed-e, sound-i}
 use Rattle.guard.proofs.Kept.{sound-nextIn}
 use Rattle.isolation.specs.Within.{fieldWithin, categoriesWithin, Fits, AsOld}
 
@@ -49,7 +49,7 @@ label-within v w a h l = in-range w a (grade-in v a h) l
 sound-fits : (width : ℕ) (t : Tables) → soundIn width t ≡ true → Fits width t
 unfolding usersInRangeIn userInRangeIn entityInRangeIn
 sound-fits width t h =
-    let ok = sound-e t h in
+    let ok = formed-e t h in
     record {
       users = λ u l. cats-in width _ (every-at _ (all-e 16 _ (every-at _ (ok .users) 1) u l) 1);
       sessions = λ s l. cats-in width _ (ok .session s l .label);
@@ -70,9 +70,10 @@ fits-sound v w t h fits =
       role = ok .role;
       entity = entity;
     })
+    (backed-e _ t h)
   where
-    ok : Sound v t
-    ok = sound-e t h
+    ok : Formed v t
+    ok = formed-e t h
 
     users : usersInRangeIn w (t .users) ≡ true
     users =
@@ -227,4 +228,4 @@ taken-given t long old =
     )
 
 pub old-ones : (t : Tables) → soundIn oldWidth t ≡ true → AsOld t → (old : OldTables) × (takenOver old ≡ t) × Fits oldWidth (takenOver old)
-old-ones t ok none = let same = taken-given t (sound-e t ok .manyEntities) none in (givenBack t, same, rw same (sound-fits oldWidth t ok))
+old-ones t ok none = let same = taken-given t (formed-e t ok .manyEntities) none in (givenBack t, same, rw same (sound-fits oldWidth t ok))

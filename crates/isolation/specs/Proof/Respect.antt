@@ -1,6 +1,6 @@
 -- Respect: a request whose seat and all that it names are upper takes equal upper parts to equal upper parts, where it is
 -- done in both tables.
---     respects        each rule's effect, by the laws of its edits
+--     respects        each rule's effect, by the laws of its edits; where opens end after it, the same ones do (Ending)
 -- Assumes nothing.
 use Prim.Native.Nat.{ℕ}
 use mathlib.Core.Path.{_≡_}
@@ -23,6 +23,7 @@ use Rattle.guard.proofs.Laws.Step.{each-rule}
 use Rattle.isolation.specs.Proof.Lists.{Image, const-image, whole-image}
 use Rattle.isolation.specs.Proof.Views.{Same, upper-seat, upper-role, upper-entity}
 use Rattle.isolation.specs.Proof.Edits.{sessionTable, roleTable, entityTable, row-alike, rows-alike, taking, dropping, opening-r, opening-w, closing, setting, listing-image, unlisting-image}
+use Rattle.isolation.specs.Proof.Ending.{ending-alike}
 use Rattle.isolation.specs.Proof.{_and_}
 
 module _ (L : ℕ) (q : Request) where
@@ -53,7 +54,7 @@ module _ (L : ℕ) (q : Request) where
       ((λ n. at-seat _ (every-at _ n 0) (const-image (upperSession L) (loggedIn q)))  -- login
       and (λ n. at-seat _ (every-at _ n 0) (const-image (upperSession L) noSession))  -- logout
       and (λ n. at-seat _ (every-at _ n 0) (taking L (q .role) .1 (upper-role L (q .role) (every-at _ n 1))))  -- take
-      and (λ n. at-seat _ (every-at _ n 0) (dropping L (q .role) .1 (upper-role L (q .role) (every-at _ n 1))))  -- drop
+      and (λ n t u same. ending-alike L _ _ (at-seat _ (every-at _ n 0) (dropping L (q .role) .1 (upper-role L (q .role) (every-at _ n 1))) t u same))  -- drop
       and (λ n. at-seat _ (every-at _ n 0) (opening-r L (q .entity) .1 (upper-entity L (q .entity) (every-at _ n 1))))  -- openr
       and (λ n. at-seat _ (every-at _ n 0) (opening-w L (q .entity) .1 (upper-entity L (q .entity) (every-at _ n 1))))  -- openw
       and (λ n. at-seat _ (every-at _ n 0) (closing L (q .entity) .1 (upper-entity L (q .entity) (every-at _ n 1))))  -- close
@@ -61,7 +62,7 @@ module _ (L : ℕ) (q : Request) where
       and delete-respects  -- delete
       and (λ n. at-entity _ (every-at _ n 1))  -- rename
       and (λ n. at-role _ (every-at _ n 1) (setting L (q .entity) _ .1 (upper-entity L (q .entity) (every-at _ n 2))))  -- grant
-      and (λ n. at-role _ (every-at _ n 1) (setting L (q .entity) _ .1 (upper-entity L (q .entity) (every-at _ n 2))))  -- revoke
+      and (λ n t u same. ending-alike L _ _ (at-role _ (every-at _ n 1) (setting L (q .entity) _ .1 (upper-entity L (q .entity) (every-at _ n 2))) t u same))  -- revoke
       and (λ n. at-role _ (every-at _ n 1) (listing-image L (q .user)))  -- list
       and (λ n. at-role _ (every-at _ n 1) (unlisting-image L (q .user)))  -- unlist
       and (λ n. at-role _ (every-at _ n 1) (const-image (upperRole L) madeRole))  -- make
@@ -82,5 +83,6 @@ module _ (L : ℕ) (q : Request) where
 
       unmake-respects : Respects unmake
       unmake-respects n t u same =
-          rows-alike L (sessionTable L) (dropRole (q .role)) _ _ (dropping L (q .role) .1 (upper-role L (q .role) (every-at _ n 1)))
-          (at-role _ (every-at _ n 1) (const-image (upperRole L) noRole) t u same)
+          ending-alike L _ _
+          (rows-alike L (sessionTable L) (dropRole (q .role)) _ _ (dropping L (q .role) .1 (upper-role L (q .role) (every-at _ n 1)))
+          (at-role _ (every-at _ n 1) (const-image (upperRole L) noRole) t u same))

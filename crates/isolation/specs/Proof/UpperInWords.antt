@@ -18,7 +18,7 @@ use Rattle.isolation.specs.Upper.{firstSession, firstRole, firstEntity, 
 use Rattle.guard.specs.declared.Role.{Role}
 use Rattle.guard.specs.declared.Tables.{Tables}
 use Rattle.guard.proofs.Laws.Rights.{contains-read, contains-write, contains-execute, contains-own}
-use Rattle.guard.proofs.Laws.Sound.{sound-e}
+use Rattle.guard.proofs.Laws.Sound.{formed-e}
 use Rattle.isolation.specs.UpperInWords.{Sized, SameUpper}
 use Rattle.isolation.specs.Proof.Lists.{seen-ext}
 use Rattle.isolation.specs.Proof.Views.{Same, same-of, of-same, live-same, user-same, label-same, holds-same, reading-same, writing-same, roleLive-same, listed-same, rightsOn-same, entity-same}
@@ -97,4 +97,4 @@ pub upper-iff : (L : ℕ) (t u : Tables) → Sized t → Sized u → (upper L t 
 upper-iff L t u st su = (λ e. words-of L t u (same-of L t u e), λ words. of-same L t u (of-words L t u words st su))
 
 pub sized : (t : Tables) → sound t ≡ true → Sized t
-sized t h = let ok = sound-e t h in record { sessions = ok .manySessions; roles = ok .manyRoles; entities = ok .manyEntities }
+sized t h = let ok = formed-e t h in record { sessions = ok .manySessions; roles = ok .manyRoles; entities = ok .manyEntities }

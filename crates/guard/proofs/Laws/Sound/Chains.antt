@@ -16,7 +16,7 @@ use Rattle.guard.specs.Level.{entityCount, entityLevel, isRoot}
 use Rattle.guard.specs.Label.{dominates}
 use Rattle.guard.specs.Tables.{noEntity, entityAt, container, execute, hasRight}
 use Rattle.guard.specs.Chain.{parentOf, endsAtRoot, reaches}
-use Rattle.guard.specs.Sound.{fieldsInRangeIn, isRootRecord, rootsAsSaid, keepersAsSaid, hasOwnName, isPlaced, entitiesPlaced, objectsUnshared, deadAreEmpty, deadAreUnused, rightsWithin, readingWithin, writingWithin, sound, soundIn}
+use Rattle.guard.specs.Sound.{fieldsInRangeIn, isRootRecord, rootsAsSaid, keepersAsSaid, hasOwnName, isPlaced, entitiesPlaced, objectsUnshared, deadAreEmpty, deadAreUnused, rightsWithin, readingWithin, writingWithin, opensBacked, sound, soundIn}
 use Rattle.guard.specs.Private.InForce.{fieldsInRange}
 use Rattle.guard.specs.declared.Entity.{Entity}
 use Rattle.guard.specs.declared.Tables.{Tables}
@@ -50,6 +50,7 @@ pub record SoundInWords (t : Tables) : Type 0 where
   pub rights : rightsWithin t ≡ true
   pub reading : readingWithin t ≡ true
   pub writing : writingWithin t ≡ true
+  pub backed : opensBacked t ≡ true
 
 -- a live entity that is no root is placed
 placed-of : (t : Tables) → sound t ≡ true → (e : ℕ) → e < 64 → entityAt t e .live ≡ true → isRoot e ≡ false → isPlaced t e ≡ true
@@ -114,6 +115,7 @@ module _ (t : Tables) (words : SoundInWords t) where
       also words .rights
       also words .reading
       also words .writing
+      also words .backed
       also no-more)
 
 pub sound-iff : (t : Tables) → (sound t ≡ true ↔ SoundInWords t)
@@ -133,6 +135,7 @@ sound-iff t = (forth, sound-of t)
           rights = every-at _ h 7;
           reading = every-at _ h 8;
           writing = every-at _ h 9;
+          backed = every-at _ h 10;
         }
 
 -- ---- "x reaches e" means that x has execute on every container above e, up to and with the root; for a root there is none

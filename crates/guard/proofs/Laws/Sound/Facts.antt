@@ -3,7 +3,8 @@
 -- edition that of the tables.
 --     SetOk                                             a set that a session or a role has
 --     SessionOk, RoleOk, Inside, Placed, EntityOk       one record of each list
---     Sound                                             the tables
+--     Formed                                            the tables, but for what backs the opens
+--     rightBy, BackedBy, Backed                         .. and that: each open has the right behind it, of a role held
 -- Assumes nothing.
 use Prim.Native.Nat.{ℕ, _^_, _<_}
 use mathlib.Core.Path.{_≡_}
@@ -11,11 +12,11 @@ use mathlib.Core.Bool.{Bool, true, false, not}
 use mathlib.Core.List.{List, [], _∷_}
 use lib.Dec.{leb, eqb}
 use lib.ListN.{length, getD}
-use Rattle.bitset.specs.Tests.{every, implies}
-use Rattle.bitset.specs.Sets.{has}
+use Rattle.bitset.specs.Tests.{every, implies, some}
+use Rattle.bitset.specs.Sets.{has, contains}
 use Rattle.guard.specs.Level.{sessionLevel, roleLevel, entityLevel, isRoot, isKeeper}
 use Rattle.guard.specs.Label.{labelInRangeIn, dominates, sameLabel, noLabel}
-use Rattle.guard.specs.Tables.{edition1, noRole, noEntity, sessionAt, roleAt, entityAt, container}
+use Rattle.guard.specs.Tables.{edition1, noRole, noEntity, sessionAt, roleAt, entityAt, container, read, write, rightsOf}
 use Rattle.guard.specs.Chain.{climbs}
 use Rattle.guard.specs.Sound.{entityInRangeIn, usersInRangeIn, editionInRange, isRootRecord, isMarkAllowed, isEmptyEntity}
 use Rattle.guard.specs.declared.Label.{Label}
@@ -100,7 +101,7 @@ pub record EntityOk (width : ℕ) (entities : List Entity) (e : ℕ) (n : Entity
   pub mark : isMarkAllowed n ≡ true
   pub empty : n .live ≡ false → isEmptyEntity n ≡ true
 
-pub record Sound (width : ℕ) (t : Tables) : Type 0 where
+pub record Formed (width : ℕ) (t : Tables) : Type 0 where
   pub edition : editionInRange (t .edition) ≡ true
   pub users : usersInRangeIn width (t .users) ≡ true
   pub manySessions : length (t .sessions) ≡ 16
@@ -109,3 +110,15 @@ pub record Sound (width : ℕ) (t : Tables) : Type 0 where
   pub session : (s : ℕ) → s < 16 → SessionOk width (t .edition) (t .roles) (t .entities) s (sessionAt t s)
   pub role : (r : ℕ) → r < 16 → RoleOk (t .entities) r (roleAt t r)
   pub entity : (e : ℕ) → e < 64 → EntityOk width (t .entities) e (entityAt t e)
+
+-- ---- what backs the opens
+-- one of the roles held, of at least e's level, has the right
+abbrev pub rightBy : List Role → ℕ → ℕ → ℕ → Bool
+rightBy roles held right e = some 16 (λ r. every (leb (entityLevel e) (roleLevel r) ∷ has held r ∷ contains (rightsOf (roleIn roles r) e) right ∷ []))
+
+pub record BackedBy (roles : List Role) (s : Session) : Type 0 where
+  pub reading : (e : ℕ) → e < 64 → has (s .reading) e ≡ true → rightBy roles (s .roles) read e ≡ true
+  pub writing : (e : ℕ) → e < 64 → has (s .writing) e ≡ true → rightBy roles (s .roles) write e ≡ true
+
+abbrev pub Backed : Tables → Type 0
+Backed t = (s : ℕ) → s < 16 → BackedBy (t .roles) (sessionAt t s)

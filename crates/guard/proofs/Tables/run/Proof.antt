@@ -21,13 +21,13 @@ use Rattle.guard.specs.Private.InForce.{inRanges}
 use Rattle.guard.specs.declared.Tables.{Tables}
 use Rattle.guard.specs.declared.Request.{Request}
 use Rattle.guard.specs.declared.change.Change.the-variants.{Session as ASession, Entity as AnEntity, Role as ARole}
-use Rattle.guard.proofs.Laws.Sound.{Sound, sound-e}
+use Rattle.guard.proofs.Laws.Sound.{Formed, formed-e}
 use Rattle.guard.proofs.Ranges.{in-create, in-delete}
 use Rattle.guard.proofs.Logs.{batch-room, batch-space, batch-rows, set-again}
 use Rattle.guard.proofs.Columns.{keys-set, keys-other, grants-other, grants-role, grants-each}
 use Rattle.guard.proofs.Seen.{parent-in, seen-of}
 use Rattle.guard.proofs.Answers.{done-in-range}
-use Rattle.guard.proofs.Stored.{told, session-stored, create-stored, delete-stored, alone-stored, role-stored, unmake-stored}
+use Rattle.guard.proofs.Stored.{told, session-stored, create-stored, delete-stored, alone-stored, role-stored, loss-stored, loses, no-loss}
 use Rattle.guard.proofs.Turns.{Held, held-none, held-more, held-length, held-roles, held-all, no-batch, unsound-batch, Stepped, refuses, does, opens-nothing, opens-by}
 use Rattle.guard.proofs.Tables.run.Statement.{statement}
 use Rattle.guard.proofs.Tables.run.Tie as tie
@@ -43,7 +43,7 @@ At P = P Inv-loop μ-loop
 
 -- ---- the places on the way of one request
 abbrev counted : At tie.After-sound-by → At tie.After-count
-counted c = c .before .before .before .before
+counted c = c .before .before .before .before .before .before
 
 abbrev entered : At tie.After-count → At tie.Start
 entered c = c .before .before .before .before
@@ -89,7 +89,7 @@ abbrev asked : At tie.After-seen → Request
 asked c = place c .before .request .result
 
 abbrev began : At tie.In-loop → At tie.After-count
-began c = counted (c .before .before .before .before)
+began c = counted (c .before .before .before)
 
 abbrev rows-of : At tie.In-loop → List ℕ
 rows-of c = rows-at (began c)
@@ -139,8 +139,8 @@ turned c u b step roles same k g K G =
 abbrev near : (c : At tie.Then3) → Placed (asked (c .before .before)) (place (c .before .before) .look-up .result)
 near c = place (c .before .before) .look-up .ensures
 
-many : (c : At tie.Then3) → Sound allCategories (tables (c .before .before))
-many c = sound-e _ (sure (c .before .before))
+many : (c : At tie.Then3) → Formed allCategories (tables (c .before .before))
+many c = formed-e _ (sure (c .before .before))
 
 zero : (c : At tie.Then3) → 0 ≡ number (ruleOf (asked (c .before .before))) (tables (c .before .before)) (asked (c .before .before))
 zero c = sym (c .if3 .taken) ∙ judged (c .before)
@@ -199,8 +199,11 @@ returns c = no-batch _ _ _ _ (sym (c .if1 .taken) ∙ c .before .count .ensures)
 keys-requires : tie.Need-keys-requires Inv-loop μ-loop
 keys-requires c κs = search needs
 
+grants-requires : tie.Need-grants-requires Inv-loop μ-loop
+grants-requires c κs = search needs
+
 sound-by-requires : tie.Need-sound-by-requires Inv-loop μ-loop
-sound-by-requires c κs = c .before .keys .ensures
+sound-by-requires c κs = (c .before .before .before .keys .ensures, c .before .before .grants .ensures)
 
 -- on unsound tables: where the answers are stored, behind the test
 abbrev filled : At tie.After-slice-known4 → At tie.After-fill
@@ -227,13 +230,10 @@ returns-2 c =
     let test = refusing fill in
     unsound-batch _ _ _ _ _ _ _ (sym (test .before .sound-by .ensures) ∙ not-true _ (test .if2 .taken)) (counted (test .before) .count .ensures) (fill .fill .ensures .1) (c .before .before .fill2 .ensures .1)
 
-grants-requires : tie.Need-grants-requires Inv-loop μ-loop
-grants-requires c κs = search needs
-
 loop-holds : tie.Need-loop-holds Inv-loop μ-loop
 loop-holds c =
-    let tested = c .before in
-    (omega arith, counted (tested .before) .count .ensures, held-none _ _ _ _ _ _ (sound-at tested) (tested .before .before .before .keys .ensures) (c .grants .ensures))
+    let grants = c .before .before .before .before in
+    (omega arith, counted (c .before) .count .ensures, held-none _ _ _ _ _ _ (sound-at c) (grants .before .keys .ensures) (grants .grants .ensures))
 
 request-requires : tie.Need-request-requires Inv-loop μ-loop
 request-requires c κs = batch-rows _ _ _ _ (rw (c .before .loop .inv .1) at (c .loop-test .taken))
@@ -299,19 +299,19 @@ enum-told : tie.Need-enum-told Inv-loop μ-loop
 enum-told c = search needs
 
 after-requires : tie.Need-after-requires Inv-loop μ-loop
-after-requires c κs = fits (c .before .before .before)
+after-requires c κs = fits (c .before .before .before .before)
 
-mul-t68 : tie.Need-mul-t68 Inv-loop μ-loop
-mul-t68 c = omega (arith, near (c .before .before .before .before) .seat .small)
+mul-t71 : tie.Need-mul-t71 Inv-loop μ-loop
+mul-t71 c = omega (arith, near (c .before .before .before .before .before) .seat .small)
 
 element-set-from-self : tie.Need-element-set-from-self Inv-loop μ-loop
-element-set-from-self c = near (c .before .before .before .before) .seat .small
+element-set-from-self c = near (c .before .before .before .before .before) .seat .small
 
 abbrev opened : At tie.After-role-told → At tie.Then3
-opened c = c .before .before .before .before .before .before
+opened c = c .before .before .before .before .before .before .before
 
 role-told-requires : tie.Need-role-told-requires Inv-loop μ-loop
-role-told-requires c κs = near (c .before .before .before .before .before) .entity .small
+role-told-requires c κs = near (c .before .before .before .before .before .before) .entity .small
 
 sub-roles : tie.Need-sub-roles Inv-loop μ-loop
 sub-roles c = omega arith
@@ -329,7 +329,7 @@ loop-again c =
     let d = opened c in
     let l = turn (d .before) .before .loop in
     turned (d .before) _ _
-    (does-so d _ (session-stored _ _ (zero d) _ (near d) (told-session (c .before .before .before)) _ (c .before .before .after .ensures)) _
+    (does-so d _ (session-stored _ _ (zero d) _ (near d) (sure (d .before .before)) _ (grants-at (d .before .before)) (told-session (c .before .before .before .before)) _ (c .before .before .after .ensures)) _
     (opens-by _ (sure (d .before .before)) _ (grants-at (d .before .before)) _ (fits d) _ (near d) _ (c .role-told .ensures)))
     _ (set-again (l .roles) (l .i) 255 (c .role-told .result)) _ _
     (keys-other _ _ (keys-at (d .before .before)) _ refl)
@@ -434,32 +434,45 @@ element-set-from-p2-2 c = near (c .before .before .before .before) .role .small
 put-requires-2 : tie.Need-put-requires-2 Inv-loop μ-loop
 put-requires-2 c κs = let d = c .before .before .before .before .before in (near d .role .small, grants-at (d .before .before) .long)
 
-without-role-requires : tie.Need-without-role-requires Inv-loop μ-loop
-without-role-requires c κs = search needs
+lost-requires : tie.Need-lost-requires Inv-loop μ-loop
+lost-requires c κs = search needs
+
+swept-requires : tie.Need-swept-requires Inv-loop μ-loop
+swept-requires c κs = search needs
+
+-- the places where a role has lost rights: the test, and before it where the role's sets are stored
+abbrev lossy : At tie.After-swept → At tie.Then6
+lossy c = c .before .before .before .before .before
+
+abbrev stored : At tie.Then6 → At tie.After-put2
+stored c = c .before .before .before
 
 loop-less-5 : tie.Need-loop-less-5 Inv-loop μ-loop
-loop-less-5 c = let d = role-done (c .before .before .before .before) in omega (arith, turn (d .before) .loop-test .taken)
+loop-less-5 c = let d = role-done (stored (lossy c)) in omega (arith, turn (d .before) .loop-test .taken)
 
 loop-again-5 : tie.Need-loop-again-5 Inv-loop μ-loop
 loop-again-5 c =
-    let is = c .before .before in
-    let put = is .before .before in
+    let lost = c .before .before .before .before in
+    let is = lossy c in
+    let put = stored is in
     let p = put .before .before in
     let d = role-done put in
-    rw (c .without-role .ensures)
-    (turned (d .before) _ _ (does-so d _ (unmake-stored _ _ (zero d) _ (near d) (is .if6 .taken) _ (p .after3 .ensures)) _ (role-silent d (told-role (p .before) .0))) _ refl _ _
-    (keys-other _ _ (keys-at (d .before .before)) _ refl)
-    (grants-role _ _ (grants-at (d .before .before)) _ (many d .manyRoles) _ (near d .role .small) _ _ (put .put2 .ensures) refl))
+    let sets = grants-role _ _ (grants-at (d .before .before)) _ (many d .manyRoles) _ (near d .role .small) _ _ (put .put2 .ensures) refl in
+    rw (c .swept .ensures)
+    (turned (d .before) _ _
+    (does-so d _ (loss-stored _ _ (zero d) _ (near d) (sure (d .before .before)) _ (p .after3 .ensures) _ sets _ (lost .lost .ensures) (loses _ (is .if6 .taken)) _ refl) _ (role-silent d (told-role (p .before) .0)))
+    _ refl _ _ (keys-other _ _ (keys-at (d .before .before)) _ refl) sets)
 
 loop-less-6 : tie.Need-loop-less-6 Inv-loop μ-loop
-loop-less-6 c = let d = role-done (c .before .before) in omega (arith, turn (d .before) .loop-test .taken)
+loop-less-6 c = let d = role-done (c .before .before .before) in omega (arith, turn (d .before) .loop-test .taken)
 
 loop-again-6 : tie.Need-loop-again-6 Inv-loop μ-loop
 loop-again-6 c =
-    let put = c .before .before in
+    let put = c .before .before .before in
     let p = put .before .before in
     let d = role-done put in
-    turned (d .before) _ _ (does-so d _ (role-stored _ _ (zero d) _ (near d) (sure (d .before .before)) (told-role (p .before)) (c .if6 .left) _ (p .after3 .ensures)) _ (role-silent d (told-role (p .before) .0))) _ refl _ _
+    let other = no-loss _ (c .if6 .left) in
+    turned (d .before) _ _ (does-so d _ (role-stored _ _ (zero d) _ (near d) (sure (d .before .before)) (told-role (p .before)) (other .0) (other .1) _ (p .after3 .ensures)) _ (role-silent d (told-role (p .before) .0))) _ refl _ _
     (keys-other _ _ (keys-at (d .before .before)) _ refl)
     (grants-role _ _ (grants-at (d .before .before)) _ (many d .manyRoles) _ (near d .role .small) _ _ (put .put2 .ensures) refl)
 
@@ -470,13 +483,13 @@ loop-again-7 : tie.Need-loop-again-7 Inv-loop μ-loop
 loop-again-7 c = turned (c .before) _ _ (refuses _ _ _ (sure (c .before .before)) (judged (c .before)) (c .if3 .left)) _ refl _ _ (keys-at (c .before .before)) (grants-at (c .before .before))
 
 same-length-3 : tie.Need-same-length-3 Inv-loop μ-loop
-same-length-3 c = held-length _ _ _ _ _ _ _ _ _ _ (c .before .loop .inv .2) (omega (arith, c .before .loop .inv .0, room (counted (c .before .before .before .before))))
+same-length-3 c = held-length _ _ _ _ _ _ _ _ _ _ (c .before .loop .inv .2) (omega (arith, c .before .loop .inv .0, room (counted (c .before .before .before))))
 
 same-length-4 : tie.Need-same-length-4 Inv-loop μ-loop
-same-length-4 c = held-roles _ _ _ _ _ _ _ _ _ _ (c .before .loop .inv .2) (omega (arith, c .before .loop .inv .0, space (counted (c .before .before .before .before))))
+same-length-4 c = held-roles _ _ _ _ _ _ _ _ _ _ (c .before .loop .inv .2) (omega (arith, c .before .loop .inv .0, space (counted (c .before .before .before))))
 
 returns-3 : tie.Need-returns-3 Inv-loop μ-loop
-returns-3 c = let n : c .before .loop .i ≡ counted (c .before .before .before .before) .count .result = omega (arith, c .loop-test .left, c .before .loop .inv .0) in held-all _ _ _ _ _ _ _ _ _ _ (c .before .loop .inv .2) (n ∙ c .before .loop .inv .1)
+returns-3 c = let n : c .before .loop .i ≡ counted (c .before .before .before) .count .result = omega (arith, c .loop-test .left, c .before .loop .inv .0) in held-all _ _ _ _ _ _ _ _ _ _ (c .before .loop .inv .2) (n ∙ c .before .loop .inv .1)
 
 pub run-spec : {M : Type 1} → statement M
 run-spec =
@@ -487,13 +500,13 @@ run-spec =
     count-requires
     returns
     keys-requires
+    grants-requires
     sound-by-requires
     fill-requires
     fill-requires-2
     same-length
     same-length-2
     returns-2
-    grants-requires
     loop-holds
     request-requires
     look-up-requires
@@ -517,7 +530,7 @@ run-spec =
     change-of-requires
     enum-told
     after-requires
-    mul-t68
+    mul-t71
     element-set-from-self
     role-told-requires
     sub-roles
@@ -549,7 +562,8 @@ run-spec =
     mul-p2-2
     element-set-from-p2-2
     put-requires-2
-    without-role-requires
+    lost-requires
+    swept-requires
     loop-less-5
     loop-again-5
     loop-less-6

@@ -47,19 +47,19 @@ end-at-root-requires : tie.Need-end-at-root-requires
 end-at-root-requires c κs = search needs
 
 returns-3 : tie.Need-returns-3
-returns-3 c = refuted _ _ _ (c .before .end-at-root .ensures) (λ h. chains-pass _ h _ (start (c .before .before .before) .pre)) (c .if3 .taken)
+returns-3 c = refuted _ _ _ (c .before .end-at-root .ensures) (λ h. chains-pass _ h _ (start (c .before .before .before) .pre .0)) (c .if3 .taken)
 
 have-own-keys-requires : tie.Need-have-own-keys-requires
 have-own-keys-requires c κs = search needs
 
 returns-4 : tie.Need-returns-4
-returns-4 c = refuted _ _ _ (c .before .have-own-keys .ensures) (λ h. names-pass _ h _ (start (c .before .before .before .before .before) .pre)) (c .if4 .taken)
+returns-4 c = refuted _ _ _ (c .before .have-own-keys .ensures) (λ h. names-pass _ h _ (start (c .before .before .before .before .before) .pre .0)) (c .if4 .taken)
 
 live-set-requires : tie.Need-live-set-requires
 live-set-requires c κs =
     let two = c .before .before .before .before in
     let at = start (two .before) in
-    keys-small (at .args .self) _ (at .pre) (met _ _ (two .before .entities-ok .ensures) (two .if2 .left))
+    keys-small (at .args .self) _ (at .pre .0) (met _ _ (two .before .entities-ok .ensures) (two .if2 .left))
 
 roles-ok-requires : tie.Need-roles-ok-requires
 roles-ok-requires c κs = search needs
@@ -69,7 +69,7 @@ returns-5 c =
     let roles = c .before .before in
     let live = roles .before .before in
     refuted _ _ _ (roles .roles-ok .ensures .0)
-    (λ h. roles-pass _ h _ (live .live-set .result) (start (live .before .before .before .before .before .before) .pre) (live .live-set .ensures))
+    (λ h. roles-pass _ h _ (live .live-set .result) (start (live .before .before .before .before .before .before) .pre .0) (live .live-set .ensures))
     (c .if5 .taken)
 
 labels-requires : tie.Need-labels-requires
@@ -94,8 +94,8 @@ returns-6 c =
     let begun = every-at _ (met _ _ (tested (one .before)) (one .if1 .left)) in
     let at = start entities in
     let passed = of-not-false (roles .roles-ok .result .ok) (five .if5 .left) in
-    decided (at .args .self) _ (labels .labels .result) (live .live-set .result) (roles .roles-ok .result .live)
-    (sized at) (at .pre) (live .live-set .ensures) (labels .labels .ensures) (roles .roles-ok .ensures .1 passed)
+    decided (at .args .self) _ _ (labels .labels .result) (live .live-set .result) (roles .roles-ok .result .live)
+    (sized at) (at .pre .0) (at .pre .1) (live .live-set .ensures) (labels .labels .ensures) (roles .roles-ok .ensures .1 passed)
     (begun 1)
     (begun 0)
     (met _ _ (entities .entities-ok .ensures) (two .if2 .left))

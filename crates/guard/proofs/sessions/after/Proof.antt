@@ -28,9 +28,12 @@ with16-requires c κs = search needs
 dropped-requires : tie.Need-dropped-requires
 dropped-requires c κs = search needs
 
+backed-requires : tie.Need-backed-requires
+backed-requires c κs = search needs
+
 returns-3 : tie.Need-returns-3
 unfolding sessionAfter
-returns-3 c = rw (c .before .match .keys4, c .dropped .ensures)
+returns-3 c = rw (c .before .before .match .keys4, ← c .before .dropped .ensures) (c .backed .ensures)
 
 with64-requires : tie.Need-with64-requires
 with64-requires c κs = search needs
@@ -67,6 +70,7 @@ after-spec =
     returns-2
     with16-requires
     dropped-requires
+    backed-requires
     returns-3
     with64-requires
     with64-requires-2

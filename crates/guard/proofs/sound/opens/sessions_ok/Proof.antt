@@ -3,21 +3,23 @@ use Prim.Native.Nat.{_-_, _≤_}
 use native.Mathlib.Omega.{arith}
 use mathlib.Core.Bool.{true}
 use mathlib.Core.Path.{_≡_}
+use mathlib.Core.List.{[], _∷_}
 use lib.ListN.{getD}
-use Rattle.bitset.specs.Tests.{all}
+use Rattle.bitset.specs.Tests.{every, all}
 use Rattle.bitset.specs.Tests.Laws.{all-none}
 use Rattle.guard.specs.Level.{sessionLevel}
 use Rattle.guard.specs.Tables.{noSession}
 use Rattle.guard.specs.Private.Tested.{sessionTest}
+use Rattle.guard.specs.Private.Scan.{opensGiven}
 use Rattle.guard.proofs.Soundness.Loops.{all-miss, all-next, all-done}
 use Rattle.guard.proofs.sound.opens.sessions_ok.Statement.{statement}
 use Rattle.guard.proofs.sound.opens.sessions_ok.Tie as tie
 
 abbrev Inv-loop : tie.InvT-loop
-Inv-loop labels roles edition sessions s₀ s = (s ≤ 16) × (all s (λ k. sessionTest labels roles edition (sessionLevel k) (getD sessions k noSession)) ≡ true)
+Inv-loop labels grants roles edition sessions s₀ s = (s ≤ 16) × (all s (λ k. every (sessionTest labels roles edition (sessionLevel k) (getD sessions k noSession) ∷ opensGiven grants (getD sessions k noSession) ∷ [])) ≡ true)
 
 abbrev μ-loop : tie.MeasureT-loop
-μ-loop labels roles edition sessions s₀ s = 16 - s
+μ-loop labels grants roles edition sessions s₀ s = 16 - s
 
 loop-holds : tie.Need-loop-holds Inv-loop μ-loop
 loop-holds c = (omega arith, all-none _)
@@ -31,11 +33,11 @@ mul-x c = omega arith
 array-copy-out-x : tie.Need-array-copy-out-x Inv-loop μ-loop
 array-copy-out-x c = omega arith
 
-session-ok-requires : tie.Need-session-ok-requires Inv-loop μ-loop
-session-ok-requires c κs = omega arith
+session-sound-requires : tie.Need-session-sound-requires Inv-loop μ-loop
+session-sound-requires c κs = omega arith
 
 returns : tie.Need-returns Inv-loop μ-loop
-returns c = all-miss _ (c .before .before .before .before .loop .s) _ _ (omega arith) (c .before .session-ok .ensures) (c .if1 .taken)
+returns c = all-miss _ (c .before .before .before .before .loop .s) _ _ (omega arith) (c .before .session-sound .ensures) (c .if1 .taken)
 
 add-s : tie.Need-add-s Inv-loop μ-loop
 add-s c = omega arith
@@ -44,7 +46,7 @@ loop-less : tie.Need-loop-less Inv-loop μ-loop
 loop-less c = omega arith
 
 loop-again : tie.Need-loop-again Inv-loop μ-loop
-loop-again c = (omega arith, all-next _ _ _ (c .before .before .before .before .loop .inv .1) (c .before .session-ok .ensures) (c .if1 .left))
+loop-again c = (omega arith, all-next _ _ _ (c .before .before .before .before .loop .inv .1) (c .before .session-sound .ensures) (c .if1 .left))
 
 returns-2 : tie.Need-returns-2 Inv-loop μ-loop
 returns-2 c = all-done _ _ _ (omega arith) (omega arith) (c .before .loop .inv .1)
@@ -59,7 +61,7 @@ sessions-ok-spec =
     cast-x
     mul-x
     array-copy-out-x
-    session-ok-requires
+    session-sound-requires
     returns
     add-s
     loop-less

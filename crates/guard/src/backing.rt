@@ -1,0 +1,80 @@
+// What backs an open: a role held that gives the right, read for an open for reading and write for one for writing.
+use crate::Role;
+use crate::Session;
+use crate::scan;
+use crate::scan::GRANTS;
+use crate::sessions;
+use crate::sizes::SESSIONS;
+ghost use mathlib.Core.Path.{_≡_};
+ghost use mathlib.Core.List.{map};
+ghost use Rattle.bitset.specs.Sets.{join, minus};
+ghost use Rattle.guard.specs.Private.Scan.{opensGiven, backedBy, keptBy, leftBy};
+
+// Whether each open of `s` is backed.
+pub fn is_backed(grants: &[u64; GRANTS], s: Session) -> bool
+    ensures { λ r. ⌜ r ≡ opensGiven (now (grants .entry)) s ⌝ }
+{
+    let rights = scan::gather(grants, s.roles);
+    bitset::contains64(rights.reads, s.reading) & bitset::contains64(rights.writes, s.writing)
+}
+
+// Session `s` with those of its opens that are backed.
+pub fn backed(grants: &[u64; GRANTS], s: Session) -> Session
+    ensures { λ n. ⌜ n ≡ backedBy (now (grants .entry)) s ⌝ }
+{
+    let rights = scan::gather(grants, s.roles);
+    let mut n = s;
+    n.reading = s.reading & rights.reads;
+    n.writing = s.writing & rights.writes;
+    n
+}
+
+// The entities on which a role lost read or write.
+pub fn lost(old: Role, new: Role) -> u64
+    ensures { λ e. ⌜ e ≡ join (minus (old .reads) (new .reads)) (minus (old .writes) (new .writes)) ⌝ }
+{
+    bitset::minus64(old.reads, new.reads) | bitset::minus64(old.writes, new.writes)
+}
+
+// Session `s` after role `r` lost rights on the entities of a set: nothing of it changes unless it holds the role and has one of
+// them open.
+fn kept(grants: &[u64; GRANTS], r: u32, lost: u64, s: Session) -> Session
+    ensures { λ n. ⌜ n ≡ keptBy (now (grants .entry)) r lost s ⌝ }
+{
+    if bitset::has16(s.roles, r) & ((s.reading | s.writing) & lost != 0) {
+        return backed(grants, s);
+    }
+    s
+}
+
+// .. and after it is unmade, when nobody holds it.
+fn left(grants: &[u64; GRANTS], r: u32, lost: u64, unmade: bool, s: Session) -> Session
+    ensures { λ n. ⌜ n ≡ leftBy (now (grants .entry)) r lost unmade s ⌝ }
+{
+    let n = kept(grants, r, lost, s);
+    if unmade {
+        return sessions::dropped(r, n);
+    }
+    n
+}
+
+// Every session so.
+pub fn swept(
+    sessions: [Session; SESSIONS],
+    grants: &[u64; GRANTS],
+    r: u32,
+    lost: u64,
+    unmade: bool,
+) -> [Session; SESSIONS]
+    ensures { λ n. ⌜ n ≡ map (leftBy (now (grants .entry)) r lost unmade) sessions ⌝ }
+{
+    let mut n = sessions;
+    let mut i = 0usize;
+    while i < SESSIONS {
+        let s = n[i];
+        let s2 = left(grants, r, lost, unmade, s);
+        n[i] = s2;
+        i += 1;
+    }
+    n
+}
