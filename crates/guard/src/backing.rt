@@ -3,18 +3,19 @@ use crate::Role;
 use crate::Session;
 use crate::scan;
 use crate::scan::GRANTS;
+use crate::scan::Rights;
 use crate::sessions;
 use crate::sizes::SESSIONS;
+ghost use Prim.Native.Nat.{ℕ};
 ghost use mathlib.Core.Path.{_≡_};
-ghost use mathlib.Core.List.{map};
+ghost use mathlib.Core.List.{List, map};
 ghost use Rattle.bitset.specs.Sets.{join, minus};
-ghost use Rattle.guard.specs.Private.Scan.{opensGiven, backedBy, keptBy, leftBy};
+ghost use Rattle.guard.specs.Private.Scan.{Gathered, opensGiven, backedBy, keptBy, leftBy};
 
-// Whether each open of `s` is backed.
-pub fn is_backed(grants: &[u64; GRANTS], s: Session) -> bool
-    ensures { λ r. ⌜ r ≡ opensGiven (now (grants .entry)) s ⌝ }
+// Whether each open of `s` is backed; `rights` are those of its roles.
+pub fn is_backed(rights: Rights, s: Session) -> bool
+    ensures { λ r. ⌜ ((grants : List ℕ) → Gathered grants (s .roles) rights → r ≡ opensGiven grants s) ⌝ }
 {
-    let rights = scan::gather(grants, s.roles);
     bitset::contains64(rights.reads, s.reading) & bitset::contains64(rights.writes, s.writing)
 }
 

@@ -114,6 +114,17 @@ pub fn gather(grants: &[u64; GRANTS], held: u16) -> Rights
     }
 }
 
+// The same, where `known` are the rights that the roles `before` give.
+pub fn regather(grants: &[u64; GRANTS], before: u16, known: Rights, held: u16) -> Rights
+    requires { ⌜ Gathered (now grants) before known ⌝ }
+    ensures { λ g. ⌜ Gathered (now (grants .entry)) held g ⌝ }
+{
+    if held == before {
+        return known;
+    }
+    gather(grants, held)
+}
+
 // `i` is a member. (`bitset::has64` would test that it is below 64.)
 pub fn is_in(set: u64, i: usize) -> bool
     requires { ⌜ i < entityCount ⌝ }

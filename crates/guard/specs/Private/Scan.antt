@@ -88,7 +88,7 @@ unfoldable pub opensGiven : List ℕ → Session → Bool
 opensGiven grants s =
     every (members (given grants (s .roles) 0) (s .reading) ∷ members (given grants (s .roles) 1) (s .writing) ∷ [])
 
--- s with those of its opens that are
+-- s with those of its opens that are backed
 unfoldable pub backedBy : List ℕ → Session → Session
 backedBy grants s =
     opening (keeping entityCount (given grants (s .roles) 0) (s .reading)) (keeping entityCount (given grants (s .roles) 1) (s .writing)) s

@@ -1,7 +1,7 @@
 // Sessions, and what they have open, by a label for each entity, grade and categories in one number, and by the sets of each role.
 ghost use Prim.Native.Nat.{ℕ, _<_};
 ghost use mathlib.Core.Path.{_≡_};
-ghost use mathlib.Core.List.{[], _∷_};
+ghost use mathlib.Core.List.{List, [], _∷_};
 ghost use lib.Dec.{leb, eqb};
 ghost use lib.ListN.{getD};
 ghost use Rattle.bitset.specs.Tests.{every, all};
@@ -9,14 +9,16 @@ ghost use Rattle.bitset.specs.Sets.{has};
 ghost use Rattle.guard.specs.Level.{sessionCount, entityCount, sessionLevel, entityLevel};
 ghost use Rattle.guard.specs.Tables.{noSession, noEntity};
 ghost use Rattle.guard.specs.Private.Tested.{packedLabel, labelNumber, dominated, members, openLevels, openLabels, sessionTest};
-ghost use Rattle.guard.specs.Private.Scan.{opensGiven};
+ghost use Rattle.guard.specs.Private.Scan.{Gathered, opensGiven};
 use super::record::is_empty_session;
 use super::record::session_in_range;
 use crate::Entity;
 use crate::Label;
 use crate::Session;
 use crate::backing;
+use crate::scan;
 use crate::scan::GRANTS;
+use crate::scan::Rights;
 use crate::sizes::EDITION_1;
 use crate::sizes::ENTITIES;
 use crate::sizes::LEVEL_SEATS;
@@ -164,24 +166,25 @@ fn session_ok(labels: &[u32; ENTITIES], roles: u16, edition: u8, level: u32, s: 
     labels_allowed(labels, s)
 }
 
-// Whether it is so, and each of its opens has the right behind it.
+// Whether it is so, and each of its opens has the right behind it; `rights` are those of its roles.
 fn session_sound(
     labels: &[u32; ENTITIES],
-    grants: &[u64; GRANTS],
+    rights: Rights,
     roles: u16,
     edition: u8,
     level: u32,
     s: Session,
 ) -> bool
     requires { ⌜ level < 4 ⌝ }
-    ensures { λ r. ⌜ r ≡ every (sessionTest (now (labels .entry)) roles edition level s ∷ opensGiven (now (grants .entry)) s ∷ []) ⌝ }
+    ensures { λ r. ⌜ ((grants : List ℕ) → Gathered grants (s .roles) rights → r ≡ every (sessionTest (now (labels .entry)) roles edition level s ∷ opensGiven grants s ∷ [])) ⌝ }
 {
     if !session_ok(labels, roles, edition, level, s) {
         return false;
     }
-    backing::is_backed(grants, s)
+    backing::is_backed(rights, s)
 }
 
+// Every session so. Neighbours mostly hold the same roles, and their rights are gathered once.
 pub fn sessions_ok(
     sessions: [Session; SESSIONS],
     labels: &[u32; ENTITIES],
@@ -191,10 +194,14 @@ pub fn sessions_ok(
 ) -> bool
     ensures { λ r. ⌜ r ≡ all sessionCount (λ s. every (sessionTest (now (labels .entry)) roles edition (sessionLevel s) (getD sessions s noSession) ∷ opensGiven (now (grants .entry)) (getD sessions s noSession) ∷ [])) ⌝ }
 {
+    let mut held: u16 = 0;
+    let mut rights = scan::gather(grants, 0);
     let mut s: u32 = 0;
     while s < SEAT_END {
         let x = sessions[s as usize];
-        if !session_sound(labels, grants, roles, edition, s / LEVEL_SEATS, x) {
+        rights = scan::regather(grants, held, rights, x.roles);
+        held = x.roles;
+        if !session_sound(labels, rights, roles, edition, s / LEVEL_SEATS, x) {
             return false;
         }
         s += 1;

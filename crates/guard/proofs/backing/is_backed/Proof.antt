@@ -5,9 +5,6 @@ use Rattle.guard.proofs.BackedOpens.{opens-given}
 use Rattle.guard.proofs.backing.is_backed.Statement.{statement}
 use Rattle.guard.proofs.backing.is_backed.Tie as tie
 
-gather-requires : tie.Need-gather-requires
-gather-requires c κs = search needs
-
 contains64-requires : tie.Need-contains64-requires
 contains64-requires c κs = search needs
 
@@ -15,9 +12,7 @@ contains64-requires-2 : tie.Need-contains64-requires-2
 contains64-requires-2 c κs = search needs
 
 returns : tie.Need-returns
-returns c =
-    opens-given _ _ _ (omega arith) (omega arith) (c .before .before .gather .ensures) _ _ (c .before .contains64 .ensures)
-    (c .contains642 .ensures)
+returns c grants G = opens-given grants _ _ (omega arith) (omega arith) G _ _ (c .before .contains64 .ensures) (c .contains642 .ensures)
 
 pub is-backed-spec : {M : Type 1} → statement M
-is-backed-spec = tie.close (tie.spec gather-requires contains64-requires contains64-requires-2 returns)
+is-backed-spec = tie.close (tie.spec contains64-requires contains64-requires-2 returns)
