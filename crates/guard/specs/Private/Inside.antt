@@ -108,7 +108,7 @@ pub record Seen (t : Tables) (q : Request) (v : View) : Type 0 where
 
 -- ---- what is stored where the answer is 0
 -- which records a kind changes: a session; an entity, with a role (create) or every role and session (delete); a role, with
--- every session (unmake)
+-- every session (revoke, unmake)
 unfoldable pub changeOf : ℕ → Change
 changeOf call =
     cond (leb call kind.close) ASession (cond (either (leb call kind.rename) (eqb call kind.share)) AnEntity ARole)
