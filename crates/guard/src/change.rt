@@ -3,7 +3,8 @@ use crate::kinds;
 ghost use mathlib.Core.Path.{_≡_};
 ghost use Rattle.guard.specs.Private.Inside.{changeOf};
 
-// The acting session; the entity (create also a role, delete every role and session); the role (revoke and unmake also every session).
+// The acting session; the entity (create also a role, delete every role and session); the role (revoke and unmake also every
+// session).
 pub enum Change {
     Session,
     Entity,
