@@ -14,34 +14,31 @@ use mathlib.Core.List.{List, [], _∷_, map}
 use native.Mathlib.Decide.{ℕ-discrete}
 use native.Mathlib.Nat.{add-zero}
 use native.Mathlib.Omega.{arith}
-use lib.Dec.{leb, eqb}
+use lib.Dec.{eqb}
 use lib.ListN.{length, getD, set, length-set, List·getD-map}
 use lib.Seq.{getD-set-same, getD-set-other}
 use borrow.Author.Tests.{eqb-true, eq-eqb}
 use Rattle.bitset.specs.Tests.{every, some}
-use Rattle.bitset.specs.Tests.Laws.{both, clash, is-false, not-of-false, of-not-true, every-i, every-at, some-i, some-e, some-no-i, some-cong, or-l, or-r, none-below}
+use Rattle.bitset.specs.Tests.Laws.{both, clash, is-false, not-of-false, of-not-true, every-i, every-at, some-i, some-e, some-no-i, or-l, or-r, none-below}
 use Rattle.bitset.specs.Sets.{has, contains, without, join}
 use Rattle.bitset.specs.Sets.Laws.{has-none, has-join, has-without, has-without-other, without-none}
-use Rattle.guard.specs.Level.{roleLevel, entityLevel, isRoot}
+use Rattle.guard.specs.Level.{isRoot}
 use Rattle.guard.specs.Told.{lowest}
-use Rattle.guard.specs.Tables.{noRole, noEntity, sessionAt, roleAt, entityAt, read, write, execute, own, rightsOf, roleFor, hasRight, isChild}
+use Rattle.guard.specs.Tables.{noRole, noEntity, entityAt, execute, hasRight, isChild}
 use Rattle.guard.specs.Chain.{reaches}
 use Rattle.guard.specs.Sound.{sound}
 use Rattle.guard.specs.Edits.{clearRights, setRights, putIn}
 use Rattle.guard.specs.Conditions.{nameTaken, hasChildren}
 use Rattle.guard.specs.Private.Tested.{keyOf}
-use Rattle.guard.specs.Private.Inside.{RightsOf}
-use Rattle.guard.specs.Private.Scan.{Keys, side, Grants, Granted, Cleared, gives, given, openedBy, Gathered, climbsBy, nameBy, childBy}
+use Rattle.guard.specs.Private.Scan.{Keys, side, Grants, Granted, Cleared, gives, given, climbsBy, nameBy, childBy}
 use Rattle.guard.specs.declared.Role.{Role}
 use Rattle.guard.specs.declared.Entity.{Entity}
 use Rattle.guard.specs.declared.Tables.{Tables}
 use Rattle.guard.specs.declared.Request.{Request}
-use Rattle.guard.specs.declared.scan.Rights.{Rights}
 use Rattle.guard.specs.declared.Told.{Told}
 use Rattle.guard.specs.declared.Told.the-variants.{By, None}
-use Rattle.guard.proofs.Laws.Rights.{contains-read, contains-write, contains-execute, contains-own}
-use Rattle.guard.proofs.Laws.Told.{lowest-at, lowest-none, lowest-cong, Gives, right-some, Opening}
-use Rattle.guard.proofs.Laws.Sound.{Formed, formed-e, parent-level}
+use Rattle.guard.proofs.Laws.Told.{lowest-at, lowest-none, lowest-cong}
+use Rattle.guard.proofs.Laws.Sound.{parent-level}
 use Rattle.guard.proofs.Soundness.Climb.{climbs-cong}
 use Rattle.guard.proofs.Soundness.Keys.{key-live, key-dead, parent-of-key}
 use Rattle.guard.proofs.Soundness.Whole.{numbers}

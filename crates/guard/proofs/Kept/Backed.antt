@@ -5,18 +5,18 @@
 --     backs-login .. backs-share            the rules
 -- Assumes nothing.
 use Prim.Native.Nat.{ℕ, _<_}
-use mathlib.Core.Path.{_≡_, refl, sym, ap, _∙_}
-use mathlib.Core.Bool.{Bool, true, false}
+use mathlib.Core.Path.{_≡_, refl, sym, _∙_}
+use mathlib.Core.Bool.{true}
 use mathlib.Core.List.{List, map}
 use native.Mathlib.Decide.{ℕ-discrete}
-use lib.ListN.{length, getD, set}
+use lib.ListN.{length, set}
 use Rattle.bitset.specs.Tests.Laws.{clash, of-not-false, either-no-l, or-l}
 use Rattle.bitset.specs.Sets.{has, contains, join, with}
 use Rattle.bitset.specs.Sets.Laws.{has-none, has-join, has-with-same, has-with-other, has-without, contains-has, has-contains}
 use Rattle.guard.specs.Tables.{noSession, noRole, sessionAt, roleAt, read, write, rightsOf, hasRight}
-use Rattle.guard.specs.Edits.{withSessions, withRoles, atSession, atRole, atEntity, eachSession, eachRole, takeRole, openReading, openWriting, closeBoth, putIn, setRights, addRights, clearRights, listUser, unlistUser, madeRole}
+use Rattle.guard.specs.Edits.{atSession, atRole, atEntity, eachSession, eachRole, takeRole, openReading, openWriting, closeBoth, putIn, setRights, addRights, clearRights, listUser, unlistUser}
 use Rattle.guard.specs.Conditions.{cannotOpen}
-use Rattle.guard.specs.Requests.{Rule, loggedIn, login, logout, take, drop, openr, openw, close, create, delete, rename, grant, revoke, list, unlist, make, unmake, share, unknown}
+use Rattle.guard.specs.Requests.{Rule, loggedIn, login, logout, take, drop, openr, openw, close, create, delete, rename, grant, revoke, list, unlist, make, unmake, share}
 use Rattle.guard.specs.declared.Session.{Session}
 use Rattle.guard.specs.declared.Role.{Role}
 use Rattle.guard.specs.declared.Tables.{Tables}
@@ -40,8 +40,8 @@ session-backed t x f ok backs new =
     set-each (λ s r. BackedBy (t .roles) r) 16 (t .sessions) noSession (ok .manySessions) x _ (λ s l ne. backs s l) (λ l. new l (backs x l))
 
 -- with nothing open
-nothing-backed : (roles : List Role) (live : Bool) (s : Session) → s .reading ≡ 0 → s .writing ≡ 0 → BackedBy roles s
-nothing-backed roles live s r w =
+nothing-backed : (roles : List Role) (s : Session) → s .reading ≡ 0 → s .writing ≡ 0 → BackedBy roles s
+nothing-backed roles s r w =
     record {
       reading = λ e l m. absurd (clash _ (rw r at m) (has-none e));
       writing = λ e l m. absurd (clash _ (rw w at m) (has-none e));
@@ -49,11 +49,11 @@ nothing-backed roles live s r w =
 
 pub backs-login : {width : ℕ} → KeepsBacked width login
 unfolding login loggedIn
-backs-login t q d = session-backed t (q .seat) _ (formed-e t (d .isSound)) (backed-e _ t (d .isSound)) (λ l old. nothing-backed _ true _ refl refl)
+backs-login t q d = session-backed t (q .seat) _ (formed-e t (d .isSound)) (backed-e _ t (d .isSound)) (λ l old. nothing-backed _ _ refl refl)
 
 pub backs-logout : {width : ℕ} → KeepsBacked width logout
 unfolding logout
-backs-logout t q d = session-backed t (q .seat) _ (formed-e t (d .isSound)) (backed-e _ t (d .isSound)) (λ l old. nothing-backed _ false _ refl refl)
+backs-logout t q d = session-backed t (q .seat) _ (formed-e t (d .isSound)) (backed-e _ t (d .isSound)) (λ l old. nothing-backed _ _ refl refl)
 
 -- with a role more
 taken-held : (held p r : ℕ) → has held r ≡ true → has (with held p) r ≡ true

@@ -6,7 +6,7 @@
 --     others-right, acting-alone     a change of one session leaves the rights of every other alone, so that no other loses an open
 -- Assumes nothing.
 use Prim.Native.Nat.{ℕ, _<_}
-use mathlib.Core.Path.{_≡_, refl, sym, ap, _∙_}
+use mathlib.Core.Path.{_≡_, sym, ap, _∙_}
 use mathlib.Core.Bool.{Bool, true, and-eq-true-iff}
 use mathlib.Core.List.{List}
 use lib.ListN.{length, getD, set, length-set}
