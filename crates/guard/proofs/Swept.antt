@@ -5,18 +5,18 @@
 -- Assumes nothing.
 use Prim.Native.Nat.{ℕ, _<_}
 use mathlib.Core.Path.{_≡_, refl, sym, ap, _∙_}
-use mathlib.Core.Bool.{Bool, true, false, not, cond}
+use mathlib.Core.Bool.{Bool, true, false, cond}
 use mathlib.Core.List.{List, [], _∷_}
 use mathlib.Core.Logic.{_⊎_, inl, inr}
 use native.Mathlib.Decide.{ℕ-discrete}
 use native.Mathlib.Omega.{arith}
 use lib.Bits.{bitAnd}
-use lib.Dec.{leb, eqb}
+use lib.Dec.{leb}
 use lib.ListN.{length, getD, set}
 use lib.Seq.{getD-set-same, getD-set-other}
 use borrow.Author.Tests.{eqb-true}
 use Rattle.bitset.specs.Tests.{every}
-use Rattle.bitset.specs.Tests.Laws.{clash, is-false, not-of-false, every-i, every-at, or-l, or-r, some-cong}
+use Rattle.bitset.specs.Tests.Laws.{clash, is-false, not-of-false, of-not-true, of-not-false, every-i, every-at, or-l, or-r, some-cong}
 use Rattle.bitset.specs.Sets.{has, contains, join, minus, without}
 use Rattle.bitset.specs.Sets.Laws.{has-none, has-meet, has-join, has-minus, has-without-other}
 use Rattle.bitset.specs.Sets.Keeping.{keeping-cong}
@@ -24,7 +24,7 @@ use Rattle.guard.specs.Level.{roleLevel, entityLevel}
 use Rattle.guard.specs.Tables.{noSession, noRole, sessionAt, roleAt, read, write, rightsOf, hasRight}
 use Rattle.guard.specs.Edits.{withRoles, withSessions, dropRole}
 use Rattle.guard.specs.Backed.{backed}
-use Rattle.guard.specs.Private.Scan.{Grants, backedBy, keptBy}
+use Rattle.guard.specs.Private.Scan.{Grants, backedBy, concerned, keptBy}
 use Rattle.guard.specs.declared.Session.{Session}
 use Rattle.guard.specs.declared.Role.{Role}
 use Rattle.guard.specs.declared.Tables.{Tables}
@@ -40,12 +40,11 @@ module _ (t : Tables) (r : ℕ) (p : Role) (small : r < 16) (long : length (t .r
   abbrev replaced : Tables
   replaced = withRoles t (set (t .roles) r p)
 
-  -- a session that holds r and has e open, on which r lost the right, is looked at
-  abbrev Looked : Session → Bool
-  Looked s = every (has (s .roles) r ∷ not (eqb (bitAnd (join (s .reading) (s .writing)) lost) 0) ∷ [])
-
-  looked : (s : Session) (e : ℕ) → has (s .roles) r ≡ true → has (join (s .reading) (s .writing)) e ≡ true → has lost e ≡ true → Looked s ≡ true
-  looked s e on opened gone = every-i _ (on, (not-of-false _ (is-false _ (λ z. none (eqb-true _ 0 z))), tt))
+  -- a session that holds r and has e open, on which r lost the right, is concerned
+  is-concerned : (s : Session) (e : ℕ) → has (s .roles) r ≡ true → has (join (s .reading) (s .writing)) e ≡ true → has lost e ≡ true
+      → concerned r lost s ≡ true
+  unfolding concerned
+  is-concerned s e on opened gone = every-i _ (on, (not-of-false _ (is-false _ (λ z. none (eqb-true _ 0 z))), tt))
     where
       none : bitAnd (join (s .reading) (s .writing)) lost ≡ 0 → ⊥
       none z = clash (has (bitAnd (join (s .reading) (s .writing)) lost) e) (has-meet (join (s .reading) (s .writing)) lost e ∙ rw (opened, gone)) (rw z (has-none e))
@@ -53,17 +52,14 @@ module _ (t : Tables) (r : ℕ) (p : Role) (small : r < 16) (long : length (t .r
   -- of the right at one of the two sets
   module _ (right : ℕ) (side : Role → ℕ) (same : (a : Role) (e : ℕ) → contains (rightsOf a e) right ≡ has (side a) e)
       (loses : (e : ℕ) → has (side (roleAt t r)) e ≡ true → has (side p) e ≡ false → has lost e ≡ true) where
-    still : (s : Session) (e : ℕ) → Looked s ≡ false → has (join (s .reading) (s .writing)) e ≡ true
+    still : (s : Session) (e : ℕ) → concerned r lost s ≡ false → has (join (s .reading) (s .writing)) e ≡ true
         → rightBy (t .roles) (s .roles) right e ≡ true → rightBy (set (t .roles) r p) (s .roles) right e ≡ true
     still s e passed opened =
         right-more (t .roles) (set (t .roles) r p) (s .roles) (s .roles) right e (λ k l on gives. (on, go k on gives (ℕ-discrete k r)))
       where
         keeps : has (s .roles) r ≡ true → has (side (roleAt t r)) e ≡ true → has (side p) e ≡ true
-        keeps on had = of-false (has (side p) e) (λ gone. clash _ (looked s e on opened (loses e had gone)) passed)
-          where
-            of-false : (b : Bool) → (b ≡ false → ⊥) → b ≡ true
-            of-false true f = refl
-            of-false false f = absurd (f refl)
+        keeps on had =
+            of-not-false _ (is-false _ (λ gone. clash _ (is-concerned s e on opened (loses e had (of-not-true (has (side p) e) gone))) passed))
 
         go : (k : ℕ) → has (s .roles) k ≡ true → contains (rightsOf (roleAt t k) e) right ≡ true → Dec (k ≡ r)
             → contains (rightsOf (roleIn (set (t .roles) r p) k) e) right ≡ true
@@ -82,7 +78,7 @@ module _ (t : Tables) (r : ℕ) (p : Role) (small : r < 16) (long : length (t .r
       ap (λ (n : ℕ). has n e) is-lost ∙ has-join _ _ e
       ∙ or-r (has (minus (roleAt t r .reads) (p .reads)) e) _ (has-minus (roleAt t r .writes) (p .writes) e ∙ rw (had, gone))
 
-  backs : (x : ℕ) → BackedBy (t .roles) (sessionAt t x) → Looked (sessionAt t x) ≡ false → BackedBy (set (t .roles) r p) (sessionAt t x)
+  backs : (x : ℕ) → BackedBy (t .roles) (sessionAt t x) → concerned r lost (sessionAt t x) ≡ false → BackedBy (set (t .roles) r p) (sessionAt t x)
   backs x ok passed =
       let s = sessionAt t x in
       record {
@@ -97,9 +93,9 @@ module _ (t : Tables) (r : ℕ) (p : Role) (small : r < 16) (long : length (t .r
   pub kept-is : Backed t → ((k : ℕ) → k < 16 → RoleOk (t .entities) k (roleIn (set (t .roles) r p) k)) → (grants : List ℕ) → Grants (set (t .roles) r p) grants
       → (x : ℕ) → x < 16 → backed replaced x ≡ keptBy grants r lost (sessionAt t x)
   unfolding keptBy
-  kept-is ok roles grants G x l = go (Looked (sessionAt t x)) refl
+  kept-is ok roles grants G x l = go (concerned r lost (sessionAt t x)) refl
     where
-      go : (b : Bool) → Looked (sessionAt t x) ≡ b → backed replaced x ≡ cond b (backedBy grants (sessionAt t x)) (sessionAt t x)
+      go : (b : Bool) → concerned r lost (sessionAt t x) ≡ b → backed replaced x ≡ cond b (backedBy grants (sessionAt t x)) (sessionAt t x)
       go true m = sym (backed-by replaced roles grants G x)
       go false m = stays replaced x (backs x (ok x l) m)
 

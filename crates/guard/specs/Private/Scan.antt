@@ -93,11 +93,13 @@ unfoldable pub backedBy : List ℕ → Session → Session
 backedBy grants s =
     opening (keeping entityCount (given grants (s .roles) 0) (s .reading)) (keeping entityCount (given grants (s .roles) 1) (s .writing)) s
 
--- s after role r lost rights on the entities of a set: those of its opens that are backed, where it holds the role and has one of
--- them open
+-- s can lose an open where role r lost rights on the entities of a set: it holds the role and has one of them open
+unfoldable pub concerned : ℕ → ℕ → Session → Bool
+concerned r lost s = every (has (s .roles) r ∷ not (eqb (bitAnd (join (s .reading) (s .writing)) lost) 0) ∷ [])
+
+-- s then: where it can, those of its opens that are backed
 unfoldable pub keptBy : List ℕ → ℕ → ℕ → Session → Session
-keptBy grants r lost s =
-    cond (every (has (s .roles) r ∷ not (eqb (bitAnd (join (s .reading) (s .writing)) lost) 0) ∷ [])) (backedBy grants s) s
+keptBy grants r lost s = cond (concerned r lost s) (backedBy grants s) s
 
 -- .. and without the role, where it is unmade
 unfoldable pub leftBy : List ℕ → ℕ → ℕ → Bool → Session → Session

@@ -5,7 +5,7 @@ use mathlib.Core.List.{[], _∷_}
 use mathlib.Core.Path.{_≡_, refl, sym, _∙_}
 use Rattle.bitset.specs.Tests.{every}
 use Rattle.bitset.specs.Sets.{join}
-use Rattle.guard.specs.Private.Scan.{keptBy}
+use Rattle.guard.specs.Private.Scan.{concerned, keptBy}
 use Rattle.guard.specs.declared.Session.{Session}
 use Rattle.guard.proofs.Soundness.Tests.{and-two}
 use Rattle.guard.proofs.backing.kept.Statement.{statement}
@@ -28,11 +28,11 @@ backed-requires : tie.Need-backed-requires
 backed-requires c κs = search needs
 
 returns : tie.Need-returns
-unfolding keptBy join
+unfolding concerned keptBy join
 returns c = yes-kept _ _ _ (c .before .before .before .has16 .ensures) _ _ _ (c .before .if1 .taken) (c .backed .ensures)
 
 returns-2 : tie.Need-returns-2
-unfolding keptBy join
+unfolding concerned keptBy join
 returns-2 c = no-kept _ _ _ (c .before .before .has16 .ensures) _ _ _ (c .if1 .left) refl
 
 pub kept-spec : {M : Type 1} → statement M
