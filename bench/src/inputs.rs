@@ -266,6 +266,7 @@ impl Day {
                 1 + random.below(15)
             },
             shared: 0,
+            junior: 0,
         }
     }
 

@@ -24,10 +24,11 @@ pub const UNUSED: Request = Request {
     cats: MOST,
     rights: MOST,
     shared: MOST,
+    junior: MOST,
 };
 
 // Fields by number, in the order of the record: call 0, seat 1, user 2, role 3, entity 4, parent 5, kind 6, name 7, grade
-// 8, cats 9, rights 10, shared 11.
+// 8, cats 9, rights 10, shared 11, junior 12.
 pub fn with(mut q: Request, field: u64, n: u32) -> Request {
     match field {
         0 => q.call = n,
@@ -41,7 +42,8 @@ pub fn with(mut q: Request, field: u64, n: u32) -> Request {
         8 => q.grade = n,
         9 => q.cats = n,
         10 => q.rights = n,
-        _ => q.shared = n,
+        11 => q.shared = n,
+        _ => q.junior = n,
     }
     q
 }
@@ -59,7 +61,8 @@ pub fn field(q: Request, n: usize) -> u32 {
         8 => q.grade,
         9 => q.cats,
         10 => q.rights,
-        _ => q.shared,
+        11 => q.shared,
+        _ => q.junior,
     }
 }
 
@@ -74,7 +77,8 @@ fn fields(call: u32) -> u64 {
         10 | 11 => 0xa431, // grant, revoke: seat, role, entity, rights
         12 | 13 => 0x231, // list, unlist: seat, role, user
         16 => 0xb41, // share: seat, entity, shared
-        _ => 0x1, // logout, and a number of none of the seventeen: seat
+        17 | 18 => 0xc31, // join, unjoin: seat, role (the senior), junior
+        _ => 0x1, // logout, and a number of none of the nineteen: seat
     }
 }
 
@@ -94,7 +98,7 @@ fn call(w: text::Word) -> u64 {
         return w.number;
     }
     let n = text::place(0, w.key);
-    if n < 17 { n as u64 } else { 4294967296 }
+    if n < 19 { n as u64 } else { 4294967296 }
 }
 
 // The request whose word begins at `from`: it ends the statement.
@@ -148,7 +152,9 @@ fn by_method(t: Tables, q: Request) -> Outcome {
         14 => t.make(q.seat, q.role),
         15 => t.unmake(q.seat, q.role),
         16 => t.share(q.seat, q.entity, q.shared),
-        17..=4294967295 => t.step(q),
+        17 => t.join(q.seat, q.role, q.junior),
+        18 => t.unjoin(q.seat, q.role, q.junior),
+        19..=4294967295 => t.step(q),
     }
 }
 

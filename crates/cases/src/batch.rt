@@ -1,4 +1,4 @@
-// A batch: requests gathered as rows of twelve numbers, in the order of a request's fields, and run.
+// A batch: requests gathered as rows of thirteen numbers, in the order of a request's fields, and run.
 use crate::ask;
 use crate::show;
 use guard::Request;
@@ -8,7 +8,7 @@ ghost use Prim.Native.Nat.{_≤_};
 
 // Rows, and how many numbers they have. There is room for 256 rows.
 pub struct Batch {
-    pub rows: [u32; 3072],
+    pub rows: [u32; 3328],
     pub count: usize,
 }
 
@@ -22,12 +22,12 @@ pub struct Done {
 // So many rows more, as long as there is room.
 pub fn with(mut b: Batch, q: Request, times: u64) -> Batch {
     let mut at = b.count;
-    let mut left = times % 257 * 12;
+    let mut left = times % 257 * 13;
     while left > 0 {
-        if 3072 <= at {
+        if 3328 <= at {
             return b;
         }
-        b.rows[at] = ask::field(q, at % 12);
+        b.rows[at] = ask::field(q, at % 13);
         at += 1;
         b.count = at;
         left -= 1;
@@ -36,8 +36,8 @@ pub fn with(mut b: Batch, q: Request, times: u64) -> Batch {
 }
 
 // The first `n` numbers of the rows, with so much room for answers and for roles.
-fn ran(t: Tables, rows: [u32; 3072], n: usize, room: usize, told: usize) -> Done
-    requires { ⌜ n ≤ 3072 ⌝ }
+fn ran(t: Tables, rows: [u32; 3328], n: usize, room: usize, told: usize) -> Done
+    requires { ⌜ n ≤ 3328 ⌝ }
     requires { ⌜ room ≤ 256 ⌝ }
     requires { ⌜ told ≤ 256 ⌝ }
 {
@@ -68,7 +68,7 @@ pub fn told(name: &[u8], t: Tables, b: Batch, n: u64, room: u64, told: u64) -> T
     let rows = b.rows;
     let room = (room % 257) as usize;
     let told = (told % 257) as usize;
-    let r = ran(t, rows, (n % 3073) as usize, room, told);
+    let r = ran(t, rows, (n % 3329) as usize, room, told);
     show::word(name);
     show::say(show::COLON);
     show::changes(t, r.tables);

@@ -17,10 +17,10 @@ fn past(field: u64) -> u32 {
 }
 
 // The answers with one field past its range, or at the last number: seat, user, role, entity, parent, kind, name, grade,
-// cats, rights, shared.
+// cats, rights, shared, junior.
 fn each(t: Tables, q: Request, most: bool) {
     let mut field = 1u64;
-    while field <= 11 {
+    while field <= 12 {
         let n = if most { 4294967295 } else { past(field) };
         show::form(show::ONE, show::one(ask::answer(t, q, field, n)));
         field += 1;

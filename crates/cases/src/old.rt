@@ -1,12 +1,14 @@
-// Tables in records of the old width, in which a set of categories has eight bits, an entity no mark and the tables no edition: of
-// a larger set the lower eight are left.
+// Tables in records of the old width, in which a set of categories has eight bits, a role no juniors, an entity no mark and the tables
+// no edition: of a larger set the lower eight are left.
 use guard::Entity;
 use guard::Label;
+use guard::Role;
 use guard::Session;
 use guard::Tables;
 use guard::User;
 use guard::old::OldEntity;
 use guard::old::OldLabel;
+use guard::old::OldRole;
 use guard::old::OldSession;
 use guard::old::OldTables;
 use guard::old::OldUser;
@@ -38,6 +40,17 @@ fn session(x: Session) -> OldSession {
     }
 }
 
+fn role(x: Role) -> OldRole {
+    OldRole {
+        live: x.live,
+        users: x.users,
+        reads: x.reads,
+        writes: x.writes,
+        executes: x.executes,
+        owns: x.owns,
+    }
+}
+
 fn entity(x: Entity) -> OldEntity {
     let label = label(x.label);
     OldEntity {
@@ -49,26 +62,29 @@ fn entity(x: Entity) -> OldEntity {
     }
 }
 
-// Every user, seat and entity is that of number 0.
+// Every user, seat, role and entity is that of number 0.
 fn begun(t: Tables) -> OldTables {
     let u = user(t.users[0]);
     let s = session(t.sessions[0]);
+    let r = role(t.roles[0]);
     let e = entity(t.entities[0]);
     OldTables {
         users: [u; 16],
         sessions: [s; 16],
-        roles: t.roles,
+        roles: [r; 16],
         entities: [e; 64],
     }
 }
 
-// The user, the seat and the entity of number `i`, counted round, are those of `t`.
+// The user, the seat, the role and the entity of number `i`, counted round, are those of `t`.
 fn with(mut old: OldTables, t: Tables, i: usize) -> OldTables {
     let j = i % 16;
     let u = user(t.users[j]);
     old.users[j] = u;
     let s = session(t.sessions[j]);
     old.sessions[j] = s;
+    let r = role(t.roles[j]);
+    old.roles[j] = r;
     let e = entity(t.entities[i % 64]);
     old.entities[i % 64] = e;
     old

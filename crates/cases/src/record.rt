@@ -1,6 +1,6 @@
-// Records as rows of eight numbers: a record's fields in order, and 0 behind them. A set is its number, a live mark is 1. The
-// kinds of records are numbered seat 0, user 1, role 2 and entity 3; what the tables hold beside them, the edition, is a record
-// of kind 4.
+// Records as rows of eight numbers: a record's fields in the order of their words (`text::place`), and 0 behind them. A set is its
+// number, a live mark is 1. The kinds of records are numbered seat 0, user 1, role 2 and entity 3; what the tables hold beside them,
+// the edition, is a record of kind 4.
 use guard::Entity;
 use guard::Role;
 use guard::Session;
@@ -45,7 +45,7 @@ fn role_row(x: Role) -> [u64; 8] {
         x.writes,
         x.executes,
         x.owns,
-        0,
+        x.juniors as u64,
         0,
     ]
 }
@@ -105,6 +105,7 @@ fn with_role(mut x: Role, field: usize, n: u64) -> Role {
         3 => x.writes = n,
         4 => x.executes = n,
         5 => x.owns = n,
+        6 => x.juniors = (n % 65536) as u16,
         _ => {}
     }
     x

@@ -115,7 +115,7 @@ impl State {
         let room = text::next(s, n.end);
         let told = text::next(s, room.end);
         let fits = (room.decimal & (room.number <= 256)) & (told.decimal & (told.number <= 256));
-        if !((n.decimal & (n.number <= 3072)) & fits) {
+        if !((n.decimal & (n.number <= 3328)) & fits) {
             return self.unread();
         }
         let t = batch::told(

@@ -119,7 +119,7 @@ pub fn form(k: usize, row: [u64; 8]) {
         \x20 seat @|  user @|  role @|  entity @|  tables|\
         *, user @, label @/@, roles #, reading #, writing #\n|\
         , ceiling @, clearance @/@\n|\
-        *, users #, reads #, writes #, executes #, owns #\n|\
+        *, users #, reads #, writes #, executes #, owns #, juniors #\n|\
         *, kind @, parent @, name @, label @/@, shared @\n|\
         , edition @\n|\
         \n|; broken|; past|; most|; unsound @\n| @|:|; answers| line @: not read, or not done\n|by the method @, role @, by step @, role @;| by role @|; roles| -|";

@@ -64,7 +64,7 @@ impl State {
     pub fn new() -> State {
         let t = nobody();
         let batch = Batch {
-            rows: [0; 3072],
+            rows: [0; 3328],
             count: 0,
         };
         State {

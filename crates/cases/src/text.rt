@@ -10,13 +10,13 @@ pub struct Word {
     pub end: usize,
 }
 
-// Where groups of words begin in the list of `place`, which begins with the seventeen requests: the verbs; the kinds of
+// Where groups of words begin in the list of `place`, which begins with the nineteen requests: the verbs; the kinds of
 // records, seat, user, role, entity and tables; and the fields of each kind's records, eight places for each.
-pub const VERBS: usize = 17;
+pub const VERBS: usize = 19;
 
-pub const KINDS: usize = 33;
+pub const KINDS: usize = 35;
 
-pub const RECORDS: usize = 38;
+pub const RECORDS: usize = 40;
 
 fn wide(b: u8) -> u64 {
     b as u64
@@ -45,12 +45,12 @@ fn seen(s: Spot, b: u8) -> Spot {
 // literal for all: a check takes longer over literals than over anything else here.)
 pub fn place(from: usize, key: u64) -> usize {
     let list: &[u8] =
-        b"login logout take drop openr openw close create delete rename grant revoke list unlist make unmake share \
+        b"login logout take drop openr openw close create delete rename grant revoke list unlist make unmake share join unjoin \
         clear keep back fresh old set with show say compare gather run do ask broken edge \
         seat user role entity tables \
         live user grade cats roles reading writing - \
         ceiling grade cats - - - - - \
-        live users reads writes executes owns - - \
+        live users reads writes executes owns juniors - \
         live kind parent name grade cats shared - \
         edition - - - - - - - ";
     let mut s = Spot { word: 0, before: 0 };

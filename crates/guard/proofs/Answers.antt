@@ -1,6 +1,6 @@
 -- The number that a rule answers on sound tables, as `judge` decides it.
 --     out-of-range, by-rule         2 where a number is out of range, else the first refusal of the rule at the request's number
---     unknown-number                2 for a number that is none of the seventeen
+--     none-of, past-kinds           a number that is none of the first k; 2 for one that is none of the nineteen
 --     done-in-range, done-allowed   0 is answered where all numbers are in range and no refusal applies
 --     keeper-met, keeper-unmet      10 and 12 before other refusals
 -- Assumes nothing.
@@ -22,6 +22,15 @@ use Rattle.guard.specs.declared.Request.{Request}
 use Rattle.guard.proofs.Laws.Refusals.{first-past, first-here}
 use Rattle.guard.proofs.Ranges.{rule-at, fits-none}
 
+-- n is none of the first k numbers
+abbrev pub NoneOf : ℕ → ℕ → Type 0
+NoneOf n zero = Unit {0}
+NoneOf n (suc k) = NoneOf n k × (n ≡ k → ⊥)
+
+pub none-of : (n k : ℕ) → NoneOf n k → k ≤ n
+none-of n zero h = omega arith
+none-of n (suc k) h = omega (arith, none-of n k (h .0), h .1)
+
 module _ (t : Tables) (q : Request) where
   out : inRanges q ≡ false → number (ruleOf q) t q ≡ 2
   unfolding number first inRangesIn
@@ -37,17 +46,8 @@ module _ (t : Tables) (q : Request) where
   pub by-rule : (n k : ℕ) → q .call ≡ k → inRanges q ≡ true → n ≡ first (getD rules k unknown .refusals t q) → n ≡ number (ruleOf q) t q
   by-rule n k c h same = sym (inside h ∙ rw (rule-at q k c) (sym same))
 
-  -- n is none of the first k numbers
-  abbrev NoneOf : ℕ → ℕ → Type 0
-  NoneOf n zero = Unit {0}
-  NoneOf n (suc k) = NoneOf n k × (n ≡ k → ⊥)
-
-  past : (n k : ℕ) → NoneOf n k → k ≤ n
-  past n zero h = omega arith
-  past n (suc k) h = omega (arith, past n k (h .0), h .1)
-
-  pub unknown-number : NoneOf (q .call) requestCount → 2 ≡ number (ruleOf q) t q
-  unknown-number h = out-of-range (sym (fits-none q (past (q .call) requestCount h)))
+  pub past-kinds : requestCount ≤ q .call → 2 ≡ number (ruleOf q) t q
+  past-kinds h = out-of-range (sym (fits-none q h))
 
   module _ (z : 0 ≡ number (ruleOf q) t q) where
     pub done-in-range : inRanges q ≡ true

@@ -2,7 +2,6 @@
 --     keys-set, keys-other                  an entity stored, with its key; no entity stored
 --     grants-role, grants-each, grants-other      a role stored, with its sets; an entity taken out of every role; no role stored
 --     put-four, cleared-all, Sides, sides-..      the code's stores into `grants`
---     Gathering, gathering-..               the rights gathered role by role
 --     Giver, giver-..                       the lowest role held that gives a right
 --     way-of                                the climb by keys is "reaches"
 --     name-of, child-of                     a name among the children, a child
@@ -30,7 +29,7 @@ use Rattle.guard.specs.Sound.{sound}
 use Rattle.guard.specs.Edits.{clearRights, setRights, putIn}
 use Rattle.guard.specs.Conditions.{nameTaken, hasChildren}
 use Rattle.guard.specs.Private.Tested.{keyOf}
-use Rattle.guard.specs.Private.Scan.{Keys, side, Grants, Granted, Cleared, gives, given, climbsBy, nameBy, childBy}
+use Rattle.guard.specs.Private.Scan.{Keys, side, Grants, Granted, Cleared, hasBy, gives, climbsBy, nameBy, childBy}
 use Rattle.guard.specs.declared.Role.{Role}
 use Rattle.guard.specs.declared.Entity.{Entity}
 use Rattle.guard.specs.declared.Tables.{Tables}
@@ -43,7 +42,7 @@ use Rattle.guard.proofs.Soundness.Climb.{climbs-cong}
 use Rattle.guard.proofs.Soundness.Keys.{key-live, key-dead, parent-of-key}
 use Rattle.guard.proofs.Soundness.Whole.{numbers}
 use Rattle.guard.proofs.Ranges.{span}
-use Rattle.guard.proofs.Sweeps.{mapped, mapped-all, mapped-length}
+use Rattle.guard.proofs.Sweeps.{mapped, mapped-length, mapped-at, mapped-past}
 
 -- ---- keys along the stores
 module _ (old : List Entity) (keys : List ℕ) (K : Keys old keys) (new : List Entity) where
@@ -73,6 +72,10 @@ unfolding side clearRights setRights putIn contains
 side-cleared e p k c =
     span (λ (n : ℕ). side (clearRights e p) n ≡ without (side p n) e) 0 4 (refl, (refl, (refl, (refl, tt)))) k (omega arith) c
 
+juniors-cleared : (e : ℕ) (p : Role) → p .juniors ≡ clearRights e p .juniors
+unfolding clearRights setRights
+juniors-cleared e p = refl
+
 none-cleared : (e : ℕ) → clearRights e noRole ≡ noRole
 unfolding clearRights setRights putIn contains
 none-cleared e = rw (without-none e)
@@ -80,11 +83,15 @@ none-cleared e = rw (without-none e)
 module _ (old : List Role) (grants : List ℕ) (G : Grants old grants) (now : List Role) where
   pub grants-other : now ≡ old → Grants now grants
   grants-other h =
-      record { long = G .long; at = λ r k b c. G .at r k b c ∙ ap (λ (l : List Role). side (getD l r noRole) k) (sym h) }
+      record {
+        long = G .long;
+        at = λ r k b c. G .at r k b c ∙ ap (λ (l : List Role). side (getD l r noRole) k) (sym h);
+        ties = λ r b. G .ties r b ∙ ap (λ (l : List Role). getD l r noRole .juniors) (sym h);
+      }
 
   pub grants-role : length old ≡ 16 → (r : ℕ) → r < 16 → (p : Role) (new : List ℕ) → Granted grants r p new → now ≡ set old r p
       → Grants now new
-  grants-role long r l p new h same = record { long = h .long; at = λ n k b c. go n k b c (ℕ-discrete n r) }
+  grants-role long r l p new h same = record { long = h .long; at = λ n k b c. go n k b c (ℕ-discrete n r); ties = λ n b. tie n b (ℕ-discrete n r) }
     where
       at : (n k : ℕ) → side (getD (set old r p) n noRole) k ≡ side (getD now n noRole) k
       at n k = ap (λ (l : List Role). side (getD l n noRole) k) (sym same)
@@ -92,13 +99,22 @@ module _ (old : List Role) (grants : List ℕ) (G : Grants old grants) (now : Li
       go : (n k : ℕ) → n < 16 → k < 4 → Dec (n ≡ r) → getD new (4 * n + k) 0 ≡ side (getD now n noRole) k
       go n k b c (yes s) = rw s (h .at k c ∙ ap (λ (x : Role). side x k) (sym (getD-set-same old r p noRole (rw long l))) ∙ at r k)
       go n k b c (no s) =
-          h .others (4 * n + k) (λ e. s (sym (fourth n k c) ∙ e))
+          h .others (4 * n + k) (λ e. s (sym (fourth n k c) ∙ e)) (λ e. omega arith)
           ∙ G .at n k b c
           ∙ ap (λ (x : Role). side x k) (sym (getD-set-other old r n p noRole s))
           ∙ at n k
 
+      tie : (n : ℕ) → n < 16 → Dec (n ≡ r) → getD new (64 + n) 0 ≡ getD now n noRole .juniors
+      tie n b (yes s) =
+          rw s (h .tie ∙ ap (λ (x : Role). x .juniors) (sym (getD-set-same old r p noRole (rw long l))) ∙ ap (λ (l : List Role). getD l r noRole .juniors) (sym same))
+      tie n b (no s) =
+          h .others (64 + n) (λ e. omega arith) (λ e. s (omega arith))
+          ∙ G .ties n b
+          ∙ ap (λ (x : Role). x .juniors) (sym (getD-set-other old r n p noRole s))
+          ∙ ap (λ (l : List Role). getD l n noRole .juniors) (sym same)
+
   pub grants-each : (e : ℕ) (new : List ℕ) → Cleared grants e new → now ≡ map (clearRights e) old → Grants now new
-  grants-each e new h same = record { long = h .long; at = at }
+  grants-each e new h same = record { long = h .long; at = at; ties = tie }
     where
       at : (n k : ℕ) → n < 16 → k < 4 → getD new (4 * n + k) 0 ≡ side (getD now n noRole) k
       at n k b c =
@@ -108,8 +124,16 @@ module _ (old : List Role) (grants : List ℕ) (G : Grants old grants) (now : Li
           ∙ ap (λ (p : Role). side p k) (sym (ap (getD (map (clearRights e) old) n) (sym (none-cleared e)) ∙ List·getD-map (clearRights e) old n noRole))
           ∙ ap (λ (l : List Role). side (getD l n noRole) k) (sym same)
 
--- the four sets of a role, stored one after the other
-module _ (g : List ℕ) (r : ℕ) (p : Role) (long : length g ≡ 64) (l : r < 16) where
+      tie : (n : ℕ) → n < 16 → getD new (64 + n) 0 ≡ getD now n noRole .juniors
+      tie n b =
+          h .ties (64 + n) (omega arith)
+          ∙ G .ties n b
+          ∙ juniors-cleared e (getD old n noRole)
+          ∙ ap (λ (p : Role). p .juniors) (sym (ap (getD (map (clearRights e) old) n) (sym (none-cleared e)) ∙ List·getD-map (clearRights e) old n noRole))
+          ∙ ap (λ (l : List Role). getD l n noRole .juniors) (sym same)
+
+-- the four sets of a role and its juniors, stored one after the other
+module _ (g : List ℕ) (r : ℕ) (p : Role) (long : length g ≡ 80) (l : r < 16) where
   abbrev g1 : List ℕ
   g1 = set g (4 * r) (p .reads)
 
@@ -122,8 +146,14 @@ module _ (g : List ℕ) (r : ℕ) (p : Role) (long : length g ≡ 64) (l : r < 1
   abbrev g4 : List ℕ
   g4 = set g3 (4 * r + 3) (p .owns)
 
+  abbrev g5 : List ℕ
+  g5 = set g4 (64 + r) (p .juniors)
+
   abbrev At : ℕ → Type 0
-  At k = getD g4 (4 * r + k) 0 ≡ side p k
+  At k = getD g5 (4 * r + k) 0 ≡ side p k
+
+  past-5 : (j : ℕ) → (j ≡ 64 + r → ⊥) → getD g5 j 0 ≡ getD g4 j 0
+  past-5 j ne = getD-set-other g4 (64 + r) j (p .juniors) 0 ne
 
   past-4 : (j : ℕ) → (j ≡ 4 * r + 3 → ⊥) → getD g4 j 0 ≡ getD g3 j 0
   past-4 j ne = getD-set-other g3 (4 * r + 3) j (p .owns) 0 ne
@@ -137,7 +167,8 @@ module _ (g : List ℕ) (r : ℕ) (p : Role) (long : length g ≡ 64) (l : r < 1
   first : At 0
   unfolding side
   first =
-      past-4 (4 * r + 0) (λ e. omega arith)
+      past-5 (4 * r + 0) (λ e. omega arith)
+      ∙ past-4 (4 * r + 0) (λ e. omega arith)
       ∙ past-3 (4 * r + 0) (λ e. omega arith)
       ∙ past-2 (4 * r + 0) (λ e. omega arith)
       ∙ rw (add-zero (4 * r)) (getD-set-same g (4 * r) (p .reads) 0 (omega arith))
@@ -145,123 +176,81 @@ module _ (g : List ℕ) (r : ℕ) (p : Role) (long : length g ≡ 64) (l : r < 1
   second : At 1
   unfolding side
   second =
-      past-4 (4 * r + 1) (λ e. omega arith)
+      past-5 (4 * r + 1) (λ e. omega arith)
+      ∙ past-4 (4 * r + 1) (λ e. omega arith)
       ∙ past-3 (4 * r + 1) (λ e. omega arith)
       ∙ getD-set-same g1 (4 * r + 1) (p .writes) 0 (simp length-set (omega arith))
 
   third : At 2
   unfolding side
-  third = past-4 (4 * r + 2) (λ e. omega arith) ∙ getD-set-same g2 (4 * r + 2) (p .executes) 0 (simp length-set (omega arith))
+  third =
+      past-5 (4 * r + 2) (λ e. omega arith)
+      ∙ past-4 (4 * r + 2) (λ e. omega arith)
+      ∙ getD-set-same g2 (4 * r + 2) (p .executes) 0 (simp length-set (omega arith))
 
   last : At 3
   unfolding side
-  last = getD-set-same g3 (4 * r + 3) (p .owns) 0 (simp length-set (omega arith))
+  last = past-5 (4 * r + 3) (λ e. omega arith) ∙ getD-set-same g3 (4 * r + 3) (p .owns) 0 (simp length-set (omega arith))
 
-  pub put-four : Granted g r p g4
-  put-four =
+  pub put-five : Granted g r p g5
+  put-five =
       record {
         long = simp length-set long;
         at = λ k c. span At 0 4 (first, (second, (third, (last, tt)))) k (omega arith) c;
-        others = λ j ne.
-            past-4 j (λ e. ne (omega arith))
+        tie = getD-set-same g4 (64 + r) (p .juniors) 0 (simp length-set (omega arith));
+        others = λ j ne tie.
+            past-5 j tie
+            ∙ past-4 j (λ e. ne (omega arith))
             ∙ past-3 j (λ e. ne (omega arith))
             ∙ past-2 j (λ e. ne (omega arith))
             ∙ getD-set-other g (4 * r) j (p .reads) 0 (λ e. ne (omega arith));
       }
 
--- an entity taken out of every set
-pub cleared-all : (old new : List ℕ) (e : ℕ) → length old ≡ 64 → new ≡ mapped (λ (s : ℕ). without s e) 64 old → Cleared old e new
+-- an entity taken out of every set of entities
+pub cleared-all : (old new : List ℕ) (e : ℕ) → length old ≡ 80 → new ≡ mapped (λ (s : ℕ). without s e) 64 old → Cleared old e new
 cleared-all old new e long h =
-    let all : new ≡ map (λ (s : ℕ). without s e) old = h ∙ rw (← long) (mapped-all (λ (s : ℕ). without s e) old) in
     record {
       long = ap length h ∙ mapped-length (λ (s : ℕ). without s e) 64 old ∙ long;
-      each = λ j l. ap (λ (s : List ℕ). getD s j 0) all ∙ ap (getD (map (λ (s : ℕ). without s e) old) j) (sym (without-none e)) ∙ List·getD-map (λ (s : ℕ). without s e) old j 0;
+      each = λ j l. ap (λ (s : List ℕ). getD s j 0) h ∙ mapped-at (λ (s : ℕ). without s e) 64 old j 0 l (omega arith);
+      ties = λ j l. ap (λ (s : List ℕ). getD s j 0) h ∙ mapped-past (λ (s : ℕ). without s e) 64 old j 0 l;
     }
 
--- the sets of the first r roles
+-- the sets and the juniors of the first r roles
 pub record Sides (roles : List Role) (r : ℕ) (g : List ℕ) : Type 0 where
-  pub long : length g ≡ 64
+  pub long : length g ≡ 80
   pub at : (n k : ℕ) → n < r → k < 4 → getD g (4 * n + k) 0 ≡ side (getD roles n noRole) k
+  pub ties : (n : ℕ) → n < r → getD g (64 + n) 0 ≡ getD roles n noRole .juniors
 
 module _ (roles : List Role) where
-  pub sides-none : (g : List ℕ) → length g ≡ 64 → Sides roles 0 g
-  sides-none g h = record { long = h; at = λ n k l c. absurd (none-below n l) }
+  pub sides-none : (g : List ℕ) → length g ≡ 80 → Sides roles 0 g
+  sides-none g h = record { long = h; at = λ n k l c. absurd (none-below n l); ties = λ n l. absurd (none-below n l) }
 
   pub sides-more : (r : ℕ) (g new : List ℕ) → Sides roles r g → Granted g r (getD roles r noRole) new → r < 16 → Sides roles (r + 1) new
-  sides-more r g new h put l = record { long = put .long; at = λ n k b c. go n k b c (ℕ-discrete n r) }
+  sides-more r g new h put l = record { long = put .long; at = λ n k b c. go n k b c (ℕ-discrete n r); ties = λ n b. tie n b (ℕ-discrete n r) }
     where
       go : (n k : ℕ) → n < r + 1 → k < 4 → Dec (n ≡ r) → getD new (4 * n + k) 0 ≡ side (getD roles n noRole) k
       go n k b c (yes s) = rw s (put .at k c)
-      go n k b c (no s) = put .others (4 * n + k) (λ e. s (sym (fourth n k c) ∙ e)) ∙ h .at n k (omega (arith, s)) c
+      go n k b c (no s) = put .others (4 * n + k) (λ e. s (sym (fourth n k c) ∙ e)) (λ e. omega arith) ∙ h .at n k (omega (arith, s)) c
+
+      tie : (n : ℕ) → n < r + 1 → Dec (n ≡ r) → getD new (64 + n) 0 ≡ getD roles n noRole .juniors
+      tie n b (yes s) = rw s (put .tie)
+      tie n b (no s) = put .others (64 + n) (λ e. omega arith) (λ e. s (omega arith)) ∙ h .ties n (omega (arith, s))
 
   pub sides-all : (r : ℕ) (g : List ℕ) → 16 ≤ r → Sides roles r g → Grants roles g
-  sides-all r g l h = record { long = h .long; at = λ n k b c. h .at n k (omega arith) c }
-
--- ---- the rights that the roles held give
--- what is gathered so far, and what the roles that are left give
-abbrev pub Gathering : List ℕ → ℕ → ℕ → ℕ → ℕ → Type 0
-Gathering grants held k left got = (e : ℕ) → (has got e || given grants left k e) ≡ given grants held k e
-
-module _ (grants : List ℕ) (held k : ℕ) where
-  pub gathering-none : Gathering grants held k held 0
-  gathering-none e = rw (has-none e)
-
-  given-next : (left r e : ℕ) → r < 16 → has left r ≡ true
-      → given grants left k e ≡ (has (getD grants (4 * r + k) 0) e || given grants (without left r) k e)
-  unfolding given
-  given-next left r e l on = both _ _ forth back
-    where
-      at : ℕ → ℕ → Bool
-      at s n = every (has s n ∷ has (getD grants (4 * n + k) 0) e ∷ [])
-
-      forth : some 16 (at left) ≡ true → (has (getD grants (4 * r + k) 0) e || some 16 (at (without left r))) ≡ true
-      forth h =
-          let (n, b, met) = some-e 16 _ h in
-          go n b met (ℕ-discrete n r)
-        where
-          go : (n : ℕ) → n < 16 → at left n ≡ true → Dec (n ≡ r) → (has (getD grants (4 * r + k) 0) e || some 16 (at (without left r))) ≡ true
-          go n b met (yes s) = or-l _ _ (rw s at (every-at _ met 1))
-          go n b met (no s) =
-              or-r (has (getD grants (4 * r + k) 0) e) _
-              (some-i 16 _ n b (every-i _ (has-without-other left r n s ∙ every-at _ met 0, (every-at _ met 1, tt))))
-
-      back : (has (getD grants (4 * r + k) 0) e || some 16 (at (without left r))) ≡ true → some 16 (at left) ≡ true
-      back h = go (has (getD grants (4 * r + k) 0) e) refl (some 16 (at (without left r))) refl
-        where
-          go : (a : Bool) → has (getD grants (4 * r + k) 0) e ≡ a → (b : Bool) → some 16 (at (without left r)) ≡ b → some 16 (at left) ≡ true
-          go true a b s = some-i 16 _ r l (every-i _ (on, (a, tt)))
-          go false a true s =
-              let (n, b, met) = some-e 16 _ s in
-              some-i 16 _ n b (every-i _ (has-without left r n (every-at _ met 0) .0, (every-at _ met 1, tt)))
-          go false a false s = absurd (clash _ h (rw (a, s)))
-
-  pub gathering-next : (left got r : ℕ) → r < 16 → has left r ≡ true → Gathering grants held k left got
-      → Gathering grants held k (without left r) (join got (getD grants (4 * r + k) 0))
-  gathering-next left got r l on h e =
-      ap (λ (b : Bool). b || given grants (without left r) k e) (has-join got (getD grants (4 * r + k) 0) e)
-      ∙ or-assoc (has got e) (has (getD grants (4 * r + k) 0) e) (given grants (without left r) k e)
-      ∙ ap (λ (b : Bool). has got e || b) (sym (given-next left r e l on))
-      ∙ h e
-
-  pub gathering-all : (got left : ℕ) → left ≡ 0 → Gathering grants held k left got → (e : ℕ) → has got e ≡ given grants held k e
-  unfolding given every
-  gathering-all got left z h e = rw (z, some-no-i 16 _ (λ r b. none r), or-false (has got e)) at (h e)
-    where
-      none : (r : ℕ) → every (has 0 r ∷ has (getD grants (4 * r + k) 0) e ∷ []) ≡ false
-      none r = rw (has-none r)
+  sides-all r g l h = record { long = h .long; at = λ n k b c. h .at n k (omega arith) c; ties = λ n b. h .ties n (omega arith) }
 
 -- the lowest role of those left that gives the right: it is found, or the search goes on without it, or there is none
 module _ (grants : List ℕ) (k e : ℕ) where
   abbrev pub Giver : ℕ → Told
   Giver left = lowest 16 (gives grants left k e)
 
-  pub giver-found : (left r : ℕ) → r < 16 → has left r ≡ true → ((i : ℕ) → i < r → has left i ≡ false) → has (getD grants (4 * r + k) 0) e ≡ true
+  pub giver-found : (left r : ℕ) → r < 16 → has left r ≡ true → ((i : ℕ) → i < r → has left i ≡ false) → hasBy grants k e r ≡ true
       → Giver left ≡ By r
   unfolding every
   giver-found left r l on none met =
-      lowest-at 16 (gives grants left k e) r l (every-i (has left r ∷ has (getD grants (4 * r + k) 0) e ∷ []) (on, (met, tt))) (λ i m. rw (none i m))
+      lowest-at 16 (gives grants left k e) r l (every-i (has left r ∷ hasBy grants k e r ∷ []) (on, (met, tt))) (λ i m. rw (none i m))
 
-  pub giver-next : (left r : ℕ) → has (getD grants (4 * r + k) 0) e ≡ false → Giver (without left r) ≡ Giver left
+  pub giver-next : (left r : ℕ) → hasBy grants k e r ≡ false → Giver (without left r) ≡ Giver left
   giver-next left r lacks = lowest-cong 16 _ _ (λ i l. go i (ℕ-discrete i r))
     where
       go : (i : ℕ) → Dec (i ≡ r) → gives grants (without left r) k e i ≡ gives grants left k e i

@@ -9,20 +9,21 @@ use mathlib.Core.Bool.{true}
 use mathlib.Core.List.{List, [], _∷_}
 use Rattle.guard.specs.Label.{allCategories}
 use Rattle.guard.specs.Sound.{soundIn, sound}
-use Rattle.guard.specs.Requests.{grant, revoke, list, unlist, make, unmake, share, unknown, rules}
+use Rattle.guard.specs.Requests.{grant, revoke, list, unlist, make, unmake, share, join, unjoin, unknown, rules}
 use Rattle.guard.specs.Step.{nextIn, next, runIn, run}
 use Rattle.guard.specs.declared.Tables.{Tables}
 use Rattle.guard.specs.declared.Request.{Request}
 use Rattle.guard.proofs.Laws.Sound.{formed-e, backed-e, sound-i}
 use Rattle.guard.proofs.Laws.Step.{next-by, Each, each-rule}
 use Sessions.{Keeps, keeps-login, keeps-logout, keeps-take, keeps-drop, keeps-openr, keeps-openw, keeps-close}
-use Backed.{KeepsBacked, backs-login, backs-logout, backs-take, backs-drop, backs-openr, backs-openw, backs-close, backs-create, backs-delete, backs-rename, backs-grant, backs-revoke, backs-list, backs-unlist, backs-make, backs-unmake, backs-share}
-use Roles.{keeps-grant, keeps-revoke, keeps-list, keeps-unlist, keeps-make, keeps-unmake}
+use Backed.{KeepsBacked, backs-login, backs-logout, backs-take, backs-drop, backs-openr, backs-openw, backs-close, backs-create, backs-delete, backs-rename, backs-grant, backs-revoke, backs-list, backs-unlist, backs-make, backs-unmake, backs-share, backs-join, backs-unjoin}
+use Roles.{keeps-grant, keeps-revoke, keeps-list, keeps-unlist, keeps-make, keeps-unmake, keeps-join, keeps-unjoin}
 use Rename.{keeps-rename}
 use Delete.{keeps-delete}
 use Create.{keeps-create}
 use Share.{keeps-share}
 pub mod EachStays
+pub mod Ties
 pub mod Sessions
 pub mod Roles
 pub mod Entities
@@ -36,8 +37,8 @@ each-keeps : (width : ℕ) → Each (Keeps width) rules
 unfolding rules
 each-keeps width = (keeps-login, (keeps-logout, (keeps-take, (keeps-drop, (keeps-openr, (keeps-openw, (keeps-close, (keeps-create, (keeps-delete, (keeps-rename, more))))))))))
   where
-    more : Each (Keeps width) (grant ∷ revoke ∷ list ∷ unlist ∷ make ∷ unmake ∷ share ∷ [])
-    more = (keeps-grant, (keeps-revoke, (keeps-list, (keeps-unlist, (keeps-make, (keeps-unmake, (keeps-share, tt)))))))
+    more : Each (Keeps width) (grant ∷ revoke ∷ list ∷ unlist ∷ make ∷ unmake ∷ share ∷ join ∷ unjoin ∷ [])
+    more = (keeps-grant, (keeps-revoke, (keeps-list, (keeps-unlist, (keeps-make, (keeps-unmake, (keeps-share, (keeps-join, (keeps-unjoin, tt)))))))))
 
 keeps-unknown : (width : ℕ) → Keeps width unknown
 unfolding unknown
@@ -47,8 +48,8 @@ each-backs : (width : ℕ) → Each (KeepsBacked width) rules
 unfolding rules
 each-backs width = (backs-login, (backs-logout, (backs-take, (backs-drop, (backs-openr, (backs-openw, (backs-close, (backs-create, (backs-delete, (backs-rename, more))))))))))
   where
-    more : Each (KeepsBacked width) (grant ∷ revoke ∷ list ∷ unlist ∷ make ∷ unmake ∷ share ∷ [])
-    more = (backs-grant, (backs-revoke, (backs-list, (backs-unlist, (backs-make, (backs-unmake, (backs-share, tt)))))))
+    more : Each (KeepsBacked width) (grant ∷ revoke ∷ list ∷ unlist ∷ make ∷ unmake ∷ share ∷ join ∷ unjoin ∷ [])
+    more = (backs-grant, (backs-revoke, (backs-list, (backs-unlist, (backs-make, (backs-unmake, (backs-share, (backs-join, (backs-unjoin, tt)))))))))
 
 backs-unknown : (width : ℕ) → KeepsBacked width unknown
 unfolding unknown

@@ -3,6 +3,8 @@
 -- Edition: what it decides and what not, of Requests, Sound and Step).
 pub mod Label
 pub mod Pigeons
+pub mod Below
+pub mod Juniors
 pub mod Chain
 pub mod Rights
 pub mod Sound
@@ -12,6 +14,8 @@ pub mod Requests
 pub mod Step
 pub mod Told
 pub mod Backed
+pub mod Ties
 pub mod SameRequest
 pub mod Edition
 pub mod Morning
+pub mod DeepTies

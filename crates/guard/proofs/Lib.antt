@@ -11,6 +11,8 @@ pub mod BackedOpens
 pub mod Taking
 pub mod Filling
 pub mod Granting
+pub mod Ties
+pub mod TiesAsked
 pub mod Given
 pub mod Swept
 pub mod Columns

@@ -11,7 +11,7 @@
 use Prim.Native.Nat.{ℕ, zero, suc, _+_, _≤_, _<_}
 use mathlib.Core.Path.{_≡_, refl, sym, ap, _∙_}
 use mathlib.Core.Bool.{Bool, true, false, _&&_, and-true, and-false}
-use mathlib.Core.List.{List, map}
+use mathlib.Core.List.{List, [], _∷_, map}
 use mathlib.Core.Logic.{inl, inr}
 use native.Mathlib.Decide.{ℕ-discrete}
 use native.Mathlib.Omega.{arith}
@@ -24,7 +24,7 @@ use Rattle.guard.specs.Level.{userCount, sessionCount, roleCount, entity
 use Rattle.guard.specs.Label.{topGrade, allCategories, labelInRangeIn}
 use Rattle.guard.specs.Tables.{container, sharedMark, allRights}
 use Rattle.guard.specs.Sound.{topName}
-use Rattle.guard.specs.Requests.{Rule, requestCount, fieldInRangeIn, rules, unknown, ruleOf, login, logout, take, drop, openr, openw, close, create, delete, rename, grant, revoke, list, unlist, make, unmake, share}
+use Rattle.guard.specs.Requests.{Rule, requestCount, fieldInRangeIn, rules, unknown, ruleOf, login, logout, take, drop, openr, openw, close, create, delete, rename, grant, revoke, list, unlist, make, unmake, share, join as joining, unjoin}
 use Rattle.guard.specs.Step.{inRangesIn}
 use Rattle.guard.specs.Kind as kind
 use Rattle.guard.specs.Private.Inside.{asksWay, asksName, asksRights, OfEntity}
@@ -48,7 +48,7 @@ span P low (suc k) (here, others) n l h = go (ℕ-discrete n low) (λ m j. span 
     go (yes e) more = rw e here
     go (no e) more = more (omega (arith, e)) (omega arith)
 
-past : (k n : ℕ) → k ≤ n → (n ≡ k → ⊥) → suc k ≤ n
+pub past : (k n : ℕ) → k ≤ n → (n ≡ k → ⊥) → suc k ≤ n
 past k n h d = omega (arith, d)
 
 pub past-nine : (n : ℕ) → 7 ≤ n → (n ≡ 7 → ⊥) → (n ≡ 8 → ⊥) → (n ≡ 9 → ⊥) → 10 ≤ n
@@ -122,6 +122,10 @@ module _ (q : Request) where
   pub fits-share : q .call ≡ kind.share → (ltb (q .seat) sessionCount && (ltb (q .entity) entityCount && leb (q .shared) sharedMark)) ≡ inRanges q
   unfolding rules share fieldInRangeIn every
   fits-share c = sym (ranges-at 16 c ∙ simp and-true)
+
+  pub fits-tie : 17 ≤ q .call → q .call < 19 → (ltb (q .seat) sessionCount && (ltb (q .role) roleCount && ltb (q .junior) roleCount)) ≡ inRanges q
+  unfolding rules joining unjoin fieldInRangeIn every
+  fits-tie l h = by-span _ 17 2 (simp and-true, (simp and-true, tt)) l h
 
   pub fits-none : requestCount ≤ q .call → false ≡ inRanges q
   unfolding inRangesIn unknown fieldInRangeIn every
@@ -202,6 +206,13 @@ module _ (q : Request) where
     pub in-share : q .call ≡ kind.share → (q .seat < sessionCount) × (q .entity < entityCount) × (q .shared ≤ sharedMark)
     unfolding rules share fieldInRangeIn
     in-share c = let met = every-at _ (of-ranges 16 c) in (ltb-true _ _ (met 0), ltb-true _ _ (met 1), leb-true _ _ (met 2))
+
+    -- join and unjoin
+    pub in-tie : 17 ≤ q .call → q .call < 19 → (q .seat < sessionCount) × (q .role < roleCount) × (q .junior < roleCount)
+    unfolding every
+    in-tie l h =
+        let met = every-at (ltb (q .seat) sessionCount ∷ ltb (q .role) roleCount ∷ ltb (q .junior) roleCount ∷ []) (simp and-true (fits-tie l h ∙ ok)) in
+        (ltb-true _ _ (met 0), ltb-true _ _ (met 1), ltb-true _ _ (met 2))
 
     pub record InCreate : Type 0 where
       pub seat : q .seat < sessionCount

@@ -9,5 +9,6 @@ pub mod Cases
 pub mod EntityFacts
 pub mod Keys
 pub mod Grants
+pub mod Ties
 pub mod Opens
 pub mod Whole

@@ -2,30 +2,29 @@
 --     Told, told, loses, no-loss      which kinds a change stands for, and which take rights away
 --     session-stored, create-stored, delete-stored, alone-stored, role-stored, loss-stored
 -- Assumes nothing.
-use Prim.Native.Nat.{ℕ, _≤_, _<_}
+use Prim.Native.Nat.{ℕ, _+_, _≤_, _<_}
 use mathlib.Core.Path.{_≡_, refl, sym, ap, subst, _∙_}
 use mathlib.Core.Bool.{Bool, true, false, cond, _||_}
 use mathlib.Core.List.{List, map}
-use mathlib.Core.Logic.{_⊎_, inl, inr}
+use mathlib.Core.Logic.{_⊎_, inl, inr, ⊎-elim}
 use native.Mathlib.Decide.{decLt, ℕ-discrete}
 use native.Mathlib.Omega.{arith}
 use lib.Dec.{leb, eqb}
 use lib.ListN.{getD, set, length-map}
 use lib.Seq.{getD-set-same}
-use borrow.Author.Tests.{leb-true, leb-false, eqb-true, eqb-false, eq-eqb}
+use borrow.Author.Tests.{leb-true, leb-false, eqb-true, eqb-false}
 use Rattle.bitset.specs.Tests.{either}
-use Rattle.bitset.specs.Tests.Laws.{clash, of-not-false, or-l, or-r}
-use Rattle.bitset.specs.Sets.{join, minus}
+use Rattle.bitset.specs.Tests.Laws.{clash, of-not-false, either-e, either-no-l, either-no-r}
 use Rattle.guard.specs.Label.{allCategories}
 use Rattle.guard.specs.Tables.{noSession, noRole, sessionAt, roleAt, entityAt}
 use Rattle.guard.specs.Sound.{sound}
-use Rattle.guard.specs.Edits.{withSessions, withRoles, withEntities, atSession, atRole, atEntity, eachSession, eachRole, dropRole, closeBoth, removeRights, clearRights, listUser, unlistUser}
+use Rattle.guard.specs.Edits.{withSessions, withRoles, withEntities, atSession, atRole, atEntity, eachSession, eachRole, dropRole, closeBoth, removeRights, clearRights, listUser, unlistUser, tieJunior, untieJunior}
 use Rattle.guard.specs.Backed.{backed, endUnbacked}
-use Rattle.guard.specs.Requests.{Rule, rules, ruleOf, login, logout, take, drop, openr, openw, close, create, delete, rename, grant, revoke, list, unlist, make, unmake, share}
+use Rattle.guard.specs.Requests.{Rule, rules, ruleOf, login, logout, take, drop, openr, openw, close, create, delete, rename, grant, revoke, list, unlist, make, unmake, share, join as joining, unjoin}
 use Rattle.guard.specs.Step.{inRangesIn}
 use Rattle.guard.specs.Kind as kind
-use Rattle.guard.specs.Private.Inside.{number, Placed, changeOf, OfEntity, sessionAfter, entityAfter, usersAfter, roleAfter, owning}
-use Rattle.guard.specs.Private.Scan.{Grants, backedBy, keptBy, leftBy}
+use Rattle.guard.specs.Private.Inside.{number, Placed, changeOf, OfEntity, endsOpens, sessionAfter, entityAfter, usersAfter, juniorsAfter, roleAfter, owning}
+use Rattle.guard.specs.Private.Scan.{Grants, backedBy, Lost, keptBy, leftBy}
 use Rattle.guard.specs.Private.InForce.{inRanges}
 use Rattle.guard.specs.declared.Session.{Session}
 use Rattle.guard.specs.declared.Role.{Role}
@@ -36,15 +35,15 @@ use Rattle.guard.specs.declared.change.Change.{Change}
 use Rattle.guard.specs.declared.change.Change.the-variants.{Session as ASession, Entity as AnEntity, Role as ARole}
 use Rattle.guard.specs.declared.look.Places.{Places}
 use Rattle.guard.proofs.Laws.Refusals.{unmet}
-use Rattle.guard.proofs.Laws.Sound.{RoleOk, Formed, formed-e, backed-e}
+use Rattle.guard.proofs.Laws.Sound.{RoleOk, TiesOk, Formed, formed-e, backed-e}
 use Rattle.guard.proofs.Laws.Step.{DoneIn}
 use Rattle.guard.proofs.Laws.Backed.{ended-is, acting-alone}
 use Rattle.guard.proofs.Kept.EachStays.{map-each}
-use Rattle.guard.proofs.Kept.Roles.{revoked-formed, unmade-formed}
+use Rattle.guard.proofs.Kept.Roles.{revoked-formed, unmade-formed, untied-formed}
 use Rattle.guard.proofs.Given.{backed-by}
 use Rattle.guard.proofs.Swept.{kept-is, unmade-is}
 use Rattle.guard.proofs.Granting.{granted, revoked, owned}
-use Rattle.guard.proofs.Ranges.{span, is-nine, rule-at, fits-none, in-login, in-logout, in-take, in-drop, in-openr, in-openw, in-close, in-create, in-delete, in-rename, in-grant, in-revoke, in-list, in-unlist, in-make, in-unmake, in-share}
+use Rattle.guard.proofs.Ranges.{span, past, is-nine, rule-at, fits-none, in-login, in-logout, in-take, in-drop, in-openr, in-openw, in-close, in-create, in-delete, in-rename, in-grant, in-revoke, in-list, in-unlist, in-make, in-unmake, in-share, in-tie}
 use Rattle.guard.proofs.Answers.{done-in-range, done-allowed}
 
 -- ---- which kinds a change stands for
@@ -67,26 +66,30 @@ told-of n = go (leb n 6) refl (leb n 9) refl (eqb n 16) refl
 pub told : (c d : Change) (n : ℕ) → d ≡ changeOf n → d ≡ c → Told c n
 told c d n h k = subst (λ (x : Change). Told x n) (sym h ∙ k) (told-of n)
 
--- revoke and unmake take rights away, and no other kind
-pub loses : (n : ℕ) → (eqb n 11 || eqb n 15) ≡ true → (n ≡ 11) ⊎ (n ≡ 15)
-loses n h = go (eqb n 11) refl h
-  where
-    go : (a : Bool) → eqb n 11 ≡ a → (a || eqb n 15) ≡ true → (n ≡ 11) ⊎ (n ≡ 15)
-    go true e h = inl (eqb-true n 11 e)
-    go false e h = inr (eqb-true n 15 h)
+-- revoke, unmake and unjoin take rights away, and no other kind
+pub loses : (n : ℕ) → endsOpens n ≡ true → (n ≡ 11) ⊎ ((n ≡ 15) ⊎ (n ≡ 18))
+unfolding endsOpens
+loses n h = ⊎-elim (λ k. ⊎-elim (λ e. inl (eqb-true n 11 e)) (λ e. inr (inl (eqb-true n 15 e))) (either-e _ _ k)) (λ e. inr (inr (eqb-true n 18 e))) (either-e _ _ h)
 
-pub no-loss : (n : ℕ) → (eqb n 11 || eqb n 15) ≡ false → (n ≡ 11 → ⊥) × (n ≡ 15 → ⊥)
-no-loss n h = (λ e. clash _ (or-l (eqb n 11) (eqb n 15) (eq-eqb n 11 e)) h, λ e. clash _ (or-r (eqb n 11) (eqb n 15) (eq-eqb n 15 e)) h)
+pub no-loss : (n : ℕ) → endsOpens n ≡ false → (n ≡ 11 → ⊥) × (n ≡ 15 → ⊥) × (n ≡ 18 → ⊥)
+unfolding endsOpens
+no-loss n h =
+    let two = either-no-l _ _ h in
+    (eqb-false n 11 (either-no-l _ _ two), eqb-false n 15 (either-no-r _ _ two), eqb-false n 18 (either-no-r _ _ h))
+
+-- a number below the next, and not the last
+before : (k n : ℕ) → n < k + 1 → (n ≡ k → ⊥) → n < k
+before k n h ne = omega (arith, h, ne)
 
 module _ (t : Tables) (q : Request) (z : 0 ≡ number (ruleOf q) t q) where
   ok : inRanges q ≡ true
   ok = done-in-range t q z
 
-  -- a number that is none of the seventeen is answered 2
-  known : q .call < 17
-  known = go (decLt (q .call) 17)
+  -- a number that is none of the nineteen is answered 2
+  known : q .call < 19
+  known = go (decLt (q .call) 19)
     where
-      go : Dec (q .call < 17) → q .call < 17
+      go : Dec (q .call < 19) → q .call < 19
       go (yes l) = l
       go (no l) = absurd (clash (inRanges q) ok (sym (fits-none q (omega arith))))
 
@@ -129,7 +132,7 @@ module _ (t : Tables) (q : Request) (z : 0 ≡ number (ruleOf q) t q) where
           acting : q .seat < 16 → backedBy grants (dropRole (q .role) (sessionAt t (q .seat))) ≡ backed dropped (q .seat)
           acting l =
               ap (backedBy grants) (sym (getD-set-same (t .sessions) (q .seat) _ noSession (omega (arith, facts .manySessions))))
-              ∙ backed-by dropped (facts .role) grants G (q .seat)
+              ∙ backed-by dropped (facts .role) (facts .ties) grants G (q .seat)
 
       openr-done : SessionDone 4
       unfolding sessionAfter rules openr atSession
@@ -192,14 +195,14 @@ module _ (t : Tables) (q : Request) (z : 0 ≡ number (ruleOf q) t q) where
     grant-done c = rw (rule-at q 10 c, c, granted (q .entity) (roleAt t (p .role)) (q .rights), P .role .same (in-grant q ok c .1))
 
     list-done : RoleDone 12
-    unfolding roleAfter usersAfter rules list listUser atRole
+    unfolding roleAfter usersAfter juniorsAfter rules list listUser atRole
     list-done c =
         let rule = rule-at q 12 c in
         let live : roleAt t (q .role) .live ≡ true = of-not-false _ (unmet _ refl (rw rule at (done-allowed t q z)) 7) in
         rw (rule, c, P .role .same (in-list q ok c .1), live)
 
     unlist-done : RoleDone 13
-    unfolding roleAfter usersAfter rules unlist unlistUser atRole
+    unfolding roleAfter usersAfter juniorsAfter rules unlist unlistUser atRole
     unlist-done c =
         let rule = rule-at q 13 c in
         let live : roleAt t (q .role) .live ≡ true = of-not-false _ (unmet _ refl (rw rule at (done-allowed t q z)) 7) in
@@ -207,27 +210,43 @@ module _ (t : Tables) (q : Request) (z : 0 ≡ number (ruleOf q) t q) where
 
     -- a dead role of sound tables is empty
     make-done : sound t ≡ true → RoleDone 14
-    unfolding roleAfter usersAfter rules make atRole
+    unfolding roleAfter usersAfter juniorsAfter rules make atRole
     make-done sure c =
         let rule = rule-at q 14 c in
         let role = in-make q ok c .1 in
         let dead : roleAt t (q .role) .live ≡ false = unmet _ refl (rw rule at (done-allowed t q z)) 8 in
         let facts = formed-e t sure .role (q .role) role in
-        rw (rule, c, P .role .same role, facts .users .none dead, facts .reads .none dead, facts .writes .none dead, facts .executes .none dead, facts .owns .none dead)
+        rw (rule, c, P .role .same role, facts .users .none dead, facts .juniors .none dead, facts .reads .none dead, facts .writes .none dead, facts .executes .none dead, facts .owns .none dead)
 
-    pub role-stored : sound t ≡ true → (10 ≤ q .call) × (q .call ≡ 16 → ⊥) → (q .call ≡ 11 → ⊥) → (q .call ≡ 15 → ⊥) → (r : Role)
+    -- join, and unjoin before opens end
+    join-done : RoleDone 17
+    unfolding roleAfter usersAfter juniorsAfter rules joining tieJunior atRole
+    join-done c =
+        let rule = rule-at q 17 c in
+        let live : roleAt t (q .role) .live ≡ true = of-not-false _ (either-no-l _ _ (unmet _ refl (rw rule at (done-allowed t q z)) 7)) in
+        rw (rule, c, P .role .same (in-tie q ok (omega (arith, c)) (omega (arith, c)) .1), live)
+
+    untied-is : q .call ≡ 18 → withRoles t (set (t .roles) (p .role) (roleAfter q (roleAt t (p .role)))) ≡ atRole (q .role) (untieJunior (q .junior)) t
+    unfolding roleAfter usersAfter juniorsAfter rules unjoin untieJunior atRole
+    untied-is c =
+        let rule = rule-at q 18 c in
+        let live : roleAt t (q .role) .live ≡ true = of-not-false _ (either-no-l _ _ (unmet _ refl (rw rule at (done-allowed t q z)) 7)) in
+        rw (c, P .role .same (in-tie q ok (omega (arith, c)) (omega (arith, c)) .1), live)
+
+    pub role-stored : sound t ≡ true → (10 ≤ q .call) × (q .call ≡ 16 → ⊥) → (q .call ≡ 11 → ⊥) × (q .call ≡ 15 → ⊥) × (q .call ≡ 18 → ⊥) → (r : Role)
         → r ≡ roleAfter q (roleAt t (p .role)) → Done (withRoles t (set (t .roles) (p .role) r))
-    role-stored sure (low, not) other other′ r same = rw same (go (ℕ-discrete (q .call) 10))
+    role-stored sure (low, not) (revokes, unmakes, unjoins) r same = rw same (go (ℕ-discrete (q .call) 10) (ℕ-discrete (q .call) 17))
       where
-        go : Dec (q .call ≡ 10) → Done (withRoles t (set (t .roles) (p .role) (roleAfter q (roleAt t (p .role)))))
-        go (yes c) = grant-done c
-        go (no ne) =
-            span RoleDone 12 3 (list-done, (unlist-done, (make-done sure, tt))) (q .call) (omega (arith, low, ne, other)) (omega (arith, known, not, other′)) refl
+        go : Dec (q .call ≡ 10) → Dec (q .call ≡ 17) → Done (withRoles t (set (t .roles) (p .role) (roleAfter q (roleAt t (p .role)))))
+        go (yes c) other = grant-done c
+        go (no ne) (yes c) = join-done c
+        go (no ne) (no other) =
+            span RoleDone 12 3 (list-done, (unlist-done, (make-done sure, tt))) (q .call) (past 11 _ (past 10 _ low ne) revokes)
+            (before 15 _ (before 16 _ (before 17 _ (before 18 _ known unjoins) other) not) unmakes) refl
 
-    -- ---- the role loses rights, or goes: opens that are no longer backed end
+    -- ---- the role loses rights or a junior, or goes: opens that are no longer backed end
     module _ (sure : sound t ≡ true) (r : Role) (same : r ≡ roleAfter q (roleAt t (p .role))) (grants : List ℕ)
-        (G : Grants (set (t .roles) (p .role) r) grants) (lost : ℕ)
-        (is-lost : lost ≡ join (minus (roleAt t (p .role) .reads) (r .reads)) (minus (roleAt t (p .role) .writes) (r .writes))) where
+        (G : Grants (set (t .roles) (p .role) r) grants) (lost : ℕ) (is-lost : Lost grants (roleAt t (p .role)) r lost) where
       facts : Formed allCategories t
       facts = formed-e t sure
 
@@ -238,31 +257,38 @@ module _ (t : Tables) (q : Request) (z : 0 ≡ number (ruleOf q) t q) where
       abbrev replaced : Tables
       replaced = withRoles t (set (t .roles) (p .role) r)
 
-      -- each session, where role q .role is the one stored
-      kept : q .role < 16 → ((k : ℕ) → k < 16 → RoleOk (t .entities) k (roleAt replaced k)) → (x : ℕ) → x < 16
-          → backed replaced x ≡ keptBy grants (q .role) lost (sessionAt t x)
-      kept l roles x k =
-          rw (sym (P .role .same l)) (kept-is t (p .role) r (P .role .small) (facts .manyRoles) lost is-lost (backed-e _ t sure) roles grants G x k)
+      -- each session, over roles that are as soundness asks
+      kept : ((k : ℕ) → k < 16 → RoleOk (t .entities) k (roleAt replaced k)) → TiesOk (replaced .roles) → (x : ℕ) → x < 16
+          → backed replaced x ≡ keptBy grants lost (sessionAt t x)
+      kept roles ties = kept-is t (p .role) r (P .role .small) (facts .manyRoles) (facts .ties) roles grants G lost is-lost (backed-e _ t sure) ties
 
-      revoke-stored : q .call ≡ 11 → Done (withSessions replaced (map (leftBy grants (q .role) lost false) (t .sessions)))
-      unfolding rules revoke leftBy roleAfter atRole
-      revoke-stored c = rw (rule-at q 11 c) (sym ended ∙ ap endUnbacked inner)
+      -- the role is changed by f, and stays
+      changed : (f : Role → Role) → replaced ≡ atRole (q .role) f t → Formed allCategories (atRole (q .role) f t)
+          → withSessions replaced (map (leftBy grants (q .role) lost false) (t .sessions)) ≡ endUnbacked (atRole (q .role) f t)
+      unfolding leftBy
+      changed f inner formed = sym ended ∙ ap endUnbacked inner
         where
-          small : q .role < 16
-          small = in-revoke q ok c .1
-
-          inner : replaced ≡ atRole (q .role) (removeRights (q .entity) (q .rights)) t
-          inner = rw (same, c, revoked (q .entity) (roleAt t (p .role)) (q .rights), P .role .same small)
-
-          roles : (k : ℕ) → k < 16 → RoleOk (t .entities) k (roleAt replaced k)
-          roles =
-              subst (λ (u : Tables). (k : ℕ) → k < 16 → RoleOk (u .entities) k (roleAt u k)) (sym inner)
-              (revoked-formed t q (done-as revoke (rule-at q 11 c)) .role)
+          after : Formed allCategories replaced
+          after = subst (Formed allCategories) (sym inner) formed
 
           ended : endUnbacked replaced ≡ withSessions replaced (map (leftBy grants (q .role) lost false) (t .sessions))
           ended =
               ended-is replaced _ (length-map (t .sessions) _ ∙ facts .manySessions)
-              (map-each (λ x a. backed replaced x ≡ a) (leftBy grants (q .role) lost false) 16 (t .sessions) noSession (facts .manySessions) (kept small roles))
+              (map-each (λ x a. backed replaced x ≡ a) (leftBy grants (q .role) lost false) 16 (t .sessions) noSession (facts .manySessions) (kept (after .role) (after .ties)))
+
+      revoke-stored : q .call ≡ 11 → Done (withSessions replaced (map (leftBy grants (q .role) lost false) (t .sessions)))
+      unfolding rules revoke roleAfter atRole
+      revoke-stored c =
+          rw (rule-at q 11 c)
+          (changed (removeRights (q .entity) (q .rights))
+          (rw (same, c, revoked (q .entity) (roleAt t (p .role)) (q .rights), P .role .same (in-revoke q ok c .1)))
+          (revoked-formed t q (done-as revoke (rule-at q 11 c))))
+
+      unjoin-stored : q .call ≡ 18 → Done (withSessions replaced (map (leftBy grants (q .role) lost false) (t .sessions)))
+      unfolding rules unjoin
+      unjoin-stored c =
+          rw (rule-at q 18 c)
+          (changed (untieJunior (q .junior)) (ap (λ (a : Role). withRoles t (set (t .roles) (p .role) a)) same ∙ untied-is c) (untied-formed t q (done-as unjoin (rule-at q 18 c))))
 
       unmake-stored : q .call ≡ 15 → Done (withSessions replaced (map (leftBy grants (q .role) lost true) (t .sessions)))
       unfolding rules unmake leftBy roleAfter eachSession atRole
@@ -280,10 +306,8 @@ module _ (t : Tables) (q : Request) (z : 0 ≡ number (ruleOf q) t q) where
           inner : unheld ≡ eachSession (dropRole (q .role)) (atRole (q .role) (λ old. noRole) t)
           inner = rw (gone, P .role .same small)
 
-          roles : (k : ℕ) → k < 16 → RoleOk (t .entities) k (roleAt replaced k)
-          roles =
-              subst (λ (u : Tables). (k : ℕ) → k < 16 → RoleOk (u .entities) k (roleAt u k)) (sym inner)
-              (unmade-formed t q (done-as unmake (rule-at q 15 c)) .role)
+          after : Formed allCategories unheld
+          after = subst (Formed allCategories) (sym inner) (unmade-formed t q (done-as unmake (rule-at q 15 c)))
 
           empty : roleAt replaced (q .role) ≡ noRole
           empty = rw (sym (P .role .same small)) (getD-set-same (t .roles) (p .role) r noRole (omega (arith, P .role .small, facts .manyRoles)) ∙ gone)
@@ -295,9 +319,10 @@ module _ (t : Tables) (q : Request) (z : 0 ≡ number (ruleOf q) t q) where
           ended =
               ended-is unheld _ (length-map (t .sessions) _ ∙ facts .manySessions)
               (map-each (λ x a. backed unheld x ≡ a) (leftBy grants (q .role) lost true) 16 (t .sessions) noSession (facts .manySessions) (λ x l.
-              unmade-is replaced _ (q .role) empty x (dropped x l) ∙ ap (dropRole (q .role)) (kept small roles x l)))
+              unmade-is replaced _ (q .role) empty x (dropped x l) ∙ ap (dropRole (q .role)) (kept (after .role) (after .ties) x l)))
 
-      pub loss-stored : (q .call ≡ 11) ⊎ (q .call ≡ 15) → (unmade : Bool) → unmade ≡ eqb (q .call) 15
+      pub loss-stored : (q .call ≡ 11) ⊎ ((q .call ≡ 15) ⊎ (q .call ≡ 18)) → (unmade : Bool) → unmade ≡ eqb (q .call) 15
           → Done (withSessions replaced (map (leftBy grants (q .role) lost unmade) (t .sessions)))
       loss-stored (inl c) unmade is = let kept′ : unmade ≡ false = is ∙ rw c in rw kept′ (revoke-stored c)
-      loss-stored (inr c) unmade is = let gone′ : unmade ≡ true = is ∙ rw c in rw gone′ (unmake-stored c)
+      loss-stored (inr (inl c)) unmade is = let gone′ : unmade ≡ true = is ∙ rw c in rw gone′ (unmake-stored c)
+      loss-stored (inr (inr c)) unmade is = let kept′ : unmade ≡ false = is ∙ rw c in rw kept′ (unjoin-stored c)

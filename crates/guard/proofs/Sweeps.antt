@@ -3,11 +3,13 @@
 --     mapped-more, mapped-step      one record more
 --     mapped-all, mapped-end         all of them
 --     mapped-length                 as many as before
+--     mapped-at, mapped-past        a record of the first, and one past them
 -- Assumes nothing.
-use Prim.Native.Nat.{ℕ, zero, suc, _+_}
+use Prim.Native.Nat.{ℕ, zero, suc, _+_, _≤_, _<_}
 use mathlib.Core.Path.{_≡_, refl, ap, _∙_}
 use mathlib.Core.List.{List, [], _∷_, map}
 use native.Mathlib.Numerals.{add-one}
+use native.Mathlib.Omega.{arith}
 use lib.ListN.{length, getD, set}
 
 module _ {A : Type 0} (f : A → A) where
@@ -33,6 +35,18 @@ module _ {A : Type 0} (f : A → A) where
   mapped-length zero l = refl
   mapped-length (suc i) [] = refl
   mapped-length (suc i) (x ∷ l) = ap suc (mapped-length i l)
+
+  pub mapped-at : (n : ℕ) (l : List A) (i : ℕ) (d : A) → i < n → i < length l → getD (mapped n l) i d ≡ f (getD l i d)
+  mapped-at zero l i d h k = absurd (omega arith)
+  mapped-at (suc n) [] i d h k = absurd (omega arith)
+  mapped-at (suc n) (x ∷ l) zero d h k = refl
+  mapped-at (suc n) (x ∷ l) (suc i) d h k = mapped-at n l i d (omega arith) (omega arith)
+
+  pub mapped-past : (n : ℕ) (l : List A) (i : ℕ) (d : A) → n ≤ i → getD (mapped n l) i d ≡ getD l i d
+  mapped-past zero l i d h = refl
+  mapped-past (suc n) [] i d h = refl
+  mapped-past (suc n) (x ∷ l) zero d h = absurd (omega arith)
+  mapped-past (suc n) (x ∷ l) (suc i) d h = mapped-past n l i d (omega arith)
 
   mapped-done : (l : List A) (n : ℕ) → length l ≡ n → mapped n l ≡ map f l
   mapped-done l n h = rw (← h) (mapped-all l)

@@ -1,4 +1,4 @@
--- A dropped role ends its opens.
+-- A dropped role ends its opens, and so does an untied junior.
 use Prim.Native.Nat.{ℕ}
 use Rattle.bitset.specs.Sets.{keeping}
 use Rattle.guard.specs.Level.{sessionCount, entityCount}
@@ -16,6 +16,6 @@ backed t x =
     opening (keeping entityCount (hasRight t x read) (s .reading)) (keeping entityCount (hasRight t x write) (s .writing)) s
 
 -- After drop, revoke and unmake, every seat loses each open for which it no longer has the read or write right. Reaching the entity is
--- not looked at again.
+-- not looked at again. Unjoin ends opens in the same way.
 unfoldable pub endUnbacked : Tables → Tables
 endUnbacked t = withSessions t (tabulate sessionCount (backed t))

@@ -12,9 +12,9 @@ use Rattle.guard.specs.Methods.{request}
 use Rattle.guard.specs.declared.Tables.{Tables}
 use Rattle.guard.specs.declared.Request.{Request}
 
--- A request is a row of twelve numbers, in the order of the record's fields.
+-- A request is a row of thirteen numbers, in the order of the record's fields.
 abbrev pub rowLength : ℕ
-rowLength = 12
+rowLength = 13
 
 -- the number in column j of row i
 abbrev pub cell : List ℕ → ℕ → ℕ → ℕ
@@ -22,7 +22,7 @@ cell rows i j = getD rows (rowLength * i + j) 0
 
 unfoldable pub requestAt : List ℕ → ℕ → Request
 requestAt rows i =
-    request (cell rows i 0) (cell rows i 1) (cell rows i 2) (cell rows i 3) (cell rows i 4) (cell rows i 5) (cell rows i 6) (cell rows i 7) (cell rows i 8) (cell rows i 9) (cell rows i 10) (cell rows i 11)
+    request (cell rows i 0) (cell rows i 1) (cell rows i 2) (cell rows i 3) (cell rows i 4) (cell rows i 5) (cell rows i 6) (cell rows i 7) (cell rows i 8) (cell rows i 9) (cell rows i 10) (cell rows i 11) (cell rows i 12)
 
 -- the requests of the first n rows
 abbrev pub requests : ℕ → List ℕ → List Request

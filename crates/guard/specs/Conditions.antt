@@ -4,9 +4,9 @@ use mathlib.Core.Bool.{Bool, not}
 use mathlib.Core.List.{[], _∷_}
 use lib.Dec.{ltb, eqb}
 use Rattle.bitset.specs.Tests.{every, either, some}
-use Rattle.guard.specs.Level.{entityCount, sessionLevel, roleLevel, entityLevel, keeperOf}
+use Rattle.guard.specs.Level.{roleCount, entityCount, sessionLevel, roleLevel, entityLevel, keeperOf}
 use Rattle.guard.specs.Label.{label, dominates, sameLabel}
-use Rattle.guard.specs.Tables.{userAt, sessionAt, roleAt, entityAt, object, container, execute, own, holds, isReading, isWriting, lists, isShared, hasRight, isChild}
+use Rattle.guard.specs.Tables.{userAt, sessionAt, roleAt, entityAt, object, container, execute, own, holds, isReading, isWriting, lists, isJunior, isBelow, isShared, hasRight, isChild}
 use Rattle.guard.specs.Chain.{parentOf, reaches}
 use Rattle.guard.specs.declared.Label.{Label}
 use Rattle.guard.specs.declared.Tables.{Tables}
@@ -64,6 +64,10 @@ module _ (t : Tables) (q : Request) where
   abbrev pub seatBelowRole : Bool
   seatBelowRole = ltb (sessionLevel (q .seat)) (roleLevel (q .role))
 
+  -- join, unjoin: x is below the senior, or the levels of the two differ.
+  unfoldable pub tieOutOfLevel : Bool
+  tieOutOfLevel = either seatBelowRole (not (eqb (roleLevel (q .junior)) (roleLevel (q .role))))
+
   -- 11 confidentiality. openr: x's label does not dominate e's.
   abbrev pub labelBelowEntity : Bool
   labelBelowEntity = not (dominates (sessionAt t (q .seat) .label) (entityAt t (q .entity) .label))
@@ -84,9 +88,13 @@ module _ (t : Tables) (q : Request) where
   abbrev pub roleNotHeld : Bool
   roleNotHeld = not (holds t (q .seat) (q .role))
 
-  -- list, unlist, make, unmake: x does not hold the keeper of the role's level.
+  -- list, unlist, make, unmake, join, unjoin: x does not hold the keeper of the role's level. Holding a keeper means the keeper itself.
   abbrev pub keeperNotHeld : Bool
   keeperNotHeld = not (holds t (q .seat) (keeperOf (roleLevel (q .role))))
+
+  -- 22 for join, the two are one role or the senior is already below the junior.
+  unfoldable pub closesCycle : Bool
+  closesCycle = either (eqb (q .role) (q .junior)) (isBelow t (q .junior) (q .role))
 
   -- 13 openr, openw: x lacks read or write on e, or does not reach e.
   unfoldable pub cannotOpen : ℕ → Bool
@@ -121,16 +129,23 @@ module _ (t : Tables) (q : Request) where
   abbrev pub userListed : Bool
   userListed = lists t (q .role) (q .user)
 
+  -- join: the tie exists already.
+  abbrev pub tied : Bool
+  tied = isJunior t (q .role) (q .junior)
+
   -- share: the mark is so.
   abbrev pub markedSo : Bool
   markedSo = eqb (entityAt t (q .entity) .shared) (q .shared)
 
-  -- For drop, close, unlist: there is nothing to end. (drop: roleNotHeld)
+  -- For drop, close, unlist: there is nothing to end. (drop: roleNotHeld) For unjoin: the tie is missing.
   unfoldable pub notOpen : Bool
   notOpen = not (either (isReading t (q .seat) (q .entity)) (isWriting t (q .seat) (q .entity)))
 
   abbrev pub userNotListed : Bool
   userNotListed = not (lists t (q .role) (q .user))
+
+  abbrev pub notTied : Bool
+  notTied = not (isJunior t (q .role) (q .junior))
 
   -- ---- Anyone who acted earlier
   -- 7 the entity, parent or role named is not live (for create, the parent or the role).
@@ -142,6 +157,9 @@ module _ (t : Tables) (q : Request) where
 
   abbrev pub roleDead : Bool
   roleDead = not (roleAt t (q .role) .live)
+
+  abbrev pub juniorDead : Bool
+  juniorDead = not (roleAt t (q .junior) .live)
 
   -- 8 the number to be made is live.
   abbrev pub entityLive : Bool
@@ -157,3 +175,7 @@ module _ (t : Tables) (q : Request) where
   -- 15 the entity has children.
   unfoldable pub hasChildren : Bool
   hasChildren = some entityCount (λ f. isChild t (q .entity) f)
+
+  -- unmake: the role has a junior or a senior.
+  unfoldable pub roleTied : Bool
+  roleTied = some roleCount (λ k. either (isJunior t (q .role) k) (isJunior t k (q .role)))

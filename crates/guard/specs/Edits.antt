@@ -58,13 +58,17 @@ openWriting e s = opening (s .reading) (with (s .writing) e) s
 unfoldable pub closeBoth : ℕ → Session → Session
 closeBoth e s = opening (without (s .reading) e) (without (s .writing) e) s
 
--- ---- of one role: made; the users listed; the rights on an entity
+-- ---- of one role: made; the users listed; the juniors tied to it; the rights on an entity
 abbrev pub madeRole : Role
-madeRole = record { live = true; users = 0; reads = 0; writes = 0; executes = 0; owns = 0 }
+madeRole = record { live = true; users = 0; juniors = 0; reads = 0; writes = 0; executes = 0; owns = 0 }
 
 abbrev pub listing : ℕ → Role → Role
 listing users r =
-    record { live = r .live; users = users; reads = r .reads; writes = r .writes; executes = r .executes; owns = r .owns }
+    record { live = r .live; users = users; juniors = r .juniors; reads = r .reads; writes = r .writes; executes = r .executes; owns = r .owns }
+
+abbrev pub tying : ℕ → Role → Role
+tying juniors r =
+    record { live = r .live; users = r .users; juniors = juniors; reads = r .reads; writes = r .writes; executes = r .executes; owns = r .owns }
 
 -- the set with e in it, or without
 unfoldable pub putIn : Bool → ℕ → ℕ → ℕ
@@ -76,6 +80,7 @@ granting e n r =
     record {
       live = r .live;
       users = r .users;
+      juniors = r .juniors;
       reads = putIn (contains n read) e (r .reads);
       writes = putIn (contains n write) e (r .writes);
       executes = putIn (contains n execute) e (r .executes);
@@ -99,6 +104,12 @@ listUser u r = listing (with (r .users) u) r
 
 unfoldable pub unlistUser : ℕ → Role → Role
 unlistUser u r = listing (without (r .users) u) r
+
+unfoldable pub tieJunior : ℕ → Role → Role
+tieJunior j r = tying (with (r .juniors) j) r
+
+unfoldable pub untieJunior : ℕ → Role → Role
+untieJunior j r = tying (without (r .juniors) j) r
 
 -- ---- of one entity: the name; the mark
 unfoldable pub renameTo : ℕ → Entity → Entity

@@ -1,4 +1,4 @@
--- The requests' numbers: 0 to 16 in the order in which the papers list the seventeen. (proofs/Laws/Requests: the rule at each
+-- The requests' numbers: 0 to 18 in the order in which the papers list the nineteen. (proofs/Laws/Requests: the rule at each
 -- number is the request's.)
 use Prim.Native.Nat.{ℕ}
 
@@ -52,3 +52,9 @@ unmake = 15
 
 abbrev pub share : ℕ
 share = 16
+
+abbrev pub join : ℕ
+join = 17
+
+abbrev pub unjoin : ℕ
+unjoin = 18

@@ -4,6 +4,7 @@
 pub mod Level
 pub mod Label
 pub mod Told
+pub mod Below
 pub mod Tables
 pub mod Chain
 pub mod Sound

@@ -1,4 +1,4 @@
--- The seventeen requests. x is the acting seat. The numbers are the refusals that apply.
+-- The nineteen requests. x is the acting seat. The numbers are the refusals that apply.
 use Prim.Native.Nat.{ℕ}
 use mathlib.Core.Bool.{Bool, true}
 use mathlib.Core.List.{List, [], _∷_}
@@ -9,14 +9,14 @@ use Rattle.guard.specs.Level.{userCount, sessionCount, roleCount, entity
 use Rattle.guard.specs.Label.{labelInRangeIn}
 use Rattle.guard.specs.Tables.{inEdition1, noSession, noRole, noEntity, container, sharedMark, read, write, own, allRights}
 use Rattle.guard.specs.Sound.{topName}
-use Rattle.guard.specs.Edits.{atSession, atRole, atEntity, eachSession, eachRole, takeRole, dropRole, openReading, openWriting, closeBoth, addRights, removeRights, clearRights, listUser, unlistUser, renameTo, markAs, madeRole}
+use Rattle.guard.specs.Edits.{atSession, atRole, atEntity, eachSession, eachRole, takeRole, dropRole, openReading, openWriting, closeBoth, addRights, removeRights, clearRights, listUser, unlistUser, tieJunior, untieJunior, renameTo, markAs, madeRole}
 use Rattle.guard.specs.Backed.{endUnbacked}
 use Rattle.guard.specs.Refusals.{Refusal, _when_}
 use Rattle.guard.specs.Conditions.{labelAsked, seatLive, userTooLow, seatDead, parentNoContainer, entityIsObject, recordedParent}
-use Rattle.guard.specs.Conditions.{entityBelowSeat, seatBelowEntity, createOutOfLevel, grantBelow, seatBelowRole, labelBelowEntity, labelsDiffer, labelBelowParent}
-use Rattle.guard.specs.Conditions.{userUnlisted, roleNotHeld, keeperNotHeld, cannotOpen, cannotChangeIn, cannotChange, notOwned}
-use Rattle.guard.specs.Conditions.{roleHeld, openForReading, openForWriting, userListed, markedSo, notOpen, userNotListed}
-use Rattle.guard.specs.Conditions.{entityDead, parentDead, roleDead, entityLive, roleLive, nameTaken, hasChildren}
+use Rattle.guard.specs.Conditions.{entityBelowSeat, seatBelowEntity, createOutOfLevel, grantBelow, seatBelowRole, tieOutOfLevel, labelBelowEntity, labelsDiffer, labelBelowParent}
+use Rattle.guard.specs.Conditions.{userUnlisted, roleNotHeld, keeperNotHeld, closesCycle, cannotOpen, cannotChangeIn, cannotChange, notOwned}
+use Rattle.guard.specs.Conditions.{roleHeld, openForReading, openForWriting, userListed, tied, markedSo, notOpen, userNotListed, notTied}
+use Rattle.guard.specs.Conditions.{entityDead, parentDead, roleDead, juniorDead, entityLive, roleLive, nameTaken, hasChildren, roleTied}
 use Rattle.guard.specs.declared.Session.{Session}
 use Rattle.guard.specs.declared.Entity.{Entity}
 use Rattle.guard.specs.declared.Tables.{Tables}
@@ -24,11 +24,11 @@ use Rattle.guard.specs.declared.Request.{Request}
 
 -- the fields of a request
 pub data Field : Type 0 where
-  call seat user role entity parent kind name label rights shared : Field
+  call seat user role entity parent kind name label rights shared junior : Field
 
--- 2 a number is out of range; name 0, rights 0 and a request of none of the seventeen kinds count as such.
+-- 2 a number is out of range; name 0, rights 0 and a request of none of the nineteen kinds count as such.
 abbrev pub requestCount : ℕ
-requestCount = 17
+requestCount = 19
 
 unfoldable pub fieldInRangeIn : ℕ → Request → Field → Bool
 fieldInRangeIn width q call = ltb (q .call) requestCount
@@ -42,9 +42,10 @@ fieldInRangeIn width q name = every (leb 1 (q .name) ∷ leb (q .name) topName �
 fieldInRangeIn width q label = labelInRangeIn width (labelAsked q)
 fieldInRangeIn width q rights = every (leb 1 (q .rights) ∷ leb (q .rights) allRights ∷ [])
 fieldInRangeIn width q shared = leb (q .shared) sharedMark
+fieldInRangeIn width q junior = ltb (q .junior) roleCount
 
 -- What the papers say of one request: the fields that it uses, the refusals that apply after 1 and 2, and what it does.
--- Both read the tables: which opens a drop, revoke or unmake ends is a matter of the rights that are left.
+-- Both read the tables: which opens a drop, revoke, unmake or unjoin ends is a matter of the rights that are left.
 pub record Rule : Type 0 where
   pub uses : List Field
   pub refusals : Tables → Request → List Refusal
@@ -242,7 +243,8 @@ make =
       effect = λ q. atRole (q .role) (λ old. madeRole);
     }
 
--- unmake (x, role): 6, 7, 10, 12. Its list, its rights and every holding of it go. Opens that are no longer backed end.
+-- unmake (x, role): 6, 7, 10, 12. Its list, its rights and every holding of it go. Opens that are no longer backed end. A role with a
+-- junior or a senior is not unmade: 15.
 unfoldable pub unmake : Rule
 unmake =
     record {
@@ -253,6 +255,7 @@ unmake =
           ∷ 7 when roleDead t q
           ∷ 10 when seatBelowRole t q
           ∷ 12 when keeperNotHeld t q
+          ∷ 15 when roleTied t q
           ∷ [];
       effect = λ q t. endUnbacked (eachSession (dropRole (q .role)) (atRole (q .role) (λ old. noRole) t));
     }
@@ -273,13 +276,45 @@ share =
       effect = λ q. atEntity (q .entity) (markAs (q .shared));
     }
 
--- A request of none of the seventeen kinds: its number is out of range, and nothing else of it is looked at but its seat.
+-- join, unjoin (x, senior, junior; the senior is the request's role) tie two live roles of one level, and untie them. Both need what
+-- `list` needs (7, 10, 12); different levels give 10, and a tie that exists already, or is missing for unjoin, gives 16. 22 comes
+-- between 12 and 13. Unjoin ends opens as A.3 says.
+unfoldable pub join : Rule
+join =
+    record {
+      uses = seat ∷ role ∷ junior ∷ [];
+      refusals = λ t q.
+          5 when seatDead t q
+          ∷ 7 when either (roleDead t q) (juniorDead t q)
+          ∷ 10 when tieOutOfLevel t q
+          ∷ 12 when keeperNotHeld t q
+          ∷ 22 when closesCycle t q
+          ∷ 16 when tied t q
+          ∷ [];
+      effect = λ q. atRole (q .role) (tieJunior (q .junior));
+    }
+
+unfoldable pub unjoin : Rule
+unjoin =
+    record {
+      uses = join .uses;
+      refusals = λ t q.
+          5 when seatDead t q
+          ∷ 7 when either (roleDead t q) (juniorDead t q)
+          ∷ 10 when tieOutOfLevel t q
+          ∷ 12 when keeperNotHeld t q
+          ∷ 16 when notTied t q
+          ∷ [];
+      effect = λ q t. endUnbacked (atRole (q .role) (untieJunior (q .junior)) t);
+    }
+
+-- A request of none of the nineteen kinds: its number is out of range, and nothing else of it is looked at but its seat.
 unfoldable pub unknown : Rule
 unknown = record { uses = seat ∷ call ∷ []; refusals = λ t q. []; effect = λ q t. t }
 
--- The request's number: 0 to 16 in the order in which the papers list the seventeen.
+-- The request's number: 0 to 18 in the order in which the papers list the nineteen.
 unfoldable pub rules : List Rule
-rules = login ∷ logout ∷ take ∷ drop ∷ openr ∷ openw ∷ close ∷ create ∷ delete ∷ rename ∷ grant ∷ revoke ∷ list ∷ unlist ∷ make ∷ unmake ∷ share ∷ []
+rules = login ∷ logout ∷ take ∷ drop ∷ openr ∷ openw ∷ close ∷ create ∷ delete ∷ rename ∷ grant ∷ revoke ∷ list ∷ unlist ∷ make ∷ unmake ∷ share ∷ join ∷ unjoin ∷ []
 
 unfoldable pub ruleOf : Request → Rule
 ruleOf q = getD rules (q .call) unknown

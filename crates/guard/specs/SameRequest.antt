@@ -5,7 +5,7 @@ use lib.Dec.{eqb}
 use Rattle.bitset.specs.Tests.{every}
 use Rattle.guard.specs.Label.{sameLabel}
 use Rattle.guard.specs.Conditions.{labelAsked}
-use Rattle.guard.specs.Requests.{Field, call, seat, user, role, entity, parent, kind, name, label, rights, shared, ruleOf}
+use Rattle.guard.specs.Requests.{Field, call, seat, user, role, entity, parent, kind, name, label, rights, shared, junior, ruleOf}
 use Rattle.guard.specs.declared.Request.{Request}
 
 unfoldable pub sameField : Request → Request → Field → Bool
@@ -20,6 +20,7 @@ sameField p q name = eqb (p .name) (q .name)
 sameField p q label = sameLabel (labelAsked p) (labelAsked q)
 sameField p q rights = eqb (p .rights) (q .rights)
 sameField p q shared = eqb (p .shared) (q .shared)
+sameField p q junior = eqb (p .junior) (q .junior)
 
 -- Fields that a request does not use are not looked at: two requests ask the same when they are of one kind and agree in
 -- the fields that it uses, the acting seat among them.

@@ -7,7 +7,7 @@ use lib.ListN.{length, getD}
 use Rattle.bitset.specs.Tests.{every, implies, all}
 use Rattle.guard.specs.Level.{userCount, sessionCount, roleCount, entityCount, topLevel, sessionLevel, roleLevel, entityLevel, isRoot, isKeeper}
 use Rattle.guard.specs.Label.{allCategories, labelInRangeIn, dominates, sameLabel, noLabel}
-use Rattle.guard.specs.Tables.{edition1, edition2, inEdition1, noUser, sessionAt, roleAt, entityAt, object, container, sharedMark, read, write, holds, isReading, isWriting, rightsOn, hasRight, isChild}
+use Rattle.guard.specs.Tables.{edition1, edition2, inEdition1, noUser, sessionAt, roleAt, entityAt, object, container, sharedMark, read, write, holds, isReading, isWriting, isJunior, isBelow, rightsOn, hasRight, isChild}
 use Rattle.guard.specs.Chain.{endsAtRoot}
 use Rattle.guard.specs.declared.User.{User}
 use Rattle.guard.specs.declared.Session.{Session}
@@ -33,6 +33,7 @@ unfoldable pub roleInRange : Role → Bool
 roleInRange r =
     every
     (ltb (r .users) (2 ^ userCount)
+    ∷ ltb (r .juniors) (2 ^ roleCount)
     ∷ ltb (r .reads) (2 ^ entityCount)
     ∷ ltb (r .writes) (2 ^ entityCount)
     ∷ ltb (r .executes) (2 ^ entityCount)
@@ -131,7 +132,7 @@ isEmptySession s =
 
 unfoldable pub isEmptyRole : Role → Bool
 isEmptyRole r =
-    every (eqb (r .users) 0 ∷ eqb (r .reads) 0 ∷ eqb (r .writes) 0 ∷ eqb (r .executes) 0 ∷ eqb (r .owns) 0 ∷ [])
+    every (eqb (r .users) 0 ∷ eqb (r .juniors) 0 ∷ eqb (r .reads) 0 ∷ eqb (r .writes) 0 ∷ eqb (r .executes) 0 ∷ eqb (r .owns) 0 ∷ [])
 
 unfoldable pub isEmptyEntity : Entity → Bool
 isEmptyEntity e =
@@ -160,6 +161,16 @@ unfoldable pub rightsWithin : Tables → Bool
 rightsWithin t =
     all roleCount
     (λ r. all entityCount (λ e. implies (not (eqb (rightsOn t r e) 0)) (leb (entityLevel e) (roleLevel r))))
+
+-- ---- Ties join live roles of one level, and no role is below itself.
+unfoldable pub tiesJoin : Tables → Bool
+tiesJoin t =
+    all roleCount
+    (λ r. all roleCount
+    (λ j. implies (isJunior t r j) (every (roleAt t r .live ∷ roleAt t j .live ∷ eqb (roleLevel j) (roleLevel r) ∷ []))))
+
+unfoldable pub noneBelowItself : Tables → Bool
+noneBelowItself t = all roleCount (λ r. not (isBelow t r r))
 
 -- ---- An entity open for reading has at least the seat's level, and the seat's label dominates its label. In edition 2 .. soundness
 -- drops the level condition on reading.
@@ -204,6 +215,8 @@ soundIn width t =
     ∷ readingWithin t
     ∷ writingWithin t
     ∷ opensBacked t
+    ∷ tiesJoin t
+    ∷ noneBelowItself t
     ∷ [])
 
 -- ---- the rules in force: the width is `allCategories`

@@ -20,7 +20,7 @@ use Rattle.guard.specs.declared.Told.the-variants.{None}
 unfoldable pub inRangesIn : ℕ → Request → Bool
 inRangesIn width q = every (map (fieldInRangeIn width q) (ruleOf q .uses))
 
--- 1 the tables are not sound. 2 a number is out of range. Refusals 1 and 2 apply to all seventeen.
+-- 1 the tables are not sound. 2 a number is out of range. Refusals 1 and 2 apply to all nineteen.
 unfoldable pub answerIn : ℕ → Tables → Request → ℕ
 answerIn width t q = first (1 when not (soundIn width t) ∷ 2 when not (inRangesIn width q) ∷ ruleOf q .refusals t q)
 

@@ -9,6 +9,7 @@ use Rattle.bitset.specs.Sets.{has, contains}
 use Rattle.guard.specs.Level.{roleCount, roleLevel, entityLevel, isRoot}
 use Rattle.guard.specs.Label.{noLabel}
 use Rattle.guard.specs.Told.{isTold, lowest}
+use Rattle.guard.specs.Below.{below, orBelow}
 use Rattle.guard.specs.declared.User.{User}
 use Rattle.guard.specs.declared.Session.{Session}
 use Rattle.guard.specs.declared.Role.{Role}
@@ -24,7 +25,7 @@ abbrev pub noSession : Session
 noSession = record { live = false; user = 0; label = noLabel; roles = 0; reading = 0; writing = 0 }
 
 abbrev pub noRole : Role
-noRole = record { live = false; users = 0; reads = 0; writes = 0; executes = 0; owns = 0 }
+noRole = record { live = false; users = 0; juniors = 0; reads = 0; writes = 0; executes = 0; owns = 0 }
 
 abbrev pub noEntity : Entity
 noEntity = record { live = false; kind = 0; parent = 0; name = 0; label = noLabel; shared = 0 }
@@ -38,7 +39,7 @@ userAt t u = getD (t .users) u noUser
 abbrev pub sessionAt : Tables → ℕ → Session
 sessionAt t s = getD (t .sessions) s noSession
 
--- Role: live or not, users listed, and for each entity a set of rights.
+-- Role: live or not, users listed, its direct juniors, and for each entity a set of rights.
 abbrev pub roleAt : Tables → ℕ → Role
 roleAt t r = getD (t .roles) r noRole
 
@@ -96,6 +97,14 @@ isWriting t s e = has (sessionAt t s .writing) e
 abbrev pub lists : Tables → ℕ → ℕ → Bool
 lists t r u = has (roleAt t r .users) u
 
+-- j is a direct junior of r: `join` tied them
+abbrev pub isJunior : Tables → ℕ → ℕ → Bool
+isJunior t r j = has (roleAt t r .juniors) j
+
+-- j is below r: a junior of it, or of its juniors, to any depth
+abbrev pub isBelow : Tables → ℕ → ℕ → Bool
+isBelow t = below (isJunior t)
+
 -- e is a shared container
 abbrev pub isShared : Tables → ℕ → Bool
 isShared t e = eqb (entityAt t e .shared) sharedMark
@@ -111,12 +120,16 @@ rightsOf p e =
 abbrev pub rightsOn : Tables → ℕ → ℕ → ℕ
 rightsOn t r e = rightsOf (roleAt t r) e
 
--- The check of a right tells the lowest-numbered role held by x, of at least e's level, that gives it, or that none does.
-unfoldable pub roleFor : Tables → ℕ → ℕ → ℕ → Told
-roleFor t x right e =
-    lowest roleCount (λ r. every (leb (entityLevel e) (roleLevel r) ∷ holds t x r ∷ contains (rightsOn t r e) right ∷ []))
+-- A role then also has the rights of its juniors, and of theirs, to any depth.
+unfoldable pub roleHas : Tables → ℕ → ℕ → ℕ → Bool
+roleHas t r right e = orBelow (isJunior t) (λ j. contains (rightsOn t j e) right) r
 
--- "x has a right on e" means that a role held by x, of at least e's level, has it: that one is told.
+-- The check of a right tells the lowest-numbered role held by x, of at least e's level, that gives it, or that none does. The role is
+-- the held one.
+unfoldable pub roleFor : Tables → ℕ → ℕ → ℕ → Told
+roleFor t x right e = lowest roleCount (λ r. every (leb (entityLevel e) (roleLevel r) ∷ holds t x r ∷ roleHas t r right e ∷ []))
+
+-- "x has a right on e" means that a role held by x, of at least e's level, has it, itself or through a role below it: that one is told.
 unfoldable pub hasRight : Tables → ℕ → ℕ → ℕ → Bool
 hasRight t x right e = isTold (roleFor t x right e)
 

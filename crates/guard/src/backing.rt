@@ -1,4 +1,4 @@
-// What backs an open: a role held that gives the right, read for an open for reading and write for one for writing.
+// What backs an open: a role held that has the right, read for an open for reading and write for one for writing.
 use crate::Role;
 use crate::Session;
 use crate::scan;
@@ -9,8 +9,7 @@ use crate::sizes::SESSIONS;
 ghost use Prim.Native.Nat.{ℕ};
 ghost use mathlib.Core.Path.{_≡_};
 ghost use mathlib.Core.List.{List, map};
-ghost use Rattle.bitset.specs.Sets.{join, minus};
-ghost use Rattle.guard.specs.Private.Scan.{Gathered, opensGiven, backedBy, keptBy, leftBy};
+ghost use Rattle.guard.specs.Private.Scan.{Gathered, opensGiven, backedBy, Lost, keptBy, leftBy};
 
 // Whether each open of `s` is backed; `rights` are those of its roles.
 pub fn is_backed(rights: Rights, s: Session) -> bool
@@ -30,29 +29,31 @@ pub fn backed(grants: &[u64; GRANTS], s: Session) -> Session
     n
 }
 
-// The entities on which a role lost read or write.
-pub fn lost(old: Role, new: Role) -> u64
-    ensures { λ e. ⌜ e ≡ join (minus (old .reads) (new .reads)) (minus (old .writes) (new .writes)) ⌝ }
+// The entities on which a role lost read or write, its own or those of the roles below it.
+pub fn lost(grants: &[u64; GRANTS], old: Role, new: Role) -> u64
+    ensures { λ n. ⌜ Lost (now (grants .entry)) old new n ⌝ }
 {
-    bitset::minus64(old.reads, new.reads) | bitset::minus64(old.writes, new.writes)
+    let before = scan::gather(grants, old.juniors);
+    let after = scan::gather(grants, new.juniors);
+    bitset::minus64(old.reads | before.reads, new.reads | after.reads)
+        | bitset::minus64(old.writes | before.writes, new.writes | after.writes)
 }
 
-// Session `s` after role `r` lost rights on the entities of a set: nothing of it changes unless it holds the role and has one of
-// them open.
-fn kept(grants: &[u64; GRANTS], r: u32, lost: u64, s: Session) -> Session
-    ensures { λ n. ⌜ n ≡ keptBy (now (grants .entry)) r lost s ⌝ }
+// Session `s` after a role lost rights on the entities of a set: nothing of it changes unless it has one of them open.
+fn kept(grants: &[u64; GRANTS], lost: u64, s: Session) -> Session
+    ensures { λ n. ⌜ n ≡ keptBy (now (grants .entry)) lost s ⌝ }
 {
-    if bitset::has16(s.roles, r) & ((s.reading | s.writing) & lost != 0) {
+    if (s.reading | s.writing) & lost != 0 {
         return backed(grants, s);
     }
     s
 }
 
-// .. and after it is unmade, when nobody holds it.
+// .. and after role `r` is unmade, when nobody holds it.
 fn left(grants: &[u64; GRANTS], r: u32, lost: u64, unmade: bool, s: Session) -> Session
     ensures { λ n. ⌜ n ≡ leftBy (now (grants .entry)) r lost unmade s ⌝ }
 {
-    let n = kept(grants, r, lost, s);
+    let n = kept(grants, lost, s);
     if unmade {
         return sessions::dropped(r, n);
     }

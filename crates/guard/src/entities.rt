@@ -47,7 +47,7 @@ fn create_refusal_to_9(v: View) -> u8
 // Those from 10 on.
 fn create_refusal_from_10(q: Request, v: View) -> u8
     requires { ⌜ (q .grade ≤ topGrade) × (q .cats ≤ allCategories) ⌝ }
-    ensures { λ n. ⌜ n ≡ first (10 when either (not (eqb (entityLevel (q .entity)) (entityLevel (q .parent)))) (ltb (roleLevel (q .role)) (entityLevel (q .entity))) ∷ 11 when not (dominates (labelAsked q) (v .parent .label)) ∷ 12 when not (has (v .session .roles) (q .role)) ∷ 13 when either (not (has (v .session .writing) (q .parent))) (not (has (v .found .rights .executes) (q .parent))) ∷ 14 when v .found .child ∷ []) ⌝ }
+    ensures { λ n. ⌜ n ≡ first (10 when either (not (eqb (entityLevel (q .entity)) (entityLevel (q .parent)))) (ltb (roleLevel (q .role)) (entityLevel (q .entity))) ∷ 11 when not (dominates (labelAsked q) (v .parent .label)) ∷ 12 when not (has (v .session .roles) (q .role)) ∷ 13 when either (not (has (v .session .writing) (q .parent))) (not (has (v .found .rights .executes) (q .parent))) ∷ 14 when v .found .kin ∷ []) ⌝ }
 {
     if (q.entity / sizes::LEVEL_ENTITIES != q.parent / sizes::LEVEL_ENTITIES)
         | (q.role / sizes::LEVEL_ROLES < q.entity / sizes::LEVEL_ENTITIES)
@@ -66,7 +66,7 @@ fn create_refusal_from_10(q: Request, v: View) -> u8
     {
         return 13;
     }
-    if v.found.child {
+    if v.found.kin {
         return 14;
     }
     0
@@ -74,7 +74,7 @@ fn create_refusal_from_10(q: Request, v: View) -> u8
 
 pub fn create_refusal(q: Request, v: View) -> u8
     requires { ⌜ (q .grade ≤ topGrade) × (q .cats ≤ allCategories) ⌝ }
-    ensures { λ n. ⌜ n ≡ first (5 when not (v .session .live) ∷ 7 when either (not (v .parent .live)) (not (v .live)) ∷ 8 when v .entity .live ∷ 9 when not (eqb (v .parent .kind) container) ∷ 10 when either (not (eqb (entityLevel (q .entity)) (entityLevel (q .parent)))) (ltb (roleLevel (q .role)) (entityLevel (q .entity))) ∷ 11 when not (dominates (labelAsked q) (v .parent .label)) ∷ 12 when not (has (v .session .roles) (q .role)) ∷ 13 when either (not (has (v .session .writing) (q .parent))) (not (has (v .found .rights .executes) (q .parent))) ∷ 14 when v .found .child ∷ []) ⌝ }
+    ensures { λ n. ⌜ n ≡ first (5 when not (v .session .live) ∷ 7 when either (not (v .parent .live)) (not (v .live)) ∷ 8 when v .entity .live ∷ 9 when not (eqb (v .parent .kind) container) ∷ 10 when either (not (eqb (entityLevel (q .entity)) (entityLevel (q .parent)))) (ltb (roleLevel (q .role)) (entityLevel (q .entity))) ∷ 11 when not (dominates (labelAsked q) (v .parent .label)) ∷ 12 when not (has (v .session .roles) (q .role)) ∷ 13 when either (not (has (v .session .writing) (q .parent))) (not (has (v .found .rights .executes) (q .parent))) ∷ 14 when v .found .kin ∷ []) ⌝ }
 {
     let n = create_refusal_to_9(v);
     if n != 0 {
@@ -93,7 +93,7 @@ fn lacks_own(parent: Entity, owns: u64, e: u32) -> bool
 // The refusals of delete and of rename, which differ in the last number: 15, the entity has a child, or 14, a child of
 // its parent has the name. In a shared container both also need own on the entity.
 pub fn change_refusal(q: Request, v: View, last: u8) -> u8
-    ensures { λ n. ⌜ n ≡ first (5 when not (v .session .live) ∷ 6 when isRoot (q .entity) ∷ 7 when not (v .entity .live) ∷ 13 when either (either (not (has (v .session .writing) (v .entity .parent))) (not (has (v .found .rights .executes) (v .entity .parent)))) (every (eqb (v .parent .shared) sharedMark ∷ not (has (v .found .rights .owns) (q .entity)) ∷ [])) ∷ last when v .found .child ∷ []) ⌝ }
+    ensures { λ n. ⌜ n ≡ first (5 when not (v .session .live) ∷ 6 when isRoot (q .entity) ∷ 7 when not (v .entity .live) ∷ 13 when either (either (not (has (v .session .writing) (v .entity .parent))) (not (has (v .found .rights .executes) (v .entity .parent)))) (every (eqb (v .parent .shared) sharedMark ∷ not (has (v .found .rights .owns) (q .entity)) ∷ [])) ∷ last when v .found .kin ∷ []) ⌝ }
 {
     let o = v.entity.parent as u32;
     if !v.session.live {
@@ -110,7 +110,7 @@ pub fn change_refusal(q: Request, v: View, last: u8) -> u8
     {
         return 13;
     }
-    if v.found.child {
+    if v.found.kin {
         return last;
     }
     0

@@ -35,6 +35,7 @@ fn fresh_role(r: usize) -> Role
         return Role {
             live: true,
             users: 1,
+            juniors: 0,
             reads: root,
             writes: root,
             executes: root,

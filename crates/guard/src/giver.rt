@@ -1,15 +1,17 @@
-// Which role let a session in: what accepted openr and openw tell.
+// Which role let a session in: what accepted openr and openw tell. It is the one held, also where a role below it has the right.
 use crate::Told;
 use crate::kinds;
 use crate::scan;
 use crate::scan::GRANTS;
+use crate::scan::Rights;
 use crate::scan::SETS;
+use crate::scan::TIES;
 use crate::sizes::NO_ROLE;
 ghost use Prim.Native.Nat.{_<_};
 ghost use mathlib.Core.Path.{_≡_};
 ghost use Rattle.guard.specs.Level.{roleCount, entityCount};
 ghost use Rattle.guard.specs.Told.{lowest, roleByte};
-ghost use Rattle.guard.specs.Private.Scan.{First, gives, openedBy, readByte};
+ghost use Rattle.guard.specs.Private.Scan.{First, sideOf, hasBy, gives, openedBy, readByte};
 
 // Of the four sets of a role, those of read and of write.
 const READS: usize = 0;
@@ -24,7 +26,35 @@ fn first(set: u16) -> u32
     u16::trailing_zeros(set)
 }
 
-// The lowest-numbered of the roles held whose set `k` has the entity.
+// Of four sets the one of number `k`.
+fn side(rights: Rights, k: usize) -> u64
+    requires { ⌜ k < 4 ⌝ }
+    ensures { λ s. ⌜ s ≡ sideOf rights k ⌝ }
+{
+    match k {
+        0 => rights.reads,
+        1 => rights.writes,
+        2 => rights.executes,
+        _ => rights.owns,
+    }
+}
+
+// Whether role `r` has the right of set `k` on the entity, itself or through a role below it.
+fn gives(grants: &[u64; GRANTS], r: u32, k: usize, e: usize) -> bool
+    requires { ⌜ (r < roleCount) × (k < 4) × (e < entityCount) ⌝ }
+    ensures { λ b. ⌜ b ≡ hasBy (now (grants .entry)) k e r ⌝ }
+{
+    if scan::is_in(grants[SETS * r as usize + k], e) {
+        return true;
+    }
+    if grants[TIES + r as usize] == 0 {
+        return false;
+    }
+    let rights = scan::gather(grants, bitset::with16(0, r));
+    scan::is_in(side(rights, k), e)
+}
+
+// The lowest-numbered of the roles held that has the right of set `k` on the entity.
 fn lowest(grants: &[u64; GRANTS], held: u16, k: usize, e: usize) -> u8
     requires { ⌜ (k < 4) × (e < entityCount) ⌝ }
     ensures { λ r. ⌜ r ≡ roleByte (lowest roleCount (gives (now (grants .entry)) held k e)) ⌝ }
@@ -32,7 +62,7 @@ fn lowest(grants: &[u64; GRANTS], held: u16, k: usize, e: usize) -> u8
     let mut left = held;
     while left != 0 {
         let r = first(left);
-        if scan::is_in(grants[SETS * r as usize + k], e) {
+        if gives(grants, r, k, e) {
             return r as u8;
         }
         left = bitset::without16(left, r);

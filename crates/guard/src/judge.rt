@@ -12,7 +12,7 @@ ghost use Rattle.guard.specs.Private.Inside.{number, Seen};
 ghost use Rattle.guard.specs.Private.InForce.{inRanges};
 ghost use Rattle.guard.specs.declared.Tables.{Tables as TablesOf};
 
-// A number that is none of the seventeen is out of range.
+// A number that is none of the nineteen is out of range.
 pub fn judge(q: Request, v: View) -> u8
     requires { ⌜ v .fits ≡ inRanges q ⌝ }
     ensures { λ n. ⌜ ((t : TablesOf) → Seen t q v → n ≡ number (ruleOf q) t q) ⌝ }
@@ -39,6 +39,7 @@ pub fn judge(q: Request, v: View) -> u8
         kinds::MAKE => roles::make_refusal(q, v),
         kinds::UNMAKE => roles::unmake_refusal(q, v),
         kinds::SHARE => entities::share_refusal(q, v),
+        kinds::JOIN | kinds::UNJOIN => roles::tie_refusal(q, v),
         kinds::KINDS..=4294967295 => 2,
     }
 }

@@ -1,4 +1,4 @@
-// The requests' numbers, in the order in which the papers list the seventeen (specs/Kind).
+// The requests' numbers, in the order in which the papers list the nineteen (specs/Kind).
 pub const LOGIN: u32 = 0;
 
 pub const LOGOUT: u32 = 1;
@@ -33,5 +33,9 @@ pub const UNMAKE: u32 = 15;
 
 pub const SHARE: u32 = 16;
 
+pub const JOIN: u32 = 17;
+
+pub const UNJOIN: u32 = 18;
+
 // How many there are.
-pub const KINDS: u32 = 17;
+pub const KINDS: u32 = 19;

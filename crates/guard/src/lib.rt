@@ -54,10 +54,12 @@ pub struct Session {
     pub writing: u64,
 }
 
-// Role: the users that it lists, and for each right, read, write, execute and own, the entities on which it has it.
+// Role: the users that it lists, its direct juniors, and for each right, read, write, execute and own, the entities on which its
+// record has it. Records are laid out in the order of their fields: in front of the sets of entities the juniors take no room.
 pub struct Role {
     pub live: bool,
     pub users: u16,
+    pub juniors: u16,
     pub reads: u64,
     pub writes: u64,
     pub executes: u64,
@@ -84,8 +86,9 @@ pub struct Tables {
     pub edition: u8,
 }
 
-// One request, in fields wide enough for every number that a host may pass. `call` is the request's number: 0 to 16 in
-// the order in which the papers list the seventeen. `grade` and `cats` are the label asked for, `shared` is the mark.
+// One request, in fields wide enough for every number that a host may pass. `call` is the request's number: 0 to 18 in
+// the order in which the papers list the nineteen. `grade` and `cats` are the label asked for, `shared` is the mark; join and unjoin
+// have the senior in `role`.
 // A field that the request does not use may hold anything.
 pub struct Request {
     pub call: u32,
@@ -100,6 +103,7 @@ pub struct Request {
     pub cats: u32,
     pub rights: u32,
     pub shared: u32,
+    pub junior: u32,
 }
 
 // Which role let a session in: the role of that number, or none is told.

@@ -18,6 +18,7 @@ pub struct Places {
     pub role: usize,
     pub entity: usize,
     pub parent: usize,
+    pub junior: usize,
     pub fits: bool,
 }
 
@@ -59,6 +60,7 @@ fn fits(q: Request) -> bool
         kinds::LIST | kinds::UNLIST => seat & (role & user),
         kinds::MAKE | kinds::UNMAKE => seat & role,
         kinds::SHARE => seat & (entity & (q.shared <= sizes::TOP_MARK)),
+        kinds::JOIN | kinds::UNJOIN => seat & (role & (q.junior < sizes::ROLE_END)),
         kinds::KINDS..=4294967295 => false,
     }
 }
@@ -72,6 +74,7 @@ pub fn look_up(q: Request) -> Places
         role: below(q.role, sizes::ROLE_END),
         entity: below(q.entity, sizes::ENTITY_END),
         parent: below(q.parent, sizes::ENTITY_END),
+        junior: below(q.junior, sizes::ROLE_END),
         fits: fits(q),
     }
 }

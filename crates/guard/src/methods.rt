@@ -1,4 +1,4 @@
-// For hosts: each of the seventeen requests as a method of its own. Each hands back the next tables and the answer, as
+// For hosts: each of the nineteen requests as a method of its own. Each hands back the next tables and the answer, as
 // `step` does for the same request.
 use crate::Outcome;
 use crate::Request;
@@ -6,8 +6,8 @@ use crate::Tables;
 use crate::kinds;
 ghost use mathlib.Core.Path.{_≡_};
 ghost use Rattle.guard.specs.Step.{step};
-ghost use Rattle.guard.specs.Kind.{take, drop, openr, openw, close, delete, grant, revoke, list, unlist, make, unmake};
-ghost use Rattle.guard.specs.Methods.{loginRequest, logoutRequest, roleRequest, entityRequest, createRequest, renameRequest, rightsRequest, listRequest, shareRequest};
+ghost use Rattle.guard.specs.Kind.{take, drop, openr, openw, close, delete, grant, revoke, list, unlist, make, unmake, join, unjoin};
+ghost use Rattle.guard.specs.Methods.{loginRequest, logoutRequest, roleRequest, entityRequest, createRequest, renameRequest, rightsRequest, listRequest, shareRequest, tieRequest};
 
 // A request with 0 in every field.
 const BLANK: Request = Request {
@@ -23,6 +23,7 @@ const BLANK: Request = Request {
     cats: 0,
     rights: 0,
     shared: 0,
+    junior: 0,
 };
 
 impl Tables {
@@ -235,6 +236,30 @@ impl Tables {
         q.seat = seat;
         q.entity = entity;
         q.shared = mark;
+        self.step(q)
+    }
+
+    // The second role becomes a direct junior of the first.
+    pub fn join(self, seat: u32, senior: u32, junior: u32) -> Outcome
+        ensures { λ o. ⌜ o ≡ step self (tieRequest join seat senior junior) ⌝ }
+    {
+        let mut q = BLANK;
+        q.call = kinds::JOIN;
+        q.seat = seat;
+        q.role = senior;
+        q.junior = junior;
+        self.step(q)
+    }
+
+    // The second role is no longer a direct junior of the first.
+    pub fn unjoin(self, seat: u32, senior: u32, junior: u32) -> Outcome
+        ensures { λ o. ⌜ o ≡ step self (tieRequest unjoin seat senior junior) ⌝ }
+    {
+        let mut q = BLANK;
+        q.call = kinds::UNJOIN;
+        q.seat = seat;
+        q.role = senior;
+        q.junior = junior;
         self.step(q)
     }
 }

@@ -12,9 +12,10 @@ use crate::sizes::SESSIONS;
 use crate::sizes::USERS;
 ghost use mathlib.Core.Path.{_≡_};
 ghost use mathlib.Core.List.{map};
-ghost use Rattle.guard.specs.Old.{labelTaken, userTaken, sessionTaken, entityTaken, takenOver};
+ghost use Rattle.guard.specs.Old.{labelTaken, userTaken, sessionTaken, roleTaken, entityTaken, takenOver};
 
-// The records that hold a label. All else in them is as in `User`, `Session`, `Entity` and `Tables`.
+// The records that hold a label, and roles, which had no juniors. All else in them is as in `User`, `Session`, `Role`, `Entity` and
+// `Tables`.
 pub struct OldLabel {
     pub cats: u8,
     pub grade: u8,
@@ -34,6 +35,15 @@ pub struct OldSession {
     pub writing: u64,
 }
 
+pub struct OldRole {
+    pub live: bool,
+    pub users: u16,
+    pub reads: u64,
+    pub writes: u64,
+    pub executes: u64,
+    pub owns: u64,
+}
+
 pub struct OldEntity {
     pub live: bool,
     pub kind: u8,
@@ -45,7 +55,7 @@ pub struct OldEntity {
 pub struct OldTables {
     pub users: [OldUser; USERS],
     pub sessions: [OldSession; SESSIONS],
-    pub roles: [Role; ROLES],
+    pub roles: [OldRole; ROLES],
     pub entities: [OldEntity; ENTITIES],
 }
 
@@ -79,6 +89,20 @@ fn session(s: OldSession) -> Session
         roles: s.roles,
         reading: s.reading,
         writing: s.writing,
+    }
+}
+
+fn role(p: OldRole) -> Role
+    ensures { λ r. ⌜ r ≡ roleTaken p ⌝ }
+{
+    Role {
+        live: p.live,
+        users: p.users,
+        juniors: 0,
+        reads: p.reads,
+        writes: p.writes,
+        executes: p.executes,
+        owns: p.owns,
     }
 }
 
@@ -124,6 +148,20 @@ fn sessions(old: [OldSession; SESSIONS]) -> [Session; SESSIONS]
     sessions
 }
 
+fn roles(old: [OldRole; ROLES]) -> [Role; ROLES]
+    ensures { λ r. ⌜ r ≡ map roleTaken old ⌝ }
+{
+    let first = role(old[0]);
+    let mut roles = [first; ROLES];
+    let mut i = 0usize;
+    while i < ROLES {
+        let p = role(old[i]);
+        roles[i] = p;
+        i += 1;
+    }
+    roles
+}
+
 fn entities(old: [OldEntity; ENTITIES]) -> [Entity; ENTITIES]
     ensures { λ r. ⌜ r ≡ map entityTaken old ⌝ }
 {
@@ -145,10 +183,11 @@ impl OldTables {
     {
         let old_users = self.users;
         let old_sessions = self.sessions;
+        let old_roles = self.roles;
         let old_entities = self.entities;
         let users = users(old_users);
         let sessions = sessions(old_sessions);
-        let roles = self.roles;
+        let roles = roles(old_roles);
         let entities = entities(old_entities);
         Tables {
             users,

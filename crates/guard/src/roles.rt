@@ -1,4 +1,4 @@
-// Requests on one role: what grant, revoke, list, unlist, make and unmake are refused for, and the role after them.
+// Requests on one role: what grant, revoke, list, unlist, make, unmake, join and unjoin are refused for, and the role after them.
 use crate::Request;
 use crate::Role;
 use crate::kinds;
@@ -7,16 +7,17 @@ use crate::sizes::ROLES;
 use crate::view::View;
 ghost use Prim.Native.Nat.{_≤_, _<_};
 ghost use mathlib.Core.Path.{_≡_};
-ghost use mathlib.Core.Bool.{true, not};
+ghost use mathlib.Core.Bool.{true, not, cond};
 ghost use mathlib.Core.List.{[], _∷_, map};
-ghost use lib.Dec.{ltb};
+ghost use lib.Dec.{ltb, eqb};
 ghost use Rattle.bitset.specs.Tests.{either};
 ghost use Rattle.bitset.specs.Sets.{has};
 ghost use Rattle.guard.specs.Level.{sessionLevel, roleLevel, entityLevel, keeperOf, isKeeper, entityCount};
 ghost use Rattle.guard.specs.Tables.{noRole, allRights};
 ghost use Rattle.guard.specs.Edits.{clearRights};
 ghost use Rattle.guard.specs.Refusals.{first, _when_};
-ghost use Rattle.guard.specs.Private.Inside.{usersAfter, setAfter, grantedAfter, roleAfter, owning as owningOf};
+ghost use Rattle.guard.specs.Kind as kind;
+ghost use Rattle.guard.specs.Private.Inside.{usersAfter, juniorsAfter, setAfter, grantedAfter, roleAfter, owning as owningOf};
 ghost use Rattle.guard.specs.Private.InForce.{inRanges};
 
 // grant and revoke are refused alike.
@@ -86,7 +87,7 @@ pub fn make_refusal(q: Request, v: View) -> u8
 }
 
 pub fn unmake_refusal(q: Request, v: View) -> u8
-    ensures { λ n. ⌜ n ≡ first (5 when not (v .session .live) ∷ 6 when isKeeper (q .role) ∷ 7 when not (v .live) ∷ 10 when ltb (sessionLevel (q .seat)) (roleLevel (q .role)) ∷ 12 when not (has (v .session .roles) (keeperOf (roleLevel (q .role)))) ∷ []) ⌝ }
+    ensures { λ n. ⌜ n ≡ first (5 when not (v .session .live) ∷ 6 when isKeeper (q .role) ∷ 7 when not (v .live) ∷ 10 when ltb (sessionLevel (q .seat)) (roleLevel (q .role)) ∷ 12 when not (has (v .session .roles) (keeperOf (roleLevel (q .role)))) ∷ 15 when v .found .kin ∷ []) ⌝ }
 {
     if !v.session.live {
         return 5;
@@ -97,7 +98,47 @@ pub fn unmake_refusal(q: Request, v: View) -> u8
     if !v.live {
         return 7;
     }
-    keeper_refusal(v.session.roles, q.seat, q.role)
+    let n = keeper_refusal(v.session.roles, q.seat, q.role);
+    if n != 0 {
+        return n;
+    }
+    if v.found.kin {
+        return 15;
+    }
+    0
+}
+
+// That it is so already: for join that the two are tied, for unjoin that they are not.
+fn is_so(call: u32, tied: bool) -> bool
+    ensures { λ b. ⌜ b ≡ cond (eqb call kind.join) tied (not tied) ⌝ }
+{
+    if call == kinds::JOIN { tied } else { !tied }
+}
+
+// join and unjoin; the request's role is the senior.
+pub fn tie_refusal(q: Request, v: View) -> u8
+    ensures { λ n. ⌜ n ≡ first (5 when not (v .session .live) ∷ 7 when either (not (v .live)) (not (v .alive)) ∷ 10 when either (ltb (sessionLevel (q .seat)) (roleLevel (q .role))) (not (eqb (roleLevel (q .junior)) (roleLevel (q .role)))) ∷ 12 when not (has (v .session .roles) (keeperOf (roleLevel (q .role)))) ∷ 22 when v .found .kin ∷ 16 when cond (eqb (q .call) kind.join) (has (v .juniors) (q .junior)) (not (has (v .juniors) (q .junior))) ∷ []) ⌝ }
+{
+    if !v.session.live {
+        return 5;
+    }
+    if !v.live | !v.alive {
+        return 7;
+    }
+    if q.junior / sizes::LEVEL_ROLES != q.role / sizes::LEVEL_ROLES {
+        return 10;
+    }
+    let n = keeper_refusal(v.session.roles, q.seat, q.role);
+    if n != 0 {
+        return n;
+    }
+    if v.found.kin {
+        return 22;
+    }
+    if is_so(q.call, bitset::has16(v.juniors, q.junior)) {
+        return 16;
+    }
+    0
 }
 
 // The users listed by the role after list or unlist; make leaves them.
@@ -112,6 +153,20 @@ fn users_after(q: Request, users: u16) -> u16
         return bitset::without16(users, q.user);
     }
     users
+}
+
+// The juniors of the role after join or unjoin.
+fn juniors_after(q: Request, juniors: u16) -> u16
+    requires { ⌜ inRanges q ≡ true ⌝ }
+    ensures { λ n. ⌜ n ≡ juniorsAfter q juniors ⌝ }
+{
+    if q.call == kinds::JOIN {
+        return bitset::with16(juniors, q.junior);
+    }
+    if q.call == kinds::UNJOIN {
+        return bitset::without16(juniors, q.junior);
+    }
+    juniors
 }
 
 // The entities of one right, after it is given or taken away where it is named.
@@ -153,6 +208,7 @@ pub fn empty() -> Role
     Role {
         live: false,
         users: 0,
+        juniors: 0,
         reads: 0,
         writes: 0,
         executes: 0,
@@ -178,6 +234,7 @@ pub fn after(q: Request, p: Role) -> Role
     let mut n = p;
     n.live = true;
     n.users = users_after(q, p.users);
+    n.juniors = juniors_after(q, p.juniors);
     n
 }
 

@@ -40,6 +40,7 @@ pub fn request(rows: &[u32], i: usize) -> Request
         cats: rows[b + 9],
         rights: rows[b + 10],
         shared: rows[b + 11],
+        junior: rows[b + 12],
     }
 }
 
@@ -60,6 +61,7 @@ pub fn row(q: Request) -> [u32; ROW]
         q.cats,
         q.rights,
         q.shared,
+        q.junior,
     ]
 }
 

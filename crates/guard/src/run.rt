@@ -18,7 +18,7 @@ use crate::view;
 ghost use Rattle.guard.specs.Batch.{RunsBatch};
 
 impl Tables {
-    // The requests in `rows`, twelve numbers each in the order of `Request`'s fields, as many as stand whole there and have room
+    // The requests in `rows`, thirteen numbers each in the order of `Request`'s fields, as many as stand whole there and have room
     // in `answers` and in `roles`; each one's answer and the role that it tells are stored there. Every request hands back sound
     // tables, so soundness is tested once; where there is no request, nothing is.
     pub fn run(mut self, rows: &[u32], answers: &mut [u8], roles: &mut [u8]) -> Tables
@@ -44,16 +44,28 @@ impl Tables {
             let k = at.user;
             let r = at.role;
             let e = at.entity;
+            let j = at.junior;
             let session = self.sessions[x];
             let user = self.users[k];
             let role = self.roles[r];
+            let junior = self.roles[j];
             let entity = self.entities[e];
             let o = look::parent_of(q.call, at.parent, entity.parent);
             let parent = self.entities[o];
             // What the scans find.
-            let found = scan::find(&keys, &grants, q, session.roles, e, o);
+            let found = scan::find(&keys, &grants, q, session.roles, e, o, r, j);
             // The decision.
-            let v = view::seen(at, session, user, role, entity, parent, found, self.edition);
+            let v = view::seen(
+                at,
+                session,
+                user,
+                role,
+                junior.live,
+                entity,
+                parent,
+                found,
+                self.edition,
+            );
             let n = judge::judge(q, v);
             answers[i] = n;
             roles[i] = sizes::NO_ROLE;
@@ -87,8 +99,8 @@ impl Tables {
                         let p2 = roles::after(q, role);
                         self.roles[r] = p2;
                         scan::put(&mut grants, r, p2);
-                        if (q.call == kinds::REVOKE) | (q.call == kinds::UNMAKE) {
-                            let lost = backing::lost(role, p2);
+                        if change::ends_opens(q.call) {
+                            let lost = backing::lost(&grants, role, p2);
                             let seats = self.sessions;
                             self.sessions = backing::swept(
                                 seats,

@@ -1,5 +1,6 @@
-// What 13, 14 and 15 ask of the tables, scanned over two columns: for each entity its parent and its name as one number
-// (`keys`, sound/tree), and for each role its four sets of entities (`grants`). A function that took the records would copy them.
+// What 13, 14, 15 and 22 ask of the tables, scanned over two columns: for each entity its parent and its name as one number
+// (`keys`, sound/tree), and for each role its four sets of entities and its juniors (`grants`). A function that took the records would
+// copy them.
 use crate::Request;
 use crate::Role;
 use crate::Tables;
@@ -16,31 +17,39 @@ ghost use mathlib.Core.Path.{_≡_};
 ghost use lib.ListN.{length};
 ghost use Rattle.bitset.specs.Sets.{has};
 ghost use Rattle.guard.specs.Level.{entityCount, roleCount};
-ghost use Rattle.guard.specs.Private.Scan.{Grants, Granted, Cleared, Gathered, climbsBy, reachedBy, nameBy, childBy, kinBy, foundNothing, FoundBy};
+ghost use Rattle.guard.specs.Private.Scan.{Grants, Granted, Cleared, Gathered, juniorsBy, seniorBy, tiedBy, climbsBy, reachedBy, nameBy, childBy, kinBy, foundOnly, FoundBy};
 
-// A role has four sets, one for each right; how many the column of the roles has.
+// A role has four sets of entities, one for each right. Behind those of all roles stand the juniors of each; how many numbers the
+// column of the roles has.
 pub const SETS: usize = 4;
 
-pub const GRANTS: usize = SETS * ROLES;
+pub const TIES: usize = SETS * ROLES;
 
-// The entities on which a session has each right.
+pub const GRANTS: usize = TIES + ROLES;
+
+// How many sets of roles there are.
+const ROLE_SETS: u64 = 65536;
+
+// What roles give together: the entities on which they have each right, themselves or through roles below them; and the roles by
+// which they have it, they and those below.
 pub struct Rights {
     pub reads: u64,
     pub writes: u64,
     pub executes: u64,
     pub owns: u64,
+    pub roles: u16,
 }
 
-// What the scans find: the rights of the session, whether it reaches the entity, and what 14 and 15 ask; each where the kind
+// What the scans find: the rights of the session, whether it reaches the entity, and what 14, 15 and 22 ask; each where the kind
 // asks for it.
 pub struct Found {
     pub rights: Rights,
     pub reached: bool,
-    pub child: bool,
+    pub kin: bool,
 }
 
 impl Tables {
-    // Of each role its sets, as its record has them.
+    // Of each role its sets and its juniors, as its record has them.
     pub(crate) fn grants(self) -> [u64; GRANTS]
         ensures { λ g. ⌜ Grants (self .roles) g ⌝ }
     {
@@ -62,9 +71,9 @@ fn column(roles: [Role; ROLES]) -> [u64; GRANTS]
     g
 }
 
-// The sets of role `r`.
+// The sets and the juniors of role `r`.
 pub fn put(grants: &mut [u64; GRANTS], r: usize, p: Role) -> usize
-    requires { ⌜ (r < roleCount) × (length (now grants) ≡ 4 * roleCount) ⌝ }
+    requires { ⌜ (r < roleCount) × (length (now grants) ≡ 5 * roleCount) ⌝ }
     ensures { λ n. ⌜ Granted (now (grants .entry)) r p (now (grants .exit)) ⌝ }
 {
     let b = SETS * r;
@@ -72,23 +81,32 @@ pub fn put(grants: &mut [u64; GRANTS], r: usize, p: Role) -> usize
     grants[b + 1] = p.writes;
     grants[b + 2] = p.executes;
     grants[b + 3] = p.owns;
+    grants[TIES + r] = p.juniors as u64;
     b
 }
 
-// A deleted entity goes from every set.
+// A deleted entity goes from every set of entities.
 pub fn clear(grants: &mut [u64; GRANTS], e: usize) -> usize
-    requires { ⌜ (e < entityCount) × (length (now grants) ≡ 4 * roleCount) ⌝ }
+    requires { ⌜ (e < entityCount) × (length (now grants) ≡ 5 * roleCount) ⌝ }
     ensures { λ n. ⌜ Cleared (now (grants .entry)) e (now (grants .exit)) ⌝ }
 {
     let mut j = 0usize;
-    while j < GRANTS {
+    while j < TIES {
         grants[j] = bitset::without64(grants[j], e as u32);
         j += 1;
     }
     j
 }
 
-// The rights that the roles held give, together.
+// The direct juniors of role `r`.
+pub fn juniors(grants: &[u64; GRANTS], r: usize) -> u16
+    requires { ⌜ r < roleCount ⌝ }
+    ensures { λ s. ⌜ s ≡ juniorsBy (now (grants .entry)) r ⌝ }
+{
+    (grants[TIES + r] % ROLE_SETS) as u16
+}
+
+// What the roles held give together. Each role that is met, held or below one that is, is gone through once.
 pub fn gather(grants: &[u64; GRANTS], held: u16) -> Rights
     ensures { λ g. ⌜ Gathered (now (grants .entry)) held g ⌝ }
 {
@@ -96,6 +114,7 @@ pub fn gather(grants: &[u64; GRANTS], held: u16) -> Rights
     let mut writes = 0u64;
     let mut executes = 0u64;
     let mut owns = 0u64;
+    let mut roles = 0u16;
     let mut left = held;
     while left != 0 {
         let r = u16::trailing_zeros(left);
@@ -104,13 +123,15 @@ pub fn gather(grants: &[u64; GRANTS], held: u16) -> Rights
         writes = writes | grants[b + 1];
         executes = executes | grants[b + 2];
         owns = owns | grants[b + 3];
-        left = bitset::without16(left, r);
+        roles = bitset::with16(roles, r);
+        left = bitset::minus16(left | juniors(grants, r as usize), roles);
     }
     Rights {
         reads,
         writes,
         executes,
         owns,
+        roles,
     }
 }
 
@@ -195,6 +216,34 @@ fn child_in(keys: &[u32; ENTITIES], p: usize) -> bool
     found
 }
 
+// Whether `r` is a direct junior of a role.
+fn has_senior(grants: &[u64; GRANTS], r: u32) -> bool
+    ensures { λ b. ⌜ b ≡ seniorBy (now (grants .entry)) r ⌝ }
+{
+    let mut all = 0u64;
+    let mut k = 0usize;
+    while k < ROLES {
+        all = all | grants[TIES + k];
+        k += 1;
+    }
+    bitset::has64(all, r)
+}
+
+// What 15 and 22 ask of the ties: unmake whether `r` has a junior or a senior, join whether it is `j` or below it.
+fn tied(grants: &[u64; GRANTS], call: u32, r: usize, j: usize) -> bool
+    requires { ⌜ (r < roleCount) × (j < roleCount) ⌝ }
+    ensures { λ b. ⌜ b ≡ tiedBy (now (grants .entry)) call r j ⌝ }
+{
+    if call == kinds::UNMAKE {
+        return (juniors(grants, r) != 0) | has_senior(grants, r as u32);
+    }
+    if call == kinds::JOIN {
+        let below = gather(grants, bitset::with16(0, j as u32));
+        return bitset::has16(below.roles, r as u32);
+    }
+    false
+}
+
 // What 14 and 15 ask: delete whether `e` has a child, create and rename whether a child of `o` has the name.
 fn kin(keys: &[u32; ENTITIES], call: u32, e: usize, o: usize, name: u32) -> bool
     requires { ⌜ (e < entityCount) × (o < entityCount) ⌝ }
@@ -209,23 +258,25 @@ fn kin(keys: &[u32; ENTITIES], call: u32, e: usize, o: usize, name: u32) -> bool
     false
 }
 
-fn nothing() -> Found
-    ensures { λ f. ⌜ f ≡ foundNothing ⌝ }
+// No rights, and what the ties tell.
+fn only(kin: bool) -> Found
+    ensures { λ f. ⌜ f ≡ foundOnly kin ⌝ }
 {
     let rights = Rights {
         reads: 0,
         writes: 0,
         executes: 0,
         owns: 0,
+        roles: 0,
     };
     Found {
         rights,
         reached: false,
-        child: false,
+        kin,
     }
 }
 
-// What a request with entity `e` and parent `o` asks of the tables, by a session that holds `held`.
+// What a request with entity `e`, parent `o`, role `r` and junior `j` asks of the tables, by a session that holds `held`.
 pub fn find(
     keys: &[u32; ENTITIES],
     grants: &[u64; GRANTS],
@@ -233,19 +284,21 @@ pub fn find(
     held: u16,
     e: usize,
     o: usize,
+    r: usize,
+    j: usize,
 ) -> Found
-    requires { ⌜ (e < entityCount) × (o < entityCount) ⌝ }
-    ensures { λ f. ⌜ FoundBy (now (keys .entry)) (now (grants .entry)) q held e o f ⌝ }
+    requires { ⌜ (e < entityCount) × (o < entityCount) × (r < roleCount) × (j < roleCount) ⌝ }
+    ensures { λ f. ⌜ FoundBy (now (keys .entry)) (now (grants .entry)) q held e o r j f ⌝ }
 {
     if !look::asks_rights(q.call) {
-        return nothing();
+        return only(tied(grants, q.call, r, j));
     }
     let rights = gather(grants, held);
     let reached = reached(keys, q.call, e, rights.executes);
-    let child = kin(keys, q.call, e, o, q.name);
+    let kin = kin(keys, q.call, e, o, q.name);
     Found {
         rights,
         reached,
-        child,
+        kin,
     }
 }

@@ -71,4 +71,4 @@ pub const OWN: u8 = 8;
 pub const NO_ROLE: u8 = 255;
 
 // The numbers of a request as a row.
-pub const ROW: usize = 12;
+pub const ROW: usize = 13;

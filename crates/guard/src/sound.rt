@@ -50,6 +50,9 @@ impl Tables {
         if !found.ok {
             return false;
         }
+        if !rights::ties_ok(grants, found.live) {
+            return false;
+        }
         let labels = opens::labels(entities);
         let sessions = self.sessions;
         opens::sessions_ok(sessions, &labels, grants, found.live, edition)

@@ -9,8 +9,8 @@ use crate::scan::Found;
 ghost use mathlib.Core.Path.{_≡_};
 ghost use Rattle.guard.specs.Private.Inside.{viewOf};
 
-// The records that a request concerns: the acting session, the user, the marks of the role, the entity, and the parent
-// (create: the one named; else the entity's). A number past its range has some other record in its place, and `fits` says
+// The records that a request concerns: the acting session, the user, the marks of the role and its juniors, whether the junior named is
+// live, the entity, and the parent (create: the one named; else the entity's). A number past its range has some other record in its place, and `fits` says
 // whether one that the kind uses is. `found` is what the scans found, `edition` that of the tables.
 pub struct View {
     pub fits: bool,
@@ -18,6 +18,8 @@ pub struct View {
     pub user: User,
     pub live: bool,
     pub users: u16,
+    pub juniors: u16,
+    pub alive: bool,
     pub entity: Entity,
     pub parent: Entity,
     pub found: Found,
@@ -29,12 +31,13 @@ pub fn seen(
     session: Session,
     user: User,
     role: Role,
+    alive: bool,
     entity: Entity,
     parent: Entity,
     found: Found,
     edition: u8,
 ) -> View
-    ensures { λ v. ⌜ v ≡ viewOf at session user role entity parent found edition ⌝ }
+    ensures { λ v. ⌜ v ≡ viewOf at session user role alive entity parent found edition ⌝ }
 {
     View {
         fits: at.fits,
@@ -42,6 +45,8 @@ pub fn seen(
         user,
         live: role.live,
         users: role.users,
+        juniors: role.juniors,
+        alive,
         entity,
         parent,
         found,

@@ -10,7 +10,7 @@
 //   fresh                       the tables are built anew over the users and in the edition that they have
 //   fresh | NAME                the same: the answer, and what is not as in the tables kept
 //   old | NAME                  the tables, put into records of the old width, their categories modulo 256, without
-//                               marks and without an edition, and taken over: what changed
+//                               ties, without marks and without an edition, and taken over: what changed
 //   keep                        the tables are kept to go back to
 //   back                        to the tables kept
 //   show KIND N                 a record; `show tables 0` the edition
@@ -27,7 +27,8 @@
 //                               answers and the roles
 //
 // A request is its word, or a number for one of no kind, and the numbers of the fields that it uses in the papers' order:
-// login SEAT USER LEVEL CATS, create SEAT ENTITY KIND PARENT NAME LEVEL CATS ROLE, grant SEAT ROLE ENTITY RIGHTS, and so on.
+// login SEAT USER LEVEL CATS, create SEAT ENTITY KIND PARENT NAME LEVEL CATS ROLE, grant SEAT ROLE ENTITY RIGHTS, join SEAT
+// SENIOR JUNIOR, and so on.
 // It is made by the method of its name and by `step`, and a line tells where the two differ. Behind an answer stands `by role N`
 // where a role is told.
 use bytes::scan;

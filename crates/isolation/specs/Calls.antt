@@ -1,6 +1,6 @@
 -- The isolation rule over the code: for what the guard hands back to a host in any number of calls, one request at a time or many,
 -- in any cut. The premises are what the host has who made the calls: the contracts of `Tables::step` (guard/src/step.rt) and
--- `Tables::run` (guard/src/run.rt). Each of the seventeen methods is a `step` (guard/src/methods.rt).
+-- `Tables::run` (guard/src/run.rt). Each of the nineteen methods is a `step` (guard/src/methods.rt).
 --     Call, Calls         one call, and calls one after the other: from which tables, the requests made, their answers, the roles told
 --                         (each as its byte), to which tables
 --     compared            of the answers beside a log, those that the rule compares

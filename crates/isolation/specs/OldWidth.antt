@@ -38,8 +38,9 @@ pub old-edition : (o : OldTables) (log : List Request) → run (takenOver o) log
 unfolding takenOver
 old-edition o log = run-edition (takenOver o) log
 
--- So they are old ones taken over where no container is shared, since old tables have no marks: tables of edition 1 that are sound in
--- the old width and have no shared container are those of old tables with sets within 255, which eight bits hold.
+-- So they are old ones taken over where no container is shared and no roles are tied, since old tables have no marks and no ties: tables
+-- of edition 1 that are sound in the old width and have no shared container and no ties are those of old tables with sets within 255,
+-- which eight bits hold.
 pub old-again : (t : Tables) → soundIn oldWidth t ≡ true → AsOld t → (old : OldTables) × (takenOver old ≡ t) × Fits oldWidth (takenOver old)
 old-again = old-ones
 

@@ -38,7 +38,7 @@ entering cats = loginRequest 12 0 0 cats
 
 -- a logout of seat 12, with 256 in the field of the categories
 abbrev pub leaving : Request
-leaving = request logout 12 0 0 0 0 0 0 0 256 0 0
+leaving = request logout 12 0 0 0 0 0 0 0 256 0 0 0
 
 pub unused-past : every (map (categoriesWithin oldWidth) (entering 255 ∷ leaving ∷ [])) ≡ true
 unfolding computing fieldWithin categoriesWithin

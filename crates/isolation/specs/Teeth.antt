@@ -5,9 +5,9 @@
 --     reading-down, lower-opens-differ           edition 2: an upper session reads down in one log and is refused it in the other; its
 --                                                lower opens then differ, the upper parts do not
 --     lower-roles-differ                         edition 2: a read down that two logs allow by different roles
---     edition-counts                             without the edition in the upper part the rule would be false
+--     edition-counts, ties-count                 without the edition, or the ties, in the upper part the rule would be false
 --     guard-isolates                             the rule for the step by any rules: guard's isolate ..
---     openw-fails, grant-fails, delete-fails, share-fails      .. and four misreadings do not
+--     openw-fails .. join-fails                  .. and five misreadings do not
 -- Assumes nothing.
 use Prim.Native.Nat.{ℕ, _≤_}
 use mathlib.Core.Path.{_≡_, refl, sym, ap}
@@ -17,18 +17,19 @@ use lib.Dec.{eqb, lit≤}
 use lib.ListN.{getD}
 use Rattle.bitset.specs.Tests.{every}
 use Rattle.bitset.specs.Sets.{has, from}
+use Rattle.guard.specs.Level.{roleLevel}
 use Rattle.guard.specs.Label.{allCategories, noLabel}
 use Rattle.guard.specs.Tables.{edition1, edition2, noSession, noRole, noEntity, execute, hasRight}
 use Rattle.guard.specs.Sound.{sound}
 use Rattle.guard.specs.Fresh.{fresh}
 use Rattle.guard.proofs.Laws.Morning.{morningUsers}
 use Rattle.guard.proofs.Laws.Edition.{withEdition}
-use Rattle.guard.specs.Edits.{atSession, atEntity}
+use Rattle.guard.specs.Edits.{atSession, atRole, atEntity, eachRole, listing, tying, tieJunior, madeRole}
 use Rattle.guard.specs.Refusals.{Refusal, _when_, first}
 use Rattle.guard.specs.Conditions.{recordedParent}
 use Rattle.guard.specs.Requests.{Rule, fieldInRangeIn, ruleOf}
 use Rattle.guard.specs.Step.{inRangesIn, answerIn, nextIn, roleOpening, roleToldIn, answers, rolesTold, run, runIn}
-use Rattle.guard.specs.Methods.{shareRequest}
+use Rattle.guard.specs.Methods.{shareRequest, tieRequest}
 use Rattle.guard.specs.SameRequest.{sameField, sameRequest}
 use Rattle.isolation.specs.Upper.{upperSession, upperRole, upper, isUpper, fieldUpper, namesUpper, upperRequests, upperAnswers}
 use Rattle.guard.specs.declared.Tables.{Tables}
@@ -39,12 +40,13 @@ use Rattle.guard.proofs.Compute.{computing}
 use Rattle.isolation.specs.Log.{runLog, answersOf}
 use Rattle.isolation.specs.Proof.Rule.{isolated}
 
--- ---- where all logs of this file start: fresh tables with object 17 in root 16 (level 1), and with seat 0 (level 0)
--- signed in, which holds the keepers 0 and 4 of levels 0 and 1
+-- ---- where all logs of this file start: fresh tables with object 17 in root 16 (level 1), with role 5 (level 1), which lists user 0,
+-- and with seat 0 (level 0) signed in, which holds the keepers 0 and 4 of levels 0 and 1
 unfoldable pub startIn : ℕ → Tables
 startIn edition =
     atSession 0 (λ old. record { live = true; user = 0; label = noLabel; roles = 17; reading = 0; writing = 0 })
-    (atEntity 17 (λ old. record { live = true; kind = 0; parent = 16; name = 7; label = noLabel; shared = 0 }) (fresh morningUsers edition))
+    (atRole 5 (λ old. listing 1 madeRole)
+    (atEntity 17 (λ old. record { live = true; kind = 0; parent = 16; name = 7; label = noLabel; shared = 0 }) (fresh morningUsers edition)))
 
 abbrev pub start : Tables
 start = startIn edition1
@@ -60,14 +62,25 @@ pub start-2-sound : sound start-2 ≡ true
 unfolding computing morningUsers startIn
 start-2-sound = refl
 
+-- .. or with the keeper 4 as a junior of role 5
+unfoldable pub start-tied : Tables
+start-tied = atRole 5 (tieJunior 4) start
+
+pub start-tied-sound : sound start-tied ≡ true
+unfolding computing morningUsers startIn start-tied
+start-tied-sound = refl
+
 -- one request: call, seat, role, entity, rights; the other fields are 0
 abbrev pub ask : ℕ → ℕ → ℕ → ℕ → ℕ → Request
 ask call seat role entity rights =
-    record { call = call; seat = seat; user = 0; role = role; entity = entity; parent = 0; kind = 0; name = 0; grade = 0; cats = 0; rights = rights; shared = 0 }
+    record { call = call; seat = seat; user = 0; role = role; entity = entity; parent = 0; kind = 0; name = 0; grade = 0; cats = 0; rights = rights; shared = 0; junior = 0 }
 
 -- of the lower seats 0 and 1
 abbrev pub make-1 : Request
 make-1 = ask 14 0 1 0 0
+
+abbrev pub join-0-1 : Request
+join-0-1 = tieRequest 17 0 0 1
 
 abbrev pub logout-0 : Request
 logout-0 = ask 1 0 0 0 0
@@ -87,25 +100,32 @@ delete-17 = ask 8 0 0 17 0
 abbrev pub share-16 : Request
 share-16 = shareRequest 0 16 1
 
--- of the upper seat 4: its login, its keeper taken, the lower role 1 taken
+abbrev pub join-5-4 : Request
+join-5-4 = tieRequest 17 0 5 4
+
+-- of the upper seat 4: its login, its keeper taken, and tied to role 5, the lower role 1 taken
 abbrev pub login-4 : Request
 login-4 = ask 0 4 0 0 0
 
 abbrev pub take-4 : Request
 take-4 = ask 2 4 4 0 0
 
+abbrev pub join-by-4 : Request
+join-by-4 = tieRequest 17 4 5 4
+
 abbrev pub take-1 : Request
 take-1 = ask 2 4 1 0 0
 
--- ---- what is asked from below may differ in kind, number and place, and be refused
+-- ---- what is asked from below may differ in kind, number and place, and be refused; a tie of lower roles is made in the one log
+-- alone, that of upper roles in both
 abbrev pub log-a : List Request
-log-a = make-1 ∷ login-4 ∷ take-4 ∷ []
+log-a = make-1 ∷ join-0-1 ∷ login-4 ∷ take-4 ∷ join-by-4 ∷ []
 
 abbrev pub log-b : List Request
-log-b = login-4 ∷ openr-by-1 ∷ logout-0 ∷ take-4 ∷ []
+log-b = login-4 ∷ openr-by-1 ∷ logout-0 ∷ take-4 ∷ join-by-4 ∷ []
 
 pub lower-logs-differ : (upperRequests 1 log-a ≡ upperRequests 1 log-b) × (upper 1 (run start log-a) ≡ upper 1 (run start log-b))
-    × (answers start log-a ≡ 0 ∷ 0 ∷ 0 ∷ []) × (answers start log-b ≡ 0 ∷ 5 ∷ 0 ∷ 0 ∷ [])
+    × (answers start log-a ≡ 0 ∷ 0 ∷ 0 ∷ 0 ∷ 0 ∷ []) × (answers start log-b ≡ 0 ∷ 5 ∷ 0 ∷ 0 ∷ 0 ∷ [])
 unfolding computing morningUsers startIn runIn upper upperSession upperRole from isUpper upperRequests
 lower-logs-differ = (refl, refl, refl, refl)
 
@@ -178,6 +198,16 @@ pub edition-counts : (withEdition 0 (upper 1 start) ≡ withEdition 0 (upper 1 s
 unfolding computing morningUsers startIn upper upperSession upperRole from isUpper fieldUpper namesUpper upperAnswers
 edition-counts = (refl, refl, refl)
 
+-- ---- two tables that differ in a tie between upper roles alone: openr by seat 4 of root 16 is answered 0 where the keeper 4 is a junior
+-- of role 5, which the seat holds, and 13 where it is not. So the rule needs the ties in the upper part
+abbrev pub log-h : List Request
+log-h = login-4 ∷ ask 2 4 5 0 0 ∷ ask 4 4 0 16 0 ∷ []
+
+pub ties-count : (eachRole (tying 0) (upper 1 start-tied) ≡ eachRole (tying 0) (upper 1 start))
+    × (upperAnswers 1 start-tied log-h ≡ (0, None) ∷ (0, None) ∷ (0, By 5) ∷ []) × (upperAnswers 1 start log-h ≡ (0, None) ∷ (0, None) ∷ (13, None) ∷ [])
+unfolding computing morningUsers startIn start-tied upper upperSession upperRole from isUpper fieldUpper namesUpper upperAnswers
+ties-count = (refl, refl, refl)
+
 -- ---- the step by other rules, and the isolation rule for it
 module _ (rule : Request → Rule) where
   unfoldable pub numberBy : Tables → Request → ℕ
@@ -227,8 +257,12 @@ delete-unopened = misread 8 13 (λ t q. not (hasRight t (q .seat) execute (recor
 abbrev pub share-without-10 : Request → Rule
 share-without-10 = misread 16 10 (λ t q. false)
 
+-- join without asking that the seat is not below the senior: 10 is that the two differ in level, alone
+abbrev pub join-from-below : Request → Rule
+join-from-below = misread 17 10 (λ t q. not (eqb (roleLevel (q .junior)) (roleLevel (q .role))))
+
 -- what the lower seat 0 asks below, guard refuses
-pub refused : answers start (openw-16 ∷ grant-16 ∷ delete-17 ∷ share-16 ∷ []) ≡ 10 ∷ 10 ∷ 13 ∷ 10 ∷ []
+pub refused : answers start (openw-16 ∷ grant-16 ∷ delete-17 ∷ share-16 ∷ join-5-4 ∷ []) ≡ 10 ∷ 10 ∷ 13 ∷ 10 ∷ 10 ∷ []
 unfolding computing morningUsers startIn
 refused = refl
 
@@ -258,3 +292,8 @@ delete-fails h = true≢false (sym (told delete-unopened h delete-17 [] (λ v. g
 pub share-fails : Isolates share-without-10 → ⊥
 unfolding computing morningUsers startIn upper upperSession upperRole from isUpper upperRequests runLog nextBy numberBy misread instead
 share-fails h = true≢false (told share-without-10 h share-16 [] (λ v. eqb (getD (v .entities) 0 noEntity .shared) 1) refl)
+
+-- seat 0 ties the keeper 4 to role 5
+pub join-fails : Isolates join-from-below → ⊥
+unfolding computing morningUsers startIn upper upperSession upperRole from isUpper upperRequests runLog nextBy numberBy misread instead
+join-fails h = true≢false (told join-from-below h join-5-4 [] (λ v. has (getD (v .roles) 1 noRole .juniors) 0) refl)

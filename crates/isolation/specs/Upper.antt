@@ -7,7 +7,7 @@ use lib.ListN.{drop}
 use Rattle.bitset.specs.Tests.{every}
 use Rattle.bitset.specs.Sets.{from}
 use Rattle.guard.specs.Level.{sessionCount, sessionLevel, roleLevel, entityLevel, entitiesPerLevel}
-use Rattle.guard.specs.Requests.{Field, call, seat, user, role, entity, parent, kind, name, label, rights, shared, ruleOf}
+use Rattle.guard.specs.Requests.{Field, call, seat, user, role, entity, parent, kind, name, label, rights, shared, junior, ruleOf}
 use Rattle.guard.specs.Step.{answer, next, roleTold}
 use Rattle.guard.specs.declared.Session.{Session}
 use Rattle.guard.specs.declared.Role.{Role}
@@ -39,12 +39,14 @@ upperSession L s =
       writing = from (firstEntity L) (s .writing);
     }
 
--- the live mark and list of roles of level L and above, and their rights on entities of level L and above
+-- the live mark and list of roles of level L and above, and their rights on entities of level L and above. Ties among upper roles
+-- join the upper part.
 unfoldable pub upperRole : ℕ → Role → Role
 upperRole L r =
     record {
       live = r .live;
       users = r .users;
+      juniors = from (firstRole L) (r .juniors);
       reads = from (firstEntity L) (r .reads);
       writes = from (firstEntity L) (r .writes);
       executes = from (firstEntity L) (r .executes);
@@ -82,6 +84,7 @@ fieldUpper L q name = true
 fieldUpper L q label = true
 fieldUpper L q rights = true
 fieldUpper L q shared = true
+fieldUpper L q junior = leb L (roleLevel (q .junior))
 
 unfoldable pub namesUpper : ℕ → Request → Bool
 namesUpper L q = every (map (fieldUpper L q) (ruleOf q .uses))

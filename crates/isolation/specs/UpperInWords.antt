@@ -4,7 +4,7 @@ use Prim.Native.Nat.{ℕ, _≤_}
 use mathlib.Core.Path.{_≡_}
 use lib.ListN.{length}
 use Rattle.guard.specs.Level.{sessionCount, roleCount, entityCount, sessionLevel, roleLevel, entityLevel}
-use Rattle.guard.specs.Tables.{sessionAt, roleAt, entityAt, holds, isReading, isWriting, lists, rightsOn}
+use Rattle.guard.specs.Tables.{sessionAt, roleAt, entityAt, holds, isReading, isWriting, lists, isJunior, rightsOn}
 use Rattle.guard.specs.declared.Tables.{Tables}
 
 -- The tables hold .. sixteen seats, sixteen roles and sixty-four entities. (In the program by their types; in a theorem a list has
@@ -33,5 +33,7 @@ pub record SameUpper (L : ℕ) (t u : Tables) : Type 0 where
   pub rights : (r e : ℕ) → L ≤ roleLevel r → L ≤ entityLevel e → rightsOn t r e ≡ rightsOn u r e
   -- the whole record of entities of level L and above. The mark belongs to the upper part with its entity.
   pub entity : (e : ℕ) → L ≤ entityLevel e → entityAt t e ≡ entityAt u e
+  -- Ties among upper roles join the upper part.
+  pub tied : (r j : ℕ) → L ≤ roleLevel r → L ≤ roleLevel j → isJunior t r j ≡ isJunior u r j
   -- The edition joins the upper part.
   pub edition : t .edition ≡ u .edition

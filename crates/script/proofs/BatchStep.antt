@@ -99,7 +99,7 @@ texts-all n marks given i lines h l p = let e : lines ≡ i = omega arith in rw 
 -- ---- what the guard hands back
 all-fit : (n answers roles : ℕ) → n ≤ answers → n ≤ roles → batchLength (rowLength * n) answers roles ≡ n
 unfolding batchLength shorter
-all-fit n answers roles h k = let e : (12 * n) / 12 ≡ n = omega arith in rw e (go (leb roles answers))
+all-fit n answers roles h k = let e : (rowLength * n) / rowLength ≡ n = omega arith in rw e (go (leb roles answers))
   where
     go : (b : Bool) → cond (leb n (cond b roles answers)) n (cond b roles answers) ≡ n
     go true = rw (le-leb n roles k)

@@ -163,9 +163,20 @@ abbrev pub Misses : Type 0 → ℕ → List ℕ → Type 0
 Misses A k [] = A
 Misses A k (n ∷ ns) = Misses (A × (k ≡ n → ⊥)) k ns
 
-pub spot-none : {A : Type 0} (k : ℕ) (ns : List ℕ) → Misses A k ns → A × (spot k ns ≡ length ns)
-spot-none k [] a = (a, refl)
-spot-none k (n ∷ ns) m = let h = spot-none k ns m in (h .0 .0, rw (ne-eqb k n (h .0 .1), h .1))
+-- the numbers that pass a test: what passes it too is none of the others
+abbrev pub kept : (ℕ → Bool) → List ℕ → List ℕ
+kept t [] = []
+kept t (n ∷ ns) = cond (t n) (n ∷ kept t ns) (kept t ns)
+
+pub spot-none : {A : Type 0} (t : ℕ → Bool) (k : ℕ) (ns : List ℕ) → t k ≡ true → Misses A k (kept t ns) → A × (spot k ns ≡ length ns)
+spot-none t k [] p a = (a, refl)
+spot-none {A} t k (n ∷ ns) p m = go (t n) refl (spot-none t k ns p) (spot-none t k ns p) m
+  where
+    go : (b : Bool) → t n ≡ b → (Misses (A × (k ≡ n → ⊥)) k (kept t ns) → (A × (k ≡ n → ⊥)) × (spot k ns ≡ length ns))
+        → (Misses A k (kept t ns) → A × (spot k ns ≡ length ns))
+        → Misses A k (cond b (n ∷ kept t ns) (kept t ns)) → A × (cond (eqb k n) 0 (suc (spot k ns)) ≡ suc (length ns))
+    go true e one other m = let h = one m in (h .0 .0, rw (ne-eqb k n (h .0 .1), h .1))
+    go false e one other m = let h = other m in (h .0, rw (ne-eqb k n (λ i. true≢false (sym p ∙ ap t i ∙ e)), h .1))
 
 -- ns are the keys of qs
 pub record Keyed (qs : List (List ℕ)) (ns : List ℕ) : Type 0 where
@@ -180,8 +191,8 @@ module _ {qs : List (List ℕ)} {ns : List ℕ} (y : Keyed qs ns) (s : List ℕ)
   pub at-key : {n : ℕ} → k ≡ n → spot n ns ≡ column s qs
   at-key e = ap (λ (n : ℕ). spot n ns) (sym e) ∙ by-number
 
-  pub at-none : Misses (Unit {0}) k ns → length ns ≡ column s qs
-  at-none m = sym (spot-none k ns m .1) ∙ by-number
+  pub at-none : Misses (Unit {0}) k (kept (λ n. true) ns) → length ns ≡ column s qs
+  at-none m = sym (spot-none (λ n. true) k ns refl m .1) ∙ by-number
 
 -- ---- the keys of the names and of the words
 abbrev nameKeys : List ℕ
@@ -199,6 +210,7 @@ nameKeys =
     ∷ 0x1726967687473
     ∷ 0x16365696c696e67
     ∷ 0x1736861726564
+    ∷ 0x16a756e696f72
     ∷ []
 
 pub name-keys : Keyed allNames nameKeys
@@ -225,6 +237,8 @@ wordKeys =
     ∷ 0x16d616b65
     ∷ 0x1756e6d616b65
     ∷ 0x17368617265
+    ∷ 0x16a6f696e
+    ∷ 0x1756e6a6f696e
     ∷ []
 
 pub word-keys : Keyed words wordKeys

@@ -107,7 +107,7 @@ module _ (w : ℕ) (six : Six) (x : Numbers) where
   unfolding asks ahead front joined
   asks-bad h = rw h
 
-  module _ (name level cats rights ceiling shared : ℕ) (h : x ≡ these (name ∷ level ∷ cats ∷ rights ∷ ceiling ∷ shared ∷ [])) where
+  module _ (name level cats rights ceiling shared junior : ℕ) (h : x ≡ these (name ∷ level ∷ cats ∷ rights ∷ ceiling ∷ shared ∷ junior ∷ [])) where
     pub asks-user : w ≡ userWord → SetUser (six .user) level cats ceiling ≡ asks w (ahead (Whole six) x)
     unfolding asks ahead front joined
     asks-user e = rw (h, e)
@@ -127,6 +127,7 @@ module _ (w : ℕ) (six : Six) (x : Numbers) where
           cats = cats;
           rights = rights;
           shared = shared;
+          junior = junior;
         })
         ≡ asks w (ahead (Whole six) x)
     unfolding asks ahead front joined
@@ -134,7 +135,7 @@ module _ (w : ℕ) (six : Six) (x : Numbers) where
 
 -- ---- which fields a word uses: the set of each word, and the definition, by computing
 unfoldable pub table : List ℕ
-table = 2820 ∷ 774 ∷ 2 ∷ 10 ∷ 10 ∷ 18 ∷ 18 ∷ 18 ∷ 1018 ∷ 18 ∷ 146 ∷ 1050 ∷ 1050 ∷ 14 ∷ 14 ∷ 10 ∷ 10 ∷ 4114 ∷ []
+table = 2820 ∷ 774 ∷ 2 ∷ 10 ∷ 10 ∷ 18 ∷ 18 ∷ 18 ∷ 1018 ∷ 18 ∷ 146 ∷ 1050 ∷ 1050 ∷ 14 ∷ 14 ∷ 10 ∷ 10 ∷ 4114 ∷ 8202 ∷ 8202 ∷ []
 
 alike : List Bool → List Bool → Bool
 alike [] [] = true

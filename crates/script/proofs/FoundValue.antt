@@ -18,7 +18,7 @@ use Rattle.script.specs.Text.{bytes, same, allDigits, number}
 use Rattle.script.specs.Names.{column}
 use Rattle.script.specs.Line.{valueOf, words}
 use Rattle.script.specs.Private.Slices.{leading}
-use Rattle.script.specs.Private.ShortTexts.{wordOf, Begins}
+use Rattle.script.specs.Private.ShortTexts.{Begins}
 use Rattle.script.specs.Private.Rows.{coded, codeAt, formOf, noWord, IsFound}
 use Rattle.script.specs.declared.line.Value.{Value}
 use Rattle.script.proofs.ByKey.{Bytes}
@@ -26,7 +26,7 @@ use Rattle.script.proofs.Texts.{not-dash, no-dash, good-digits}
 use Rattle.script.proofs.ValuesInTurn.{to-end}
 use Rattle.script.proofs.NamePlaces.{column-most}
 use Rattle.script.proofs.FirstValue.{lead-take, lead-one, lead-end, lead-two, drop-two, drop-three}
-use Rattle.script.proofs.WordAtFront.{Word, words-length, word-known, word-space, bytes-drop}
+use Rattle.script.proofs.WordAtFront.{Word, words-length, word-known, bytes-drop}
 use Rattle.script.proofs.CodeForms.{form-number, form-dash}
 
 -- ---- a dash
@@ -153,10 +153,10 @@ module _ (i from p : ℕ) (s : List ℕ) (l : from + 2 < length s) (h : p ≡ ge
       found-by i from 100000 1 1 true s (45 ∷ []) (ap leading (front i from 45 32 s l a b) ∙ lead-one 45 32 _ (omega arith) refl) refl (code-dash i (45 ∷ []) dash-same) form-dash (rw (← b))
 
 -- a word, and a space behind it
-pub found-word : (i from k n w : ℕ) (s : List ℕ) → i ≡ 0 → from + 6 < length s → Bytes s → Begins (drop from s) k n → w ≡ wordOf k → w < noWord
+pub found-word : (i from n w : ℕ) (s : List ℕ) → i ≡ 0 → from + 6 < length s → Bytes s → Begins (drop from s) w n → w < noWord
     → IsFound i s from (record { code = w; form = 0; end = from + n; more = true })
-found-word i from k n w s h l b g e m =
+found-word i from n w s h l b g m =
     let t : length (drop from s) ≡ length s - from = length-drop from s in
-    let x : Word (drop from s) (take n (drop from s)) w = word-known (drop from s) k n w (bytes-drop from s b) g e m (omega (arith, g .within)) in
+    let x : Word (drop from s) (take n (drop from s)) w = word-known (drop from s) n w (bytes-drop from s b) g m (omega (arith, g .within)) in
     found-by i from w 0 n true s (take n (drop from s)) (x .leads) (length-take-le n (drop from s) (omega (arith, g .within))) (code-word i _ (x .no-dash) h (x .place)) (form-number w (word-small _ (x .place)))
-    (sym (eq-eqb _ _ (sym (getD-drop from s n 0) ∙ word-space e m g)))
+    (sym (eq-eqb _ _ (sym (getD-drop from s n 0) ∙ g .space m)))

@@ -2,7 +2,7 @@
 --     read-bad, read-unknown, read-halves      a line that can't be read; an unknown word; the two halves of the fields
 --     asks-by, asks-fault                      what the first half is
 -- Assumes nothing.
-use Prim.Native.Nat.{ℕ, zero, suc, _≤_, _<_}
+use Prim.Native.Nat.{ℕ, zero, suc, _-_, _≤_, _<_}
 use mathlib.Core.Path.{_≡_, refl, ap, sym, _∙_}
 use mathlib.Core.Bool.{Bool, true, false, not, cond, _&&_, _||_, true≢false}
 use mathlib.Core.List.{List, []}
@@ -113,8 +113,8 @@ module _ {h : List (List ℕ)} {at l vals : List ℕ} {r : Row} (o : Ordered h a
 
     pub read-halves : (u : ℕ) (x : Half) → getD vals 0 0 < noWord → members u 1 fieldCount ≡ used (getD vals 0 0)
         → ((rest : Numbers) → takeFrom u (r .given) vals 1 6 rest ≡ ahead x rest)
-        → asks (getD vals 0 0) (ahead x (takeFrom u (r .given) vals 7 6 (these []))) ≡ readLine h l
-    read-halves u x m e f = ap (asks (getD vals 0 0)) (sym (f _) ∙ sym (take-split u (r .given) vals 1 6 6 (these []))) ∙ read-known u m e
+        → asks (getD vals 0 0) (ahead x (takeFrom u (r .given) vals 7 (fieldCount - 6) (these []))) ≡ readLine h l
+    read-halves u x m e f = ap (asks (getD vals 0 0)) (sym (f _) ∙ sym (take-split u (r .given) vals 1 6 (fieldCount - 6) (these []))) ∙ read-known u m e
 
 pub asks-by : (w : ℕ) (x y : Half) (rest : Numbers) → x ≡ y → asks w (ahead y rest) ≡ asks w (ahead x rest)
 asks-by w x y rest e = rw e

@@ -5,7 +5,7 @@
 --     twelve, twelve-at                                       the twelve stand in front
 --     any-default, map-at                                     an element of a list, and of a list of results
 --     named-alike                                             two texts at one place among the names
---     Different, different-few                                different names, of which there are no more than thirteen
+--     Different, different-few                                different names, of which there are no more than there are names
 --     name-among, name-known, name-apart, names-most          a good header: the twelve are among it, each is a name, none stands twice
 --     placeOf, place-at, at-lt, at-place                      `at` and the place of a name are inverse
 --     fills-names                                             as many values as names
@@ -13,14 +13,14 @@
 -- Assumes nothing.
 use Prim.Native.Nat.{ℕ, zero, suc, _≤_, _<_}
 use mathlib.Core.Path.{_≡_, refl, ap, sym, _∙_}
-use mathlib.Core.Bool.{Bool, true, false, cond, _&&_, _||_, and-eq-true-iff}
+use mathlib.Core.Bool.{Bool, true, false, not, cond, _&&_, _||_, and-eq-true-iff}
 use mathlib.Core.List.{List, [], _∷_, map}
 use native.Mathlib.Decide.{decLt}
 use native.Mathlib.Nat.{mod-eq-of-lt}
 use native.Mathlib.Omega.{arith}
 use lib.Dec.{eqb, ltb}
 use lib.ListN.{length, getD, length-map, List·getD-append, List·getD-map, List·getD-eq-default}
-use borrow.Author.Tests.{eqb-true, eq-eqb, ltb-true, lt-ltb}
+use borrow.Author.Tests.{eqb-true, eqb-false, eq-eqb, ne-eqb, ltb-true, lt-ltb}
 use Rattle.bitset.specs.Tests.{all}
 use Rattle.bitset.specs.Tests.Laws.{all-e, both, every-i, every-at, clash, is-false, not-of-false, of-not-true, or-true, none-below}
 use Rattle.guard.proofs.Laws.Pigeons.{Meet, pigeons}
@@ -126,7 +126,7 @@ pub record Different (h : List (List ℕ)) (n : ℕ) : Type 0 where
   pub known : (k : ℕ) → k < n → column (getD h k []) allNames < nameCount
   pub apart : (a b : ℕ) → a < b → b < n → column (getD h a []) allNames ≡ column (getD h b []) allNames → ⊥
 
--- of fourteen two would be the same
+-- of more than there are names two would be the same
 pub different-few : (h : List (List ℕ)) (n : ℕ) → Different h n → n ≤ nameCount
 different-few h n f = go (decLt nameCount n)
   where
@@ -213,29 +213,32 @@ module _ {h : List (List ℕ)} {at : List ℕ} (o : Ordered h at) where
   unfolding fills
   fills-names j = both _ _ forth back
     where
-      within : Dec (j < length h) → suc j < 16 → nameAt at j < nameCount → j < length h
+      within : Dec (j < length h) → suc j < 16 → (nameAt at j ≡ nameCount → ⊥) → j < length h
       within (yes m) l n = m
-      within (no m) l n = absurd (omega (arith, none-in j (omega arith) (omega arith)))
+      within (no m) l n = absurd (n (none-in j (omega arith) (omega arith)))
 
       last : Dec (suc j < length h) → nameAt at (suc j) ≡ nameCount → length h ≤ suc j
       last (yes m) n = absurd (omega (arith, name-in (suc j) m))
       last (no m) n = omega arith
 
-      forth : (ltb (suc j) 16 && (ltb (nameAt at j) nameCount && eqb (nameAt at (suc j)) nameCount)) ≡ true → eqb (suc j) (length h) ≡ true
+      named : j < length h → nameAt at j ≡ nameCount → ⊥
+      named l e = omega (arith, name-in j l)
+
+      forth : (ltb (suc j) 16 && (not (eqb (nameAt at j) nameCount) && eqb (nameAt at (suc j)) nameCount)) ≡ true → eqb (suc j) (length h) ≡ true
       forth t =
-          let (a, more) = and-eq-true-iff (ltb (suc j) 16) (ltb (nameAt at j) nameCount && eqb (nameAt at (suc j)) nameCount) .0 t in
-          let (b, c) = and-eq-true-iff (ltb (nameAt at j) nameCount) (eqb (nameAt at (suc j)) nameCount) .0 more in
-          let here = within (decLt j (length h)) (ltb-true (suc j) 16 a) (ltb-true (nameAt at j) nameCount b) in
+          let (a, more) = and-eq-true-iff (ltb (suc j) 16) (not (eqb (nameAt at j) nameCount) && eqb (nameAt at (suc j)) nameCount) .0 t in
+          let (b, c) = and-eq-true-iff (not (eqb (nameAt at j) nameCount)) (eqb (nameAt at (suc j)) nameCount) .0 more in
+          let here = within (decLt j (length h)) (ltb-true (suc j) 16 a) (eqb-false (nameAt at j) nameCount (of-not-true _ b)) in
           let over = last (decLt (suc j) (length h)) (eqb-true (nameAt at (suc j)) nameCount c) in
           eq-eqb (suc j) (length h) (omega arith)
 
-      back : eqb (suc j) (length h) ≡ true → (ltb (suc j) 16 && (ltb (nameAt at j) nameCount && eqb (nameAt at (suc j)) nameCount)) ≡ true
+      back : eqb (suc j) (length h) ≡ true → (ltb (suc j) 16 && (not (eqb (nameAt at j) nameCount) && eqb (nameAt at (suc j)) nameCount)) ≡ true
       back t =
           let e = eqb-true (suc j) (length h) t in
-          and-eq-true-iff (ltb (suc j) 16) (ltb (nameAt at j) nameCount && eqb (nameAt at (suc j)) nameCount) .1 (
+          and-eq-true-iff (ltb (suc j) 16) (not (eqb (nameAt at j) nameCount) && eqb (nameAt at (suc j)) nameCount) .1 (
             lt-ltb (suc j) 16 (omega (arith, most)),
-            and-eq-true-iff (ltb (nameAt at j) nameCount) (eqb (nameAt at (suc j)) nameCount) .1 (
-              lt-ltb (nameAt at j) nameCount (name-in j (omega arith)),
+            and-eq-true-iff (not (eqb (nameAt at j) nameCount)) (eqb (nameAt at (suc j)) nameCount) .1 (
+              not-of-false _ (ne-eqb (nameAt at j) nameCount (named (omega arith))),
               eq-eqb (nameAt at (suc j)) nameCount (none-in (suc j) (omega (arith, most)) (omega arith)),
             ),
           )

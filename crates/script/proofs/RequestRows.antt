@@ -26,19 +26,19 @@ requestsOf (SetUser user level cats ceiling) = []
 requestsOf Bad = []
 
 -- ---- rows that are the same numbers
-request-same : (a b : List ℕ) (n : ℕ) → ((j : ℕ) → j < 12 → getD a (12 * n + j) 0 ≡ getD b (12 * n + j) 0) → requestAt a n ≡ requestAt b n
+request-same : (a b : List ℕ) (n : ℕ) → ((j : ℕ) → j < rowLength → getD a (rowLength * n + j) 0 ≡ getD b (rowLength * n + j) 0) → requestAt a n ≡ requestAt b n
 unfolding requestAt
 request-same a b n h =
-    rw (h 0 (omega arith), h 1 (omega arith), h 2 (omega arith), h 3 (omega arith), h 4 (omega arith), h 5 (omega arith), h 6 (omega arith), h 7 (omega arith), h 8 (omega arith), h 9 (omega arith), h 10 (omega arith), h 11 (omega arith))
+    rw (h 0 (omega arith), h 1 (omega arith), h 2 (omega arith), h 3 (omega arith), h 4 (omega arith), h 5 (omega arith), h 6 (omega arith), h 7 (omega arith), h 8 (omega arith), h 9 (omega arith), h 10 (omega arith), h 11 (omega arith), h 12 (omega arith))
 
-requests-same : (n : ℕ) (a b : List ℕ) → ((k : ℕ) → k < 12 * n → getD a k 0 ≡ getD b k 0) → requests n a ≡ requests n b
+requests-same : (n : ℕ) (a b : List ℕ) → ((k : ℕ) → k < rowLength * n → getD a k 0 ≡ getD b k 0) → requests n a ≡ requests n b
 unfolding tabulate
 requests-same zero a b h = refl
 requests-same (suc n) a b h =
-    ap₂ (λ (l : List Request) (q : Request). l ++ (q ∷ [])) (requests-same n a b (λ k l. h k (omega arith))) (request-same a b n (λ j l. h (12 * n + j) (omega arith)))
+    ap₂ (λ (l : List Request) (q : Request). l ++ (q ∷ [])) (requests-same n a b (λ k l. h k (omega arith))) (request-same a b n (λ j l. h (rowLength * n + j) (omega arith)))
 
 pub requests-take : (n : ℕ) (rows : List ℕ) → requests n (take (rowLength * n) rows) ≡ requests n rows
-requests-take n rows = requests-same n (take (12 * n) rows) rows (λ k l. getD-take (12 * n) rows k 0 l)
+requests-take n rows = requests-same n (take (rowLength * n) rows) rows (λ k l. getD-take (rowLength * n) rows k 0 l)
 
 -- ---- one line more
 module _ (rows vs : List ℕ) (i : ℕ) (h : i + length vs ≤ length rows) where
@@ -67,19 +67,19 @@ module _ (rows : List ℕ) (n : ℕ) (q : Request) (h : rowLength * n + rowLengt
   abbrev after-it : List ℕ
   after-it = written rows (rowLength * n) (rowOf q)
 
-  here : (j : ℕ) → j < 12 → getD after-it (12 * n + j) 0 ≡ getD (rowOf q) j 0
-  here j l = written-at rows (rowOf q) (12 * n) (omega arith) j l
+  here : (j : ℕ) → j < rowLength → getD after-it (rowLength * n + j) 0 ≡ getD (rowOf q) j 0
+  here j l = written-at rows (rowOf q) (rowLength * n) (omega arith) j l
 
   stored : requestAt after-it n ≡ q
   unfolding requestAt
   stored =
-      rw (here 0 (omega arith), here 1 (omega arith), here 2 (omega arith), here 3 (omega arith), here 4 (omega arith), here 5 (omega arith), here 6 (omega arith), here 7 (omega arith), here 8 (omega arith), here 9 (omega arith), here 10 (omega arith), here 11 (omega arith))
+      rw (here 0 (omega arith), here 1 (omega arith), here 2 (omega arith), here 3 (omega arith), here 4 (omega arith), here 5 (omega arith), here 6 (omega arith), here 7 (omega arith), here 8 (omega arith), here 9 (omega arith), here 10 (omega arith), here 11 (omega arith), here 12 (omega arith))
 
   requests-more : requests (n + 1) after-it ≡ requests n rows ++ (q ∷ [])
   unfolding tabulate
   requests-more =
       rw add-one
-      (ap₂ (λ (l : List Request) (p : Request). l ++ (p ∷ [])) (requests-same n after-it rows (written-before rows (rowOf q) (12 * n) (omega arith))) stored)
+      (ap₂ (λ (l : List Request) (p : Request). l ++ (p ∷ [])) (requests-same n after-it rows (written-before rows (rowOf q) (rowLength * n) (omega arith))) stored)
 
 pub requests-on : (rows : List ℕ) (n : ℕ) (l : Line) → rowLength * n + rowLength ≤ length rows
     → requests (n + one (isRequest l)) (written rows (rowLength * n) (numbersOf l)) ≡ requests n rows ++ requestsOf l

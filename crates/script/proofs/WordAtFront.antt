@@ -4,9 +4,9 @@
 --     bytes-drop                            bytes from some byte on
 --     word-known                            a word and a space behind it
 -- Assumes nothing.
-use Prim.Native.Nat.{ℕ, zero, suc, _+_, _-_, _*_, _≤_, _<_}
+use Prim.Native.Nat.{ℕ, suc, _+_, _-_, _*_, _≤_, _<_}
 use mathlib.Core.Path.{_≡_, refl, ap, sym, _∙_}
-use mathlib.Core.Bool.{true, false, not, _&&_, and-eq-true-iff}
+use mathlib.Core.Bool.{Bool, true, false, not, _&&_, and-eq-true-iff}
 use mathlib.Core.List.{List, [], _∷_, _++_}
 use native.Mathlib.Decide.{decLt}
 use native.Mathlib.Nat.{add-zero}
@@ -22,7 +22,7 @@ use Rattle.script.specs.Line.{requestWords, words}
 use Rattle.script.specs.Private.Slices.{leading}
 use Rattle.script.specs.Private.Rows.{noWord}
 use Rattle.script.specs.Private.ShortTexts.{packed, textKey, spot, wordOf, Begins}
-use Rattle.script.proofs.ByKey.{Bytes, Misses, by-key, spot-none, wordKeys, word-keys}
+use Rattle.script.proofs.ByKey.{Bytes, Misses, kept, by-key, spot-none, wordKeys, word-keys}
 use Rattle.script.proofs.NamePlaces.{column-found}
 use Rattle.script.proofs.FirstValue.{clean, lead-clean}
 
@@ -31,17 +31,14 @@ pub word-at-key : {k n : ℕ} → k ≡ n → spot n wordKeys ≡ wordOf k
 unfolding wordOf
 word-at-key {k} {n} e = rw e (ap (spot n) (sym (word-keys .keys)))
 
-pub word-none : {k : ℕ} → Misses (Unit {0}) k wordKeys → noWord ≡ wordOf k
+-- it is none of those that pass a test which it passes
+pub word-none : (t : ℕ → Bool) {k : ℕ} → t k ≡ true → Misses (Unit {0}) k (kept t wordKeys) → noWord ≡ wordOf k
 unfolding wordOf
-word-none {k} m = sym (spot-none k wordKeys m .1) ∙ ap (spot k) (sym (word-keys .keys))
+word-none t {k} p m = sym (spot-none t k wordKeys p m .1) ∙ ap (spot k) (sym (word-keys .keys))
 
-pub word-text : (p : List ℕ) → Bytes p → wordOf (textKey p) ≡ column p words
+pub word-text : (p : List ℕ) {k w : ℕ} → Bytes p → k ≡ textKey p → w ≡ wordOf k → w ≡ column p words
 unfolding wordOf
-word-text p b = by-key p words b (word-keys .fit)
-
-no-word : wordOf 0 ≡ noWord
-unfolding wordOf
-no-word = ap (spot 0) (word-keys .keys)
+word-text p b h e = e ∙ ap wordOf h ∙ by-key p words b (word-keys .fit)
 
 -- ---- the key of the first bytes
 packed-last : (n : ℕ) (s : List ℕ) (b : ℕ) → packed n (s ++ (b ∷ [])) ≡ 256 * packed n s + b
@@ -81,8 +78,9 @@ key-four s from a b c d l x y z w =
     z)
     w
 
-pub begins : (s : List ℕ) (from n k a : ℕ) → n < 7 → k ≡ textKey (take n (drop from s)) → a ≡ getD s (from + n) 0 → a ≡ 32 → Begins (drop from s) k n
-begins s from n k a l h e z = record { within = l; key = λ i. h; space = λ i. getD-drop from s n 0 ∙ sym e ∙ z }
+pub begins : (s : List ℕ) (from n k a w : ℕ) → n < 7 → k ≡ textKey (take n (drop from s)) → a ≡ getD s (from + n) 0 → a ≡ 32 → w ≡ wordOf k
+    → Begins (drop from s) w n
+begins s from n k a w l h e z x = record { within = l; word = λ m. x ∙ ap wordOf h; space = λ m. getD-drop from s n 0 ∙ sym e ∙ z }
 
 -- ---- bytes
 pub bytes-drop : (n : ℕ) (s : List ℕ) → Bytes s → Bytes (drop n s)
@@ -109,20 +107,12 @@ pub record Word (t p : List ℕ) (w : ℕ) : Type 0 where
   pub place : w ≡ column p words
   pub no-dash : same p (bytes "-") ≡ false
 
--- a key that a word has is not 0
-key-some : (k : ℕ) {w : ℕ} → w ≡ wordOf k → w < noWord → 0 < k
-key-some zero e l = absurd (omega (arith, e, no-word))
-key-some (suc k) e l = omega arith
-
-pub word-space : {t : List ℕ} {k n w : ℕ} → w ≡ wordOf k → w < noWord → Begins t k n → getD t n 0 ≡ 32
-word-space {t} {k} e l g = g .space (key-some k e l)
-
-pub word-known : (t : List ℕ) (k n w : ℕ) → Bytes t → Begins t k n → w ≡ wordOf k → w < noWord → n < length t → Word t (take n t) w
-word-known t k n w b g e l m =
+pub word-known : (t : List ℕ) (n w : ℕ) → Bytes t → Begins t w n → w < noWord → n < length t → Word t (take n t) w
+word-known t n w b g l m =
     record { leads = split ∙ lead-clean (take n t) (drop (suc n) t) (pure .0); place = known; no-dash = not-true _ (pure .1) }
   where
     known : w ≡ column (take n t) words
-    known = e ∙ ap wordOf (g .key (key-some k e l)) ∙ word-text (take n t) (bytes-take n t (omega arith) b)
+    known = word-text (take n t) (bytes-take n t (omega arith) b) refl (g .word l)
 
     here : getD words (column (take n t) words) [] ≡ take n t
     here = column-found (take n t) words (omega (arith, known, words-length))
@@ -133,4 +123,4 @@ word-known t k n w b g e l m =
         (rw here at (all-e noWord (λ i. clean (getD words i []) && not (same (getD words i []) (bytes "-"))) plain (column (take n t) words) (omega (arith, known))))
 
     split : leading t ≡ leading (take n t ++ (32 ∷ drop (suc n) t))
-    split = ap leading (split-at t n 0 m ∙ ap (λ (d : ℕ). take n t ++ (d ∷ drop (suc n) t)) (g .space (key-some k e l)))
+    split = ap leading (split-at t n 0 m ∙ ap (λ (d : ℕ). take n t ++ (d ∷ drop (suc n) t)) (g .space l))

@@ -5,7 +5,7 @@ use mathlib.Core.List.{List, [], _∷_, _++_, map}
 use lib.Dec.{leb, ltb, eqb}
 use lib.ListN.{length, getD}
 use Rattle.bitset.specs.Tests.{every}
-use Rattle.guard.specs.Requests.{Field, call, seat, user, role, entity, parent, kind, name, label, rights, shared, unknown, rules}
+use Rattle.guard.specs.Requests.{Field, call, seat, user, role, entity, parent, kind, name, label, rights, shared, junior, unknown, rules}
 use Rattle.script.specs.declared.line.Value.{Value}
 use Rattle.script.specs.declared.line.Value.the-variants.{Digits, Dash, Other}
 use Rattle.script.specs.declared.line.Line.{Line}
@@ -20,7 +20,7 @@ valueOf bs =
     cond (same bs (bytes "-")) Dash
     (cond (every (leb 1 (length bs) ∷ leb (length bs) 5 ∷ allDigits bs ∷ [])) (Digits (number 0 bs)) Other)
 
--- .. and the request's word under `call`: the seventeen, in the order of their numbers
+-- .. and the request's word under `call`: the nineteen, in the order of their numbers
 unfoldable pub requestWords : List (List ℕ)
 requestWords =
     bytes "login"
@@ -40,6 +40,8 @@ requestWords =
     ∷ bytes "make"
     ∷ bytes "unmake"
     ∷ bytes "share"
+    ∷ bytes "join"
+    ∷ bytes "unjoin"
     ∷ []
 
 -- .. and in front of them the word `user`
@@ -67,6 +69,7 @@ ordinal name = 7
 ordinal label = 8
 ordinal rights = 9
 ordinal shared = 10
+ordinal junior = 11
 
 unfoldable pub isUsed : List Field → Field → Bool
 isUsed [] f = false
@@ -78,7 +81,7 @@ fields = seat ∷ user ∷ role ∷ entity ∷ parent ∷ kind ∷ name ∷ labe
 
 -- the fields of the optional names, in their order
 unfoldable pub optionalFields : List Field
-optionalFields = shared ∷ []
+optionalFields = shared ∷ junior ∷ []
 
 -- of the names behind `call`, those that the word uses. No request uses `ceiling`; `user` uses the user, its clearance and its
 -- ceiling.
@@ -131,6 +134,7 @@ asks word (these ns) =
       cats = getD ns 8 0;
       rights = getD ns 9 0;
       shared = getD ns 11 0;
+      junior = getD ns 12 0;
     }))
 asks word unreadable = Bad
 

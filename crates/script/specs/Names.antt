@@ -24,9 +24,10 @@ names =
     ∷ bytes "ceiling"
     ∷ []
 
--- .. and a thirteenth name `shared`; a names line without it is still read
+-- .. and a thirteenth name `shared`; a names line without it is still read. Likewise a name `junior`; a names line without
+-- `junior` is still read
 unfoldable pub optionalNames : List (List ℕ)
-optionalNames = bytes "shared" ∷ []
+optionalNames = bytes "shared" ∷ bytes "junior" ∷ []
 
 unfoldable pub allNames : List (List ℕ)
 allNames = names ++ optionalNames

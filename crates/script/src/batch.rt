@@ -66,6 +66,7 @@ fn put_row(q: Request, rows: &mut [u32], at: usize) -> usize
     rows[at + 9] = q.cats;
     rows[at + 10] = q.rights;
     rows[at + 11] = q.shared;
+    rows[at + 12] = q.junior;
     at + sizes::ROW
 }
 

@@ -1,5 +1,5 @@
 // The fields of a row, taken apart in the order of the names.
-ghost use Prim.Native.Nat.{_<_};
+ghost use Prim.Native.Nat.{_-_, _<_};
 ghost use mathlib.Core.Path.{_≡_};
 ghost use mathlib.Core.List.{[]};
 ghost use Rattle.bitset.specs.Sets.{has};
@@ -32,26 +32,28 @@ pub enum Half {
 }
 
 // For each word the fields that it uses: bit i is the i-th name, `call` being 0, so from the right none, seat, user, role,
-// entity, parent, kind, name, level, cats, rights, ceiling, shared.
+// entity, parent, kind, name, level, cats, rights, ceiling, shared, junior.
 const USES: [u16; limits::WORDS] = [
-    0b0101100000100, // user
-    0b0001100000110, // login
-    0b0000000000010, // logout
-    0b0000000001010, // take
-    0b0000000001010, // drop
-    0b0000000010010, // openr
-    0b0000000010010, // openw
-    0b0000000010010, // close
-    0b0001111111010, // create
-    0b0000000010010, // delete
-    0b0000010010010, // rename
-    0b0010000011010, // grant
-    0b0010000011010, // revoke
-    0b0000000001110, // list
-    0b0000000001110, // unlist
-    0b0000000001010, // make
-    0b0000000001010, // unmake
-    0b1000000010010, // share
+    0b00101100000100, // user
+    0b00001100000110, // login
+    0b00000000000010, // logout
+    0b00000000001010, // take
+    0b00000000001010, // drop
+    0b00000000010010, // openr
+    0b00000000010010, // openw
+    0b00000000010010, // close
+    0b00001111111010, // create
+    0b00000000010010, // delete
+    0b00000010010010, // rename
+    0b00010000011010, // grant
+    0b00010000011010, // revoke
+    0b00000000001110, // list
+    0b00000000001110, // unlist
+    0b00000000001010, // make
+    0b00000000001010, // unmake
+    0b01000000010010, // share
+    0b10000000001010, // join
+    0b10000000001010, // unjoin
 ];
 
 pub fn uses(word: u32) -> u16
@@ -108,9 +110,9 @@ pub fn first(vals: &[u32; limits::PLACES], given: u16, uses: u16) -> Half
     })
 }
 
-// The other six, and what the line asks.
+// The others, and what the line asks.
 pub fn second(word: u32, six: Six, vals: &[u32; limits::PLACES], given: u16, uses: u16) -> Line
-    ensures { λ r. ⌜ r ≡ asks word (ahead (Half.Numbers six) (takeFrom uses given (now (vals .entry)) 7 6 (these []))) ⌝ }
+    ensures { λ r. ⌜ r ≡ asks word (ahead (Half.Numbers six) (takeFrom uses given (now (vals .entry)) 7 (fieldCount - 6) (these []))) ⌝ }
 {
     let Taken::Number(name) = field(vals[7], given, uses, 7) else {
         return Line::Bad;
@@ -130,6 +132,9 @@ pub fn second(word: u32, six: Six, vals: &[u32; limits::PLACES], given: u16, use
     let Taken::Number(shared) = field(vals[12], given, uses, 12) else {
         return Line::Bad;
     };
+    let Taken::Number(junior) = field(vals[13], given, uses, 13) else {
+        return Line::Bad;
+    };
     if word == limits::USER {
         return Line::SetUser(six.user, level, cats, ceiling);
     }
@@ -146,5 +151,6 @@ pub fn second(word: u32, six: Six, vals: &[u32; limits::PLACES], given: u16, use
         cats,
         rights,
         shared,
+        junior,
     })
 }

@@ -3,7 +3,7 @@ use guard::kinds;
 use guard::sizes;
 
 // What is none of the names: the first number behind theirs. The set of the twelve that every line of names has.
-pub const NO_NAME: u8 = 13;
+pub const NO_NAME: u8 = 14;
 
 pub const FIXED_NAMES: u16 = 4095;
 
@@ -24,6 +24,11 @@ pub const USER: u32 = 0;
 
 // What is none of them.
 pub const NO_WORD: u32 = WORDS as u32;
+
+// The keys of texts of at most four bytes are below the first, those of at most five below the second.
+pub const FOUR_END: u64 = 0x2_00000000;
+
+pub const FIVE_END: u64 = 0x2_0000000000;
 
 // The bytes that a line may have before its byte 10.
 pub const LONGEST: usize = 255;

@@ -122,13 +122,12 @@ fn code_at(s: &[u8], from: usize, i: u32) -> Found
 {
     if i == 0 {
         if from + 6 < s.len() {
-            let k = text::word_key(s, from);
-            let w = text::word_of(k.key);
-            if w < limits::NO_WORD {
+            let w = text::word_from(s, from);
+            if w.word < limits::NO_WORD {
                 return Found {
-                    code: w,
+                    code: w.word,
                     form: 0,
-                    end: from + k.len,
+                    end: from + w.len,
                     more: true,
                 };
             }
@@ -176,7 +175,7 @@ fn is_last(at: &[u8; limits::PLACES], j: usize) -> bool
     requires { ⌜ j + 1 < placeCount ⌝ }
     ensures { λ r. ⌜ r ≡ fills (now (at .entry)) (j + 1) ⌝ }
 {
-    (at[j] % limits::PLACE_COUNT < limits::NO_NAME)
+    (at[j] % limits::PLACE_COUNT != limits::NO_NAME)
         & (at[j + 1] % limits::PLACE_COUNT == limits::NO_NAME)
 }
 

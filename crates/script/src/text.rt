@@ -5,7 +5,7 @@ ghost use lib.ListN.{length, getD, take, drop};
 ghost use Rattle.script.specs.Names.{allNames, column};
 ghost use Rattle.script.specs.Line.{valueOf, words};
 ghost use Rattle.script.specs.Private.Slices.{before, leading};
-ghost use Rattle.script.specs.Private.ShortTexts.{textKey, wordOf, Begins};
+ghost use Rattle.script.specs.Private.ShortTexts.{textKey, fourFrom, fourEnd, fiveEnd, wordOf, Begins};
 use crate::digit;
 use crate::limits;
 use crate::line::Value;
@@ -122,33 +122,56 @@ pub fn name_at(s: &[u8]) -> u8
         0x1_726967687473 => 10, // rights
         0x1_6365696c696e67 => 11, // ceiling
         0x1_736861726564 => 12, // shared
+        0x1_6a756e696f72 => 13, // junior
         _ => limits::NO_NAME,
     }
 }
 
-// Which of the words has the key: `user`, or one more than the request's number.
-pub fn word_of(k: u64) -> u32
+// Which of the words has the key: `user`, or one more than the request's number. The words have four to six bytes. A match
+// over all of them would be called by the reader of a row; one for each length is short enough to stand in it.
+fn word_of_four(k: u64) -> u32
+    requires { ⌜ k < fourEnd ⌝ }
     ensures { λ r. ⌜ r ≡ wordOf k ⌝ }
 {
     match k {
         0x1_75736572 => limits::USER, // user
-        0x1_6c6f67696e => 1, // login
-        0x1_6c6f676f7574 => 2, // logout
         0x1_74616b65 => 3, // take
         0x1_64726f70 => 4, // drop
+        0x1_6c697374 => 13, // list
+        0x1_6d616b65 => 15, // make
+        0x1_6a6f696e => 18, // join
+        _ => limits::NO_WORD,
+    }
+}
+
+fn word_of_five(k: u64) -> u32
+    requires { ⌜ (fourEnd ≤ k) × (k < fiveEnd) ⌝ }
+    ensures { λ r. ⌜ r ≡ wordOf k ⌝ }
+{
+    match k {
+        0x1_6c6f67696e => 1, // login
         0x1_6f70656e72 => 5, // openr
         0x1_6f70656e77 => 6, // openw
         0x1_636c6f7365 => 7, // close
+        0x1_6772616e74 => 11, // grant
+        0x1_7368617265 => 17, // share
+        _ => limits::NO_WORD,
+    }
+}
+
+fn word_of_six(k: u64) -> u32
+    requires { ⌜ fiveEnd ≤ k ⌝ }
+    ensures { λ r. ⌜ r ≡ wordOf k ⌝ }
+{
+    match k {
+        0x1_6c6f676f7574 => 2, // logout
         0x1_637265617465 => 8, // create
         0x1_64656c657465 => 9, // delete
         0x1_72656e616d65 => 10, // rename
-        0x1_6772616e74 => 11, // grant
         0x1_7265766f6b65 => 12, // revoke
-        0x1_6c697374 => 13, // list
         0x1_756e6c697374 => 14, // unlist
-        0x1_6d616b65 => 15, // make
         0x1_756e6d616b65 => 16, // unmake
-        0x1_7368617265 => 17, // share
+        0x1_756e6a6f696e => 19, // unjoin
         _ => limits::NO_WORD,
     }
 }
@@ -158,14 +181,13 @@ pub fn word_at(s: &[u8]) -> u32
     ensures { λ r. ⌜ r ≡ column (now (s .entry)) words ⌝ }
 {
     let k = key(s);
-    word_of(k)
-}
-
-// The key of four to six bytes with a space behind them, and how many they are: the words are that long. 0 where no space
-// stands there.
-pub struct Short {
-    pub key: u64,
-    pub len: usize,
+    if k < limits::FOUR_END {
+        return word_of_four(k);
+    }
+    if k < limits::FIVE_END {
+        return word_of_five(k);
+    }
+    word_of_six(k)
 }
 
 // The byte there.
@@ -179,7 +201,7 @@ pub fn byte(s: &[u8], at: usize) -> u64
 // The key of four bytes.
 fn key4(s: &[u8], from: usize) -> u64
     requires { ⌜ from + 3 < length (now s) ⌝ }
-    ensures { λ r. ⌜ (r ≡ textKey (take 4 (drop from (now (s .entry))))) × (r < 8589934592) ⌝ }
+    ensures { λ r. ⌜ (r ≡ textKey (take 4 (drop from (now (s .entry))))) × (fourFrom ≤ r) × (r < fourEnd) ⌝ }
 {
     let a = byte(s, from);
     let b = byte(s, from + 1);
@@ -188,25 +210,37 @@ fn key4(s: &[u8], from: usize) -> u64
     256 * (256 * (256 * (256 + a) + b) + c) + d
 }
 
-// The key of what may be a word at `from`.
-pub fn word_key(s: &[u8], from: usize) -> Short
+// A word and its length, or no word.
+pub struct Short {
+    pub word: u32,
+    pub len: usize,
+}
+
+// The word at `from`, if it has a space behind it.
+pub fn word_from(s: &[u8], from: usize) -> Short
     requires { ⌜ from + 6 < length (now s) ⌝ }
-    ensures { λ r. ⌜ Begins (drop from (now (s .entry))) (r .key) (r .len) ⌝ }
+    ensures { λ r. ⌜ Begins (drop from (now (s .entry))) (r .word) (r .len) ⌝ }
 {
     let k4 = key4(s, from);
     let a = byte(s, from + 4);
     if a == 32 {
-        return Short { key: k4, len: 4 };
+        let word = word_of_four(k4);
+        return Short { word, len: 4 };
     }
     let k5 = 256 * k4 + a;
     let b = byte(s, from + 5);
     if b == 32 {
-        return Short { key: k5, len: 5 };
+        let word = word_of_five(k5);
+        return Short { word, len: 5 };
     }
     let k6 = 256 * k5 + b;
     let c = byte(s, from + 6);
     if c == 32 {
-        return Short { key: k6, len: 6 };
+        let word = word_of_six(k6);
+        return Short { word, len: 6 };
     }
-    Short { key: 0, len: 0 }
+    Short {
+        word: limits::NO_WORD,
+        len: 0,
+    }
 }

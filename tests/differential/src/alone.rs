@@ -265,7 +265,7 @@ mod tests {
         assert_eq!(
             super::cases().map(|cases| super::count_line(&cases)),
             Ok(String::from(
-                "149 sides, 124 alone, 25 that cannot stand alone"
+                "173 sides, 143 alone, 30 that cannot stand alone"
             ))
         );
     }

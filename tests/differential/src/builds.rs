@@ -1,7 +1,7 @@
 //! Builds and editions, case by case: "an edition other than 1 or 2 gives 2 when building and 1
 //! afterwards", "a refused build hands back edition 1", and in edition 2 "soundness drops the level
-//! condition on reading" (document 02, A.13); and the right behind an open, which soundness asks in every
-//! edition (A.3).
+//! condition on reading" (document 02, A.13); the right behind an open, which soundness asks in every
+//! edition (A.3); and which ties it allows (A.8).
 
 use crate::cases::Script;
 use crate::logs::Asked;
@@ -60,6 +60,13 @@ pub fn script() -> Script {
     for (seat, entity) in [(4, 0), (8, 0), (8, 16), (12, 0), (12, 16), (12, 32)] {
         reading(&mut script, seat, entity);
     }
+    for (senior, junior) in (0..256).map(|pair| (pair / 16, pair % 16)) {
+        every_tie(&mut script, senior, junior);
+    }
+    for level in 0..4 {
+        every_ring(&mut script, level);
+        every_chain(&mut script, level);
+    }
     script
 }
 
@@ -73,7 +80,7 @@ fn every_call(script: &mut Script, edition: usize) {
         let name = |what: &str| format!("{}{what} in edition {edition}", call.word());
         script.ask(&request(call, &[]), &name(""));
         script.ask(&request(call, &[(Field::Seat, 16)]), &name(" past a range"));
-        let no_kind = Asked::NoKind { call: 17, seat: 0 };
+        let no_kind = Asked::NoKind { call: 19, seat: 0 };
         script.ask(&no_kind, &name(" and one of no kind"));
         script.show();
     }
@@ -138,7 +145,7 @@ fn reading(script: &mut Script, seat: usize, entity: usize) {
             login,
             request(Call::Close, &[(Field::Entity, 64)]),
             request(Call::Logout, &[(Field::Seat, 15)]),
-            Asked::NoKind { call: 17, seat },
+            Asked::NoKind { call: 19, seat },
         ] {
             script.ask(&asked, &name);
         }
@@ -152,6 +159,95 @@ fn reading(script: &mut Script, seat: usize, entity: usize) {
         script.ask(&openr, &format!("openr again in edition {edition}"));
     }
     script.show();
+}
+
+/// Tables that have roles which are live, beside the keepers, and ties from a role to another. The answer
+/// tells whether they are sound, 5, or not, 1.
+fn with_ties(script: &mut Script, live: &[usize], ties: &[(usize, usize)]) {
+    script.clear();
+    for &role in live {
+        script.set("role", role, "live", &[1]);
+    }
+    for role in 0..16 {
+        let juniors = ties.iter().filter(|(senior, _)| *senior == role);
+        let juniors: u64 = juniors.map(|(_, junior)| 1 << junior).sum();
+        if juniors != 0 {
+            script.set("role", role, "juniors", &[juniors]);
+        }
+    }
+}
+
+/// A tie between two roles, both of them live, or one of them not if it is no keeper.
+fn every_tie(script: &mut Script, senior: usize, junior: usize) {
+    let logout = request(Call::Logout, &[(Field::Seat, 15)]);
+    for (what, live) in [
+        ("both live", &[senior, junior][..]),
+        ("the senior live", &[senior]),
+        ("the junior live", &[junior]),
+        ("neither live", &[]),
+    ] {
+        with_ties(script, live, &[(senior, junior)]);
+        script.ask(&logout, &format!("{senior} above {junior}, {what}"));
+    }
+}
+
+/// Roles of a level in every order, tied in a chain, and the last above the first.
+fn every_ring(script: &mut Script, level: usize) {
+    let logout = request(Call::Logout, &[(Field::Seat, 15)]);
+    let roles = [0, 1, 2, 3].map(|place| 4 * level + place);
+    for order in 0..256 {
+        let order = [64, 16, 4, 1].map(|place| roles[order / place % 4]);
+        for length in 2..=4 {
+            let chain = &order[..length];
+            let once = (1..length).all(|at| !chain[..at].contains(&chain[at]));
+            // The orders that differ behind the chain are the same.
+            if !once || order[length..].iter().any(|&role| role != roles[0]) {
+                continue;
+            }
+            let mut ties: Vec<(usize, usize)> =
+                chain.windows(2).map(|pair| (pair[0], pair[1])).collect();
+            with_ties(script, &roles, &ties);
+            script.ask(&logout, &format!("chain {chain:?}"));
+            ties.push((chain[length - 1], chain[0]));
+            with_ties(script, &roles, &ties);
+            script.ask(&logout, &format!("ring {chain:?}"));
+        }
+    }
+}
+
+/// A seat has the root of a level open by a role, the right being in the record of one some ties below it, or
+/// above it; and the same with one of these ties missing.
+fn every_chain(script: &mut Script, level: usize) {
+    let logout = request(Call::Logout, &[(Field::Seat, 15)]);
+    let roles = [1, 3, 0, 2].map(|place| 4 * level + place);
+    let ties = [0, 1, 2].map(|at| (roles[at], roles[at + 1]));
+    let root = 16 * level;
+    for (held, having, missing) in (0..64).map(|which| (which / 16, which / 4 % 4, which % 4)) {
+        for (way, open) in ["reads", "writes"].into_iter().zip([[1, 0], [0, 1]]) {
+            let mut left = ties.to_vec();
+            if missing < 3 {
+                left.remove(missing);
+            }
+            with_ties(script, &roles, &left);
+            let opens = open.map(|open: u64| open << root);
+            for (place, role) in roles.into_iter().enumerate() {
+                let rights = if place == having { opens } else { [0, 0] };
+                script.set("role", role, "reads", &rights);
+            }
+            let [reading, writing] = opens;
+            let session = [1, 0, 0, 0, 1 << roles[held], reading, writing];
+            script.set("seat", 4 * level, "live", &session);
+            let without = match ties.get(missing) {
+                Some((senior, junior)) => format!(" without {senior} above {junior}"),
+                None => String::new(),
+            };
+            let (held, having) = (roles[held], roles[having]);
+            script.ask(
+                &logout,
+                &format!("{held} {way} by {having} in {roles:?}{without}"),
+            );
+        }
+    }
 }
 
 #[cfg(test)]
@@ -195,6 +291,35 @@ mod tests {
             "seat 12 reading 0 in edition 1: 1",
             "seat 12 reading 0 in edition 2: 16",
             "  tables, edition 255",
+            "join in edition 1: 22",
+            "unjoin in edition 2: 16",
+            "join past a range in edition 2: 2",
+            "unjoin past a range in edition 3: 1",
+            "5 above 6, both live: 5",
+            "5 above 6, the senior live: 1",
+            "5 above 6, the junior live: 1",
+            "5 above 6, neither live: 1",
+            "4 above 6, both live: 5",
+            "4 above 6, the junior live: 5",
+            "4 above 6, the senior live: 1",
+            "6 above 4, the senior live: 5",
+            "6 above 6, both live: 1",
+            "0 above 0, neither live: 1",
+            "5 above 9, both live: 1",
+            "12 above 8, both live: 1",
+            "8 above 12, neither live: 1",
+            "chain [7, 5]: 5",
+            "ring [7, 5]: 1",
+            "chain [8, 10, 9]: 5",
+            "ring [8, 10, 9]: 1",
+            "chain [15, 12, 14, 13]: 5",
+            "ring [15, 12, 14, 13]: 1",
+            "13 reads by 14 in [13, 15, 12, 14]: 5",
+            "13 reads by 14 in [13, 15, 12, 14] without 15 above 12: 1",
+            "13 writes by 15 in [13, 15, 12, 14] without 15 above 12: 5",
+            "12 writes by 13 in [13, 15, 12, 14]: 1",
+            "12 writes by 12 in [13, 15, 12, 14] without 13 above 15: 5",
+            "4 reads by 6 in [5, 7, 4, 6]: 5",
         ] {
             assert!(lines.contains(&line), "{line}");
         }

@@ -17,7 +17,7 @@ const LIST: usize = 4_096;
 
 /// How many numbers a request is as a row of a batch; the most rows, and the most places for answers and
 /// for roles.
-pub const ROW: usize = 12;
+pub const ROW: usize = 13;
 pub const MOST: usize = 256;
 
 /// What stands in a place for an answer, or for a role, that was not written.
@@ -397,7 +397,12 @@ mod tests {
         request.call = Call::Grant;
         request.set(Field::Rights, 9);
         assert_eq!(words(&Asked::Request(request)), "grant 1 8 2 9");
-        assert_eq!(words(&Asked::NoKind { call: 17, seat: 3 }), "17 3");
+        request.set(Field::Junior, 7);
+        for (call, word) in [(Call::Join, "join 1 8 7"), (Call::Unjoin, "unjoin 1 8 7")] {
+            request.call = call;
+            assert_eq!(words(&Asked::Request(request)), word);
+        }
+        assert_eq!(words(&Asked::NoKind { call: 19, seat: 3 }), "19 3");
         assert!(CALLS.iter().all(|call| call.uses()[0] == Field::Seat));
     }
 
@@ -414,7 +419,7 @@ mod tests {
             openw,
             at(Call::Take, Field::Role, 0),
             at(Call::Openr, Field::Entity, 48),
-            Asked::NoKind { call: 17, seat: 12 },
+            Asked::NoKind { call: 19, seat: 12 },
             at(Call::Openw, Field::Entity, 0),
             at(Call::Openr, Field::Entity, 64),
         ];
@@ -431,7 +436,7 @@ mod tests {
             "gather 2 openw 12 48",
             "gather 1 take 12 0",
             "gather 1 openr 12 48",
-            "gather 1 17 12",
+            "gather 1 19 12",
             "gather 1 openw 12 0",
             "gather 1 openr 12 64",
         ];
@@ -439,21 +444,21 @@ mod tests {
         let tables = script.tables.clone();
         let cases = [
             (
-                [108, 9, 10],
+                [117, 9, 10],
                 "changed seats { 12 }; answers 0 0 0 16 0 0 2 0 2; roles - - 12 - - 12 - 0 - 254",
             ),
             (
-                [108, 4, 3],
+                [117, 4, 3],
                 "changed seats { 12 }; answers 0 0 0 255; roles - - 12",
             ),
-            ([108, 1, 2], "changed seats { 12 }; answers 0; roles - 254"),
+            ([117, 1, 2], "changed seats { 12 }; answers 0; roles - 254"),
             (
-                [35, 3, 3],
+                [38, 3, 3],
                 "changed seats { 12 }; answers 0 0 255; roles - - 254",
             ),
-            ([11, 1, 1], "kept; answers 255; roles 254"),
-            ([108, 0, 2], "kept; answers; roles 254 254"),
-            ([108, 2, 0], "kept; answers 255 255; roles"),
+            ([12, 1, 1], "kept; answers 255; roles 254"),
+            ([117, 0, 2], "kept; answers; roles 254 254"),
+            ([117, 2, 0], "kept; answers 255 255; roles"),
         ];
         let mut expected = String::new();
         for ([numbers, answers, roles], line) in cases {
@@ -469,14 +474,14 @@ mod tests {
         }
         script.set_edition(3);
         let room = Room {
-            numbers: 36,
+            numbers: 39,
             answers: 4,
             roles: 4,
         };
         script.run(&rows, room, "x");
         expected += "x: kept; answers 1 1 1 255; roles - - - 254\n";
         assert_eq!(script.expected(), expected.as_bytes());
-        assert_eq!(script.statement(1), "run 108 4 3 | x");
+        assert_eq!(script.statement(1), "run 117 4 3 | x");
     }
 
     #[test]
@@ -484,7 +489,7 @@ mod tests {
         let mut script = Script::new();
         for number in 0..20_000 {
             let asked = Asked::NoKind {
-                call: 17,
+                call: 19,
                 seat: number,
             };
             script.ask(&asked, "x");
@@ -493,6 +498,6 @@ mod tests {
         assert!(files.len() > 2 && files.iter().all(|file| file.len() <= FILE));
         let lines: Vec<&str> = files.iter().flat_map(|file| file.lines()).collect();
         assert_eq!(lines, script.statements);
-        assert_eq!(script.statement(3), "17 3 | x");
+        assert_eq!(script.statement(3), "19 3 | x");
     }
 }

@@ -5,8 +5,9 @@ use crate::ends;
 use crate::files::{self, Made};
 use crate::lines;
 use crate::marks;
-use crate::paper::{self, Call, CALLS};
+use crate::paper::{self, Call, CALLS, NUMBERS, ORDER};
 use crate::program::{Report, Seen, What};
+use crate::ties;
 
 const COUNT: usize = CALLS.len();
 
@@ -15,20 +16,21 @@ type Shown<'a> = (&'static str, &'static [Call], &'a [usize; COUNT]);
 
 pub struct Coverage {
     /// By call and answer; 0 is done.
-    answers: [[usize; 17]; COUNT],
+    answers: [[usize; NUMBERS]; COUNT],
     /// By answer of a `user` line.
     users: [usize; 18],
     unreadable: usize,
     /// By call and side: met at all, and met alone.
     met: Vec<Vec<usize>>,
     alone: Vec<Vec<usize>>,
-    /// By call, answer and a higher number that was met as well.
-    together: [[[bool; 17]; 17]; COUNT],
+    /// By call, answer and a later number that was met as well.
+    together: [[[bool; NUMBERS]; NUMBERS]; COUNT],
     /// By call: refused for categories 8 to 15 alone.
     upper_half: [usize; COUNT],
-    /// By situation and call: of marks, and of opens that end.
+    /// By situation and call: of marks, of opens that end, and of ties.
     marks: Vec<[usize; COUNT]>,
     ends: Vec<[usize; COUNT]>,
+    ties: Vec<[usize; COUNT]>,
     forms: Vec<(&'static str, usize)>,
     files: usize,
     lines: usize,
@@ -43,15 +45,16 @@ impl Coverage {
             .map(|&call| vec![0; paper::sides(call).len()])
             .collect();
         Coverage {
-            answers: [[0; 17]; COUNT],
+            answers: [[0; NUMBERS]; COUNT],
             users: [0; 18],
             unreadable: 0,
             met: sides.clone(),
             alone: sides,
-            together: [[[false; 17]; 17]; COUNT],
+            together: [[[false; NUMBERS]; NUMBERS]; COUNT],
             upper_half: [0; COUNT],
             marks: vec![[0; COUNT]; marks::SITUATIONS.len()],
             ends: vec![[0; COUNT]; ends::SITUATIONS.len()],
+            ties: vec![[0; COUNT]; ties::SITUATIONS.len()],
             forms: files::forms().into_iter().map(|form| (form, 0)).collect(),
             files: 0,
             lines: 0,
@@ -95,13 +98,18 @@ impl Coverage {
                 upper_half,
                 situations,
                 ends,
+                ties,
             } => {
                 let call = request.call as usize;
                 self.answers[call][seen.answer] += 1;
                 self.upper_half[call] += usize::from(upper_half);
-                for (counts, shown) in [(&mut self.marks, situations), (&mut self.ends, ends)] {
+                for (counts, shown) in [
+                    (&mut self.marks, situations.into()),
+                    (&mut self.ends, ends.into()),
+                    (&mut self.ties, ties),
+                ] {
                     for (situation, counts) in counts.iter_mut().enumerate() {
-                        counts[call] += usize::from(shown & (1 << situation) != 0);
+                        counts[call] += usize::from(shown & (1u64 << situation) != 0);
                     }
                 }
                 for (side, text) in paper::sides(request.call).iter().enumerate() {
@@ -117,27 +125,30 @@ impl Coverage {
         }
     }
 
-    /// A row for each request, for `user` and for what can't be read; a column for done and for each number.
+    /// A row for each request, for `user` and for what can't be read; a column for done and for each number, the last
+    /// one for 17.
     pub fn print_answers(&self) {
+        let numbers = &ORDER[1..];
         let mut head = format!("{:<10}{:>8}", "answers", "done");
-        for number in 2..=17 {
+        for number in numbers {
             head += &format!("{number:>7}");
         }
-        println!("{head}");
+        println!("{head}{:>7}", 17);
         for call in CALLS {
             let counts = &self.answers[call as usize];
             let mut row = format!("{:<10}{:>8}", call.word(), counts[0]);
-            for (number, count) in counts.iter().enumerate().skip(2) {
-                row += &cell(paper::numbers(call).contains(&number), *count);
+            for &number in numbers {
+                row += &cell(paper::numbers(call).contains(&number), counts[number]);
             }
             println!("{}", row.trim_end());
         }
         let mut row = format!("{:<10}{:>8}", "user", self.users[0]);
-        for number in 2..=17 {
-            row += &cell(number == 2 || number == 17, self.users[number]);
+        for &number in numbers {
+            row += &cell(number == 2, self.users[2]);
         }
-        println!("{row}");
-        println!("{:<10}{:>8}{:>112}", "unreadable", "", self.unreadable);
+        println!("{row}{:>7}", self.users[17]);
+        let width = 7 * (numbers.len() + 1);
+        println!("{:<10}{:>8}{:>width$}", "unreadable", "", self.unreadable);
     }
 
     /// The pairs of request and number, how often the number was the answer and how often one side of it was met alone.
@@ -166,9 +177,10 @@ impl Coverage {
     }
 
     /// What was seen, by what it has to do with.
-    fn situations(&self) -> [(&'static str, Vec<Shown<'_>>); 2] {
+    fn situations(&self) -> [(&'static str, Vec<Shown<'_>>); 3] {
         let of_marks = marks::SITUATIONS.iter().zip(&self.marks);
         let of_ends = ends::SITUATIONS.iter().zip(&self.ends);
+        let of_ties = ties::SITUATIONS.iter().zip(&self.ties);
         [
             (
                 "marks",
@@ -179,6 +191,12 @@ impl Coverage {
             (
                 "opens that end",
                 of_ends
+                    .map(|(at, counts)| (at.name, at.calls, counts))
+                    .collect(),
+            ),
+            (
+                "ties",
+                of_ties
                     .map(|(at, counts)| (at.name, at.calls, counts))
                     .collect(),
             ),
@@ -298,7 +316,7 @@ impl Coverage {
             self.roles
         );
         println!(
-            "{both_met} of {both} pairs of numbers that one request can meet together met, the lower answered"
+            "{both_met} of {both} pairs of numbers that one request can meet together met, the first answered"
         );
         println!(
             "{can_met} of {can} sides that can stand alone met alone; {cannot_met} of {cannot} that cannot met, \
@@ -328,18 +346,22 @@ fn can_meet_both(call: Call, low: usize, high: usize) -> bool {
     }
     !matches!(
         (call, low, high),
-        // What is not live holds nothing, is not held, has no label, no list and no children, and is not open.
+        // What is not live holds nothing, is not held, has no label, no list, no children and no ties, and is not open.
         (Call::Take, 5 | 7, 16)
             | (Call::Openr, 5 | 7, 16)
             | (Call::Openr, 7, 11)
             | (Call::Openw, 5 | 7, 16)
             | (Call::Delete, 7, 15)
             | (Call::List, 7, 16)
+            | (Call::Unmake, 7, 15)
+            | (Call::Join, 7, 16)
             // What is open has the level and the label for it.
             | (Call::Openr, 10 | 11, 16)
             | (Call::Openw, 10 | 11, 16)
             // Only a container has children.
             | (Call::Create, 9, 14)
+            // A role below another is not above it.
+            | (Call::Join, 22, 16)
             // Roots and keepers are live.
             | (Call::Delete | Call::Rename | Call::Unmake, 6, 7)
     )

@@ -1,6 +1,7 @@
 //! What a run has to come across with reading down (document 02, A.13): "a master may read counter notes".
 
 use crate::paper::{self, entity_level, seat_level, Call, Field, Request, Side, Tables};
+use crate::ties::ties_to;
 
 pub struct Situation {
     pub edition: usize,
@@ -47,6 +48,10 @@ pub static SITUATIONS: &[Situation] = &[
         "openr down by a role above the entity's level alone, done",
         |at| at.down() && at.done() && at.reading_roles(|role, entity| role == entity) == 0,
     ),
+    in_2("openr down by ties alone, done", |at| {
+        let ties = || ties_to(at.before, at.seat(), at.entity(), paper::READ);
+        at.down() && at.done() && ties() > Some(0)
+    }),
     in_2("openr down of what is open for writing, done", |at| {
         at.down() && at.done() && at.before.seats[at.seat()].writing[at.entity()]
     }),
@@ -95,6 +100,9 @@ pub static SITUATIONS: &[Situation] = &[
     }),
     in_2("unmake, a read down ending with the role", |at| {
         at.request.call == Call::Unmake && at.ends()
+    }),
+    in_2("unjoin, a read down ending with the tie", |at| {
+        at.request.call == Call::Unjoin && at.ends()
     }),
     in_2("logout of a seat that reads down", |at| {
         at.request.call == Call::Logout
@@ -167,13 +175,12 @@ impl Look<'_> {
             && entity_level(self.entity()) == lower
     }
 
-    /// How many roles the seat holds that have read on the entity, their level and the entity's being so.
+    /// How many roles the seat holds that give read on the entity, their level and the entity's being so.
     fn reading_roles(&self, so: fn(usize, usize) -> bool) -> usize {
         let (seat, entity) = (self.seat(), self.entity());
         (0..16)
             .filter(|&role| {
-                self.before.seats[seat].roles[role]
-                    && paper::has(self.before.roles[role].rights[entity], paper::READ)
+                paper::gives(self.before, seat, role, entity, paper::READ)
                     && so(paper::role_level(role), entity_level(entity))
             })
             .count()
@@ -184,7 +191,7 @@ impl Look<'_> {
         self.before.seats[seat].reading[entity] && entity_level(entity) < seat_level(seat)
     }
 
-    /// A seat loses read on what it reads down, and the open with it (document 02, A.3).
+    /// A seat loses read on what it reads down, and the open with it (document 02, A.3 and A.8).
     fn ends(&self) -> bool {
         let may =
             |tables: &Tables, seat, entity| paper::has_right(tables, seat, entity, paper::READ);

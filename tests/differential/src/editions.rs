@@ -17,10 +17,13 @@ use crate::down;
 use crate::ends::{self, Lost};
 use crate::files;
 use crate::logs::{self, Asked, Log, Ran};
-use crate::paper::{self, entity_level, seat_level, Call, Field, CALLS};
+use crate::paper::{
+    self, entity_level, seat_level, Call, Field, Tables, CALLS, NUMBERS, READ, WRITE,
+};
 use crate::program::{self, Report};
 use crate::programs::{self, Feeding};
 use crate::random::Random;
+use crate::ties;
 use crate::told::{self, Taken};
 use crate::unsound;
 use crate::upper;
@@ -39,6 +42,16 @@ const TWINS: [&str; 5] = [
     "a read down within the upper part, done in both",
     "a request that names only what is upper, refused in both",
     "a read below L that tells different roles, the upper parts are equal",
+];
+
+/// And twin logs of either edition, of ties.
+const TIED_TWINS: [&str; 6] = [
+    "ties below L differ, the upper parts are equal",
+    "ties of upper roles, equal in both",
+    "a tie of upper roles made or ended, done in both",
+    "a tie of upper roles refused in both",
+    "a tie of lower roles made or ended from above, done in one and refused in the other",
+    "an open that names only what is upper, telling a role by ties",
 ];
 
 pub fn run(options: &Options) -> bool {
@@ -108,6 +121,7 @@ fn file(options: &Options, index: usize, counts: &mut Counts) -> Result<(), Stri
         counts.parts += one.tables.len();
         counts.upper_answers += equal.answers;
         counts.upper_roles += equal.roles;
+        counts.tied_twin(level, logs, runs);
         if edition == 2 {
             counts.twin(level, logs, runs);
         }
@@ -218,6 +232,25 @@ fn by_guard(
             for situation in told::situations(&look) {
                 counts.told[situation][request.call as usize] += 1;
             }
+            let shown = ties::situations(&ties::Look {
+                before: &before,
+                request,
+                met: answered.met,
+                told: answered.role,
+                after: &script.tables,
+            });
+            for (situation, by_call) in counts.ties.iter_mut().enumerate() {
+                by_call[request.call as usize] += usize::from(shown & (1 << situation) != 0);
+            }
+            let by_ties = answered.role.is_some_and(|role| {
+                let right = if request.call == Call::Openr {
+                    READ
+                } else {
+                    WRITE
+                };
+                !paper::has(before.roles[role].rights[request.at(Field::Entity)], right)
+            });
+            counts.tied_twins[5] += usize::from(by_ties && upper::names_upper(level, &entry.asked));
             if let Some(role) = answered.role {
                 counts.roles[role] += 1;
             }
@@ -283,16 +316,18 @@ struct Counts {
     /// number.
     lines: [usize; 2],
     requests: [usize; 2],
-    answers: [[[usize; 17]; CALLS.len()]; 2],
-    /// What requests show of reading down, and, by call, of opens that end and of the role that is told.
+    answers: [[[usize; NUMBERS]; CALLS.len()]; 2],
+    /// What requests show of reading down, and, by call, of opens that end, of the role that is told and of ties.
     down: Vec<usize>,
     ends: Vec<[usize; CALLS.len()]>,
     told: Vec<[usize; CALLS.len()]>,
+    ties: Vec<[usize; CALLS.len()]>,
     /// Requests behind which every seat was shown.
     seats_shown: usize,
     /// How often each role was told.
     roles: [usize; 16],
     twins: [usize; TWINS.len()],
+    tied_twins: [usize; TIED_TWINS.len()],
     /// Tables with a field changed, by edition, and what they show.
     changed: [usize; 2],
     unsound: unsound::Counts,
@@ -310,13 +345,15 @@ impl Counts {
             files: 0,
             lines: [0; 2],
             requests: [0; 2],
-            answers: [[[0; 17]; CALLS.len()]; 2],
+            answers: [[[0; NUMBERS]; CALLS.len()]; 2],
             down: vec![0; down::SITUATIONS.len()],
             ends: vec![[0; CALLS.len()]; ends::SITUATIONS.len()],
             told: vec![[0; CALLS.len()]; told::SITUATIONS.len()],
+            ties: vec![[0; CALLS.len()]; ties::SITUATIONS.len()],
             seats_shown: 0,
             roles: [0; 16],
             twins: [0; TWINS.len()],
+            tied_twins: [0; TIED_TWINS.len()],
             changed: [0; 2],
             unsound: unsound::counts(),
             batches: batches::Counts::new(),
@@ -355,6 +392,33 @@ impl Counts {
         }
     }
 
+    /// Counts what two twin logs show of ties, which were found isolated.
+    fn tied_twin(&mut self, level: usize, logs: [&Log; 2], runs: [&Ran; 2]) {
+        for (one, other) in runs[0].tables.iter().zip(&runs[1].tables) {
+            let ties = |tables: &Tables| tables.roles.map(|role| role.juniors);
+            let (one, other) = (ties(one), ties(other));
+            let (lower, upper) = one.split_at(4 * level);
+            self.tied_twins[0] += usize::from(*lower != other[..4 * level]);
+            self.tied_twins[1] += usize::from(upper.iter().any(|role| role.contains(&true)));
+        }
+        let places = logs.map(|log| upper::places(level, log));
+        for (&one, &other) in places[0].iter().zip(&places[1]) {
+            let asked = &logs[0].entries[one].asked;
+            let Asked::Request(request) = asked else {
+                continue;
+            };
+            if !matches!(request.call, Call::Join | Call::Unjoin) {
+                continue;
+            }
+            let answers = [runs[0].answers[one], runs[1].answers[other]];
+            let done = answers.iter().filter(|&&answer| answer == 0).count();
+            let named = upper::names_upper(level, asked);
+            self.tied_twins[2] += usize::from(named && done == 2);
+            self.tied_twins[3] += usize::from(named && done == 0);
+            self.tied_twins[4] += usize::from(!named && done == 1);
+        }
+    }
+
     fn reading_down(&self) -> Vec<(String, usize)> {
         let mut rows = Vec::new();
         for (situation, &count) in down::SITUATIONS.iter().zip(&self.down) {
@@ -384,6 +448,23 @@ impl Counts {
         rows
     }
 
+    fn of_ties(&self) -> Vec<(String, usize)> {
+        let mut rows = Vec::new();
+        for (situation, counts) in ties::SITUATIONS.iter().zip(&self.ties) {
+            for &call in situation.calls {
+                let title = format!("{}, {}", call.word(), situation.name);
+                rows.push((title, counts[call as usize]));
+            }
+        }
+        for (name, count) in TIED_TWINS.iter().zip(self.tied_twins) {
+            rows.push((format!("twin logs, {name}"), count));
+        }
+        for ((name, _), &count) in unsound::TIES.iter().zip(&self.unsound[2]) {
+            rows.push((format!("changed tables, {name}"), count));
+        }
+        rows
+    }
+
     fn roles_told(&self) -> Vec<(String, usize)> {
         let mut rows = Vec::new();
         for (situation, counts) in told::SITUATIONS.iter().zip(&self.told) {
@@ -407,10 +488,11 @@ impl Counts {
     }
 
     /// What was seen, by what it has to do with.
-    fn situations(&self) -> [(&'static str, Vec<(String, usize)>); 4] {
+    fn situations(&self) -> [(&'static str, Vec<(String, usize)>); 5] {
         [
             ("reading down", self.reading_down()),
             ("opens that end", self.opens_that_end()),
+            ("ties", self.of_ties()),
             ("roles told", self.roles_told()),
             ("batches", self.in_batches()),
         ]

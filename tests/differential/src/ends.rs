@@ -1,5 +1,5 @@
 //! What a run has to come across with opens that end (document 02, A.3): "after drop, revoke and unmake, every seat
-//! loses each open for which it no longer has the read or write right".
+//! loses each open for which it no longer has the read or write right"; and "unjoin ends opens as A.3 says" (A.8).
 
 use crate::paper::{self, Call, Field, Request, Side, Tables, EXECUTE, OWN, READ, WRITE};
 
@@ -9,12 +9,12 @@ pub struct Situation {
     shows: fn(&Look) -> bool,
 }
 
-const ENDING: &[Call] = &[Call::Drop, Call::Revoke, Call::Unmake];
+const ENDING: &[Call] = &[Call::Drop, Call::Revoke, Call::Unmake, Call::Unjoin];
 const DROP: &[Call] = &[Call::Drop];
 const REVOKE: &[Call] = &[Call::Revoke];
 /// Those that change the rights of several seats.
-const OF_ALL: &[Call] = &[Call::Revoke, Call::Unmake];
-const GIVING: &[Call] = &[Call::Take, Call::Grant];
+const OF_ALL: &[Call] = &[Call::Revoke, Call::Unmake, Call::Unjoin];
+const GIVING: &[Call] = &[Call::Take, Call::Grant, Call::Join];
 const OPENING: &[Call] = &[Call::Openr, Call::Openw];
 const CLOSE: &[Call] = &[Call::Close];
 const IN_PARENT: &[Call] = &[Call::Create, Call::Delete, Call::Rename];
@@ -524,6 +524,45 @@ mod tests {
         let shown = shown(&mut tables, &mut Lost::new(), &revoke);
         let names = ["ends an open of a root", SOME_STAY, ANOTHER, HIGHER];
         assert_eq!(shown, names);
+    }
+
+    /// As `tables`, with role 13 above 14, and seats 12 and 5 without role 14.
+    fn tied(rights: [usize; 2]) -> Tables {
+        let mut tables = tables(rights);
+        tables.roles[13].juniors[14] = true;
+        for seat in [12, 5] {
+            tables.seats[seat].roles[14] = false;
+        }
+        assert!(paper::sound(&tables));
+        tables
+    }
+
+    #[test]
+    fn what_ends_with_a_tie() {
+        let tie = |call, seat| {
+            let mut request = with_role(call, seat, 13);
+            request.set(Field::Junior, 14);
+            request
+        };
+        let shows = |rights, seat, names: &[&str]| {
+            let request = tie(Call::Unjoin, seat);
+            let shown = shown(&mut tied(rights), &mut Lost::new(), &request);
+            assert_eq!(shown, names, "{rights:?}");
+        };
+        shows([0, 3], 15, &[ANOTHER, LOWER, SEVERAL]);
+        shows([1, 2], 15, &[SOME_STAY, ONE_WAY, ANOTHER]);
+        shows([3, 3], 15, &[]);
+        shows([0, 3], 12, &[REFUSED]);
+        shows([3, 0], 12, &[]);
+        // Nothing comes back with it.
+        let mut tables = tied([0, 3]);
+        let mut lost = Lost::new();
+        shown(&mut tables, &mut lost, &tie(Call::Unjoin, 15));
+        let again = shown(&mut tables, &mut lost, &tie(Call::Join, 15));
+        assert_eq!(
+            again,
+            ["gives the right of an open that had ended, which stays so"]
+        );
     }
 
     #[test]

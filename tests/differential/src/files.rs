@@ -2,7 +2,8 @@
 
 use crate::generator::Writer;
 use crate::lines;
-use crate::program::{optional, sample_order, EDITION, LAST_LINE};
+use crate::paper::Field;
+use crate::program::{optional, sample_order, Column, EDITION, LAST_LINE};
 use crate::random::Random;
 
 pub struct Made {
@@ -41,16 +42,53 @@ enum End {
     EmptyLine,
 }
 
-const SAMPLE_ORDER: &str = "names in the sample's order";
-const OTHER_ORDER: &str = "names in another order";
-const SAMPLE_AND_OPTIONAL: &str = "names in the sample's order, then the optional ones";
-const OTHER_AND_OPTIONAL: &str = "names in another order, the optional ones among them";
+/// A plain file's names: which of the optional ones there are, and whether the order is the sample's, the optional ones
+/// behind it.
+struct Names {
+    form: &'static str,
+    optional: &'static [Field],
+    as_sample: bool,
+}
+
+const fn names(form: &'static str, optional: &'static [Field], as_sample: bool) -> Names {
+    Names {
+        form,
+        optional,
+        as_sample,
+    }
+}
+
+const SHARED: &[Field] = &[Field::Shared];
+const JUNIOR: &[Field] = &[Field::Junior];
+const BOTH: &[Field] = &[Field::Shared, Field::Junior];
+const BOTH_TURNED: &[Field] = &[Field::Junior, Field::Shared];
+
+/// A names line is read with neither of `shared` and `junior`, with either and with both.
+static PLAIN: [Names; 9] = [
+    names("names in the sample's order", &[], true),
+    names("names in another order", &[], false),
+    names("names in the sample's order, then `shared`", SHARED, true),
+    names("names in another order, `shared` among them", SHARED, false),
+    names("names in the sample's order, then `junior`", JUNIOR, true),
+    names("names in another order, `junior` among them", JUNIOR, false),
+    names(
+        "names in the sample's order, then the optional ones",
+        BOTH,
+        true,
+    ),
+    names(
+        "names in the sample's order, then the optional ones turned round",
+        BOTH_TURNED,
+        true,
+    ),
+    names(
+        "names in another order, the optional ones among them",
+        BOTH,
+        false,
+    ),
+];
 
 static SHAPES: &[(&str, Shape)] = &[
-    (SAMPLE_ORDER, Shape::End(End::Ended)),
-    (OTHER_ORDER, Shape::End(End::Ended)),
-    (SAMPLE_AND_OPTIONAL, Shape::End(End::Ended)),
-    (OTHER_AND_OPTIONAL, Shape::End(End::Ended)),
     ("last line without byte 10", Shape::End(End::Unended)),
     (
         "last line unreadable and without byte 10",
@@ -110,6 +148,29 @@ static SHAPES: &[(&str, Shape)] = &[
         }),
     ),
     (
+        "names: an optional one twice, the other once",
+        Shape::Names(|random, names| {
+            let mut names = twelve(names);
+            let again = an_optional(random);
+            for column in optional() {
+                add(random, &mut names, column.word());
+            }
+            add(random, &mut names, again);
+            names.join(" ").into_bytes()
+        }),
+    ),
+    (
+        "names: both optional ones, one of the twelve missing",
+        Shape::Names(|random, names| {
+            let mut names = twelve(names);
+            names.remove(random.below(12));
+            for column in optional() {
+                add(random, &mut names, column.word());
+            }
+            names.join(" ").into_bytes()
+        }),
+    ),
+    (
         "names: an optional one for one of the twelve",
         Shape::Names(|random, names| {
             let mut names = twelve(names);
@@ -155,7 +216,7 @@ static SHAPES: &[(&str, Shape)] = &[
         Shape::Names(|random, names| {
             let mut names = names.to_vec();
             let at = random.below(names.len());
-            names[at] = random.pick(&["grade", "x", "label", "answer", "line", "-", "0"]);
+            names[at] = random.pick(&["grade", "x", "label", "answer", "line", "-", "0", "senior"]);
             names.join(" ").into_bytes()
         }),
     ),
@@ -163,7 +224,7 @@ static SHAPES: &[(&str, Shape)] = &[
         "names: an unknown one added",
         Shape::Names(|random, names| {
             let mut names = names.to_vec();
-            let unknown = random.pick(&["grade", "x", "label", "mark", "-"]);
+            let unknown = random.pick(&["grade", "x", "label", "mark", "-", "senior", "join"]);
             add(random, &mut names, unknown);
             names.join(" ").into_bytes()
         }),
@@ -366,6 +427,7 @@ pub fn forms() -> Vec<&'static str> {
     }
     forms.extend(lines::LATE);
     forms.extend(lines::READABLE);
+    forms.extend(PLAIN.iter().map(|names| names.form));
     forms.extend(SHAPES.iter().map(|(name, _)| name));
     forms
 }
@@ -373,36 +435,35 @@ pub fn forms() -> Vec<&'static str> {
 /// File `index` of the run. The first files take each shape once; of the later ones most are plain.
 pub fn file(seed: u64, index: usize, long: bool) -> Made {
     let mut random = Random::for_file(seed, index);
-    let plain = if random.chance(1, 4) {
-        OTHER_ORDER
-    } else {
-        OTHER_AND_OPTIONAL
+    // In another order, and mostly with all names.
+    let mut plain = match random.below(16) {
+        0 => &PLAIN[1],
+        1 => &PLAIN[3],
+        2 | 3 => &PLAIN[5],
+        _ => &PLAIN[8],
     };
-    let plain = (plain, Shape::End(End::Ended));
-    let (name, shape) = if index < SHAPES.len() {
-        SHAPES[index]
+    // None for a plain file.
+    let mut name = None;
+    let mut shape = Shape::End(End::Ended);
+    if let Some(first) = PLAIN.get(index) {
+        plain = first;
+    } else if let Some(first) = SHAPES.get(index - PLAIN.len()) {
+        (name, shape) = (Some(first.0), first.1);
     } else if random.chance(1, 8) {
         // Files of very many lines take their time.
-        let shape = random.pick(SHAPES);
-        match shape.1 {
-            Shape::Lines { .. } | Shape::MuchAfter { .. } if random.chance(5, 6) => plain,
-            _ => shape,
-        }
-    } else {
-        plain
-    };
-    let mut order = sample_order();
-    for column in optional() {
-        let there = match name {
-            SAMPLE_ORDER | OTHER_ORDER => false,
-            SAMPLE_AND_OPTIONAL | OTHER_AND_OPTIONAL => true,
-            _ => random.chance(2, 3),
-        };
-        if there {
-            order.push(column);
+        let one = random.pick(SHAPES);
+        match one.1 {
+            Shape::Lines { .. } | Shape::MuchAfter { .. } if random.chance(5, 6) => {}
+            _ => (name, shape) = (Some(one.0), one.1),
         }
     }
-    if name != SAMPLE_ORDER && name != SAMPLE_AND_OPTIONAL {
+    let mut order = sample_order();
+    if name.is_some() {
+        order.extend(optional().into_iter().filter(|_| random.chance(2, 3)));
+    } else {
+        order.extend(plain.optional.iter().map(|&field| Column::Field(field)));
+    }
+    if name.is_some() || !plain.as_sample {
         let first = order.clone();
         while order == first {
             random.shuffle(&mut order);
@@ -412,7 +473,7 @@ pub fn file(seed: u64, index: usize, long: bool) -> Made {
     let names_line = names.join(" ").into_bytes();
 
     let mut writer = Writer::new(random, &names_line, EDITION);
-    writer.forms.push((0, name));
+    writer.forms.push((0, name.unwrap_or(plain.form)));
     match shape {
         Shape::Bytes(bytes) => writer.bytes = bytes.to_vec(),
         Shape::NamesAlone { ended } => {
@@ -549,7 +610,9 @@ mod tests {
     fn files_reach_far() {
         let mut deepest = [0; 4];
         let (mut seats, mut roles, mut entities, mut labelled, mut shared) = (0, 0, 0, 0, 0);
-        for index in SHAPES.len()..SHAPES.len() + 60 {
+        let (mut ties, mut chains) = (0, [0; 4]);
+        let begin = PLAIN.len() + SHAPES.len();
+        for index in begin..begin + 60 {
             let made = file(1, index, false);
             let mut lines = made.bytes.split(|&byte| byte == b'\n');
             let names = lines.next();
@@ -586,9 +649,18 @@ mod tests {
                 labelled = opened.count().max(labelled);
                 let marks = tables.entities.iter().map(|entity| entity.shared);
                 shared = marks.sum::<usize>().max(shared);
+                let all = tables.roles.iter().flat_map(|role| role.juniors);
+                ties = all.filter(|&tied| tied).count().max(ties);
+                let seniors = (0..16).filter(|&role| tables.roles[role].juniors.contains(&true));
+                for senior in seniors {
+                    let longest = &mut chains[paper::role_level(senior)];
+                    let below = (0..16).filter_map(|role| paper::depth(tables, senior, role));
+                    *longest = below.max().unwrap().max(*longest);
+                }
             }
         }
         assert!(deepest.iter().all(|&depth| depth >= 8));
         assert!(seats == 16 && roles >= 12 && entities >= 40 && labelled >= 3 && shared >= 8);
+        assert!(ties >= 8 && chains == [3; 4]);
     }
 }

@@ -177,6 +177,11 @@ impl Writer {
                 form = Some(name);
             }
         }
+        for (junior, name) in lines::JUNIORS_PAST {
+            if uses.contains(&Field::Junior) && request.at(Field::Junior) == junior {
+                form = Some(name);
+            }
+        }
         if self.random.chance(self.habits.zeros, 100) {
             for &column in &good.used {
                 let width = self.random.between(1, 5);
@@ -212,7 +217,11 @@ impl Writer {
             let recent: Vec<usize> = self
                 .recent
                 .iter()
-                .filter(|(of, _)| *of == field || (field == Field::Parent && *of == Field::Entity))
+                .filter(|(of, _)| match field {
+                    Field::Parent => *of == Field::Entity,
+                    Field::Junior => *of == Field::Role,
+                    _ => *of == field,
+                })
                 .map(|(_, value)| *value)
                 .collect();
             if !recent.is_empty() {
@@ -230,6 +239,12 @@ impl Writer {
             Field::User if way < 3 => 0,
             Field::User if way < 7 => self.one_of(16, |t, user| t.users[user].ceiling > 0),
             Field::User => self.random.below(16),
+            Field::Role if call == Call::Join && way < 7 => self.one_of(16, |t, role| {
+                t.roles[role].live && t.seats[seat].roles[paper::keeper_of(role)]
+            }),
+            Field::Role if call == Call::Unjoin && way < 7 => {
+                self.one_of(16, |t, role| t.roles[role].juniors.contains(&true))
+            }
             Field::Role if way < 4 => self.one_of(16, |t, role| t.seats[seat].roles[role]),
             Field::Role if way < 6 => {
                 let user = self.tables().seats[seat].user;
@@ -291,6 +306,25 @@ impl Writer {
                 1 - self.tables().entities[request.at(Field::Entity).min(63)].shared
             }
             Field::Shared => self.random.below(2),
+            Field::Junior => {
+                let senior = request.at(Field::Role).min(15);
+                let beside = move |t: &Tables, role: usize| {
+                    t.roles[role].live && paper::role_level(role) == paper::role_level(senior)
+                };
+                match way {
+                    0..=3 if call == Call::Unjoin => {
+                        self.one_of(16, |t, role| t.roles[senior].juniors[role])
+                    }
+                    0..=3 => self.one_of(16, |t, role| {
+                        beside(t, role) && !t.roles[senior].juniors[role] && role != senior
+                    }),
+                    4 => self.one_of(16, |t, role| paper::is_below(t, senior, role)),
+                    5 => self.one_of(16, |t, role| paper::is_below(t, role, senior)),
+                    6 => senior,
+                    7..=8 => self.one_of(16, beside),
+                    _ => self.random.below(16),
+                }
+            }
         }
     }
 
@@ -457,6 +491,8 @@ impl Writer {
             (Call::Make, 4),
             (Call::Unmake, 1),
             (Call::Share, 6),
+            (Call::Join, 6),
+            (Call::Unjoin, 2),
         ];
         let weights = WEIGHTS.iter().filter(|(call, _)| self.calls.contains(call));
         let all: usize = weights.clone().map(|(_, weight)| weight).sum();
@@ -476,7 +512,7 @@ impl Writer {
             let (call, side) = (self.random.pick(&self.calls), self.random.below(22));
             if let Some(found) = paper::sides(call).get(side) {
                 let applies = paper::applies(self.tables().edition, call, found.number);
-                if applies && (found.number != 2 || self.random.chance(1, 3)) {
+                if applies && (found.number != 2 || self.random.chance(1, 2)) {
                     return (call, side);
                 }
             }

@@ -320,9 +320,9 @@ pub static UNREADABLE: &[Form] = &[
     }),
     form("word with more before it", |random, good| {
         let more = random.pick(&["x", "un", "re", "-", "\0"]);
-        // "unlist" and "unmake" are words; twice the letters are not.
+        // "unlist", "unmake" and "unjoin" are words; twice the letters are not.
         let word = good.word();
-        let more = if more == "un" && (word == "list" || word == "make") {
+        let more = if more == "un" && ["list", "make", "join"].contains(&word.as_str()) {
             "unun"
         } else {
             more
@@ -343,7 +343,7 @@ pub static UNREADABLE: &[Form] = &[
     }),
     form("dash for the word", |_, good| good.with(good.call, "-")),
     form("number for the word", |random, good| {
-        good.with(good.call, digits(random.below(18)))
+        good.with(good.call, digits(random.below(20)))
     }),
     form("word in another column", |random, good| {
         let mut values = good.values.clone();
@@ -529,6 +529,11 @@ pub const MARKS_PAST: [(usize, &str); 3] = [
     (65_535, "`share` with mark 65,535"),
     (99_999, "`share` with mark 99,999"),
 ];
+pub const JUNIORS_PAST: [(usize, &str); 3] = [
+    (16, "`join` or `unjoin` with junior 16"),
+    (65_535, "`join` or `unjoin` with junior 65,535"),
+    (99_999, "`join` or `unjoin` with junior 99,999"),
+];
 pub const MADE_AGAIN: &str = "`share` to 0 of a number made again that was shared";
 pub const USER_AFTER_UNREADABLE: &str = "`user` after an unreadable line";
 pub const USER_TWICE: &str = "`user` again for the same user";
@@ -551,6 +556,9 @@ pub const READABLE: &[&str] = &[
     MARKS_PAST[0].1,
     MARKS_PAST[1].1,
     MARKS_PAST[2].1,
+    JUNIORS_PAST[0].1,
+    JUNIORS_PAST[1].1,
+    JUNIORS_PAST[2].1,
     MADE_AGAIN,
     USER_AFTER_UNREADABLE,
     USER_TWICE,

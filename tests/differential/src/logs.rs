@@ -38,8 +38,8 @@ pub struct Ran {
     pub tables: Vec<Tables>,
 }
 
-/// Numbers of none of the seventeen kinds.
-const NO_KINDS: [usize; 6] = [17, 18, 255, 256, 65_536, 4_294_967_295];
+/// Numbers of none of the nineteen kinds.
+const NO_KINDS: [usize; 6] = [19, 20, 255, 256, 65_536, 4_294_967_295];
 
 impl Asked {
     pub fn seat(&self) -> usize {
@@ -85,12 +85,15 @@ pub fn twin(log: &Log, level: usize, random: &mut Random) -> Log {
         .map(|entry| entry.asked)
         .filter(|asked| !upper::is_upper(level, asked))
         .collect();
-    // Of a hundred, those that stay; sometimes fewer of those that give or take away rights, so that an upper seat is
-    // let in by another role.
+    // Of a hundred, those that stay; sometimes fewer of those that give or take away rights, in a record or by a tie, so
+    // that an upper seat is let in by another role.
     let stay = random.pick(&[0, 20, 50, 80, 95, 99]);
     let of_rights = stay.min(random.pick(&[100, 60, 30]));
     let staying = |asked: &Asked| match asked {
-        Asked::Request(request) if matches!(request.call, Call::Grant | Call::Revoke) => of_rights,
+        Asked::Request(request) => match request.call {
+            Call::Grant | Call::Revoke | Call::Join | Call::Unjoin => of_rights,
+            _ => stay,
+        },
         _ => stay,
     };
     let mut entries = Vec::new();

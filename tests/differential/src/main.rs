@@ -21,6 +21,8 @@ mod programs;
 mod random;
 mod records;
 mod scenes;
+mod tied;
+mod ties;
 mod told;
 mod unsound;
 mod upper;

@@ -1,8 +1,8 @@
 //! Document 01 written down as it reads: the tables, the refusals that apply to each request, and what a done request
 //! changes. Of document 02 it has A.1: "Categories become a set of sixteen, 0 to 65,535, in users, seats and entities";
-//! A.2, shared drawers; A.3, "a dropped role ends its opens"; A.6, "which role let them in"; and A.13, reading down:
-//! "Tables carry an edition, chosen when built". Nothing here is made for speed or shared between requests beyond what
-//! the papers share.
+//! A.2, shared drawers; A.3, "a dropped role ends its opens"; A.6, "which role let them in"; A.8, senior and junior
+//! roles; and A.13, reading down: "Tables carry an edition, chosen when built". Nothing here is made for speed or shared
+//! between requests beyond what the papers share.
 //!
 //! A refusal whose condition has parts joined by "or" is written as several sides of the same number. A side is a
 //! plain question about the tables and the request. Each one can be asked whatever the others say: the record of
@@ -26,15 +26,16 @@ pub enum Field {
     Rights,
     Ceiling,
     Shared,
+    Junior,
 }
 
-/// The fields in the order of the paper's sample, then those of document 02.
-pub const FIELDS: [Field; 12] = [
-    Seat, User, Role, Entity, Parent, Kind, Name, Level, Cats, Rights, Ceiling, Shared,
+/// The fields in the order of the paper's sample, then those of document 02. Of a tie, `Role` is the senior.
+pub const FIELDS: [Field; 13] = [
+    Seat, User, Role, Entity, Parent, Kind, Name, Level, Cats, Rights, Ceiling, Shared, Junior,
 ];
 
 /// The fields whose names a line of names may leave out.
-pub const OPTIONAL: [Field; 1] = [Shared];
+pub const OPTIONAL: [Field; 2] = [Shared, Junior];
 
 /// A number for each field.
 pub type Values = [usize; FIELDS.len()];
@@ -54,13 +55,14 @@ impl Field {
             Rights => "rights",
             Ceiling => "ceiling",
             Shared => "shared",
+            Junior => "junior",
         }
     }
 
     /// The largest number in range.
     pub fn last(self) -> usize {
         match self {
-            Seat | User | Role => 15,
+            Seat | User | Role | Junior => 15,
             Entity | Parent => 63,
             Kind => 1,
             Name => 65_535,
@@ -91,11 +93,13 @@ pub enum Call {
     Make,
     Unmake,
     Share,
+    Join,
+    Unjoin,
 }
 
-pub const CALLS: [Call; 17] = [
+pub const CALLS: [Call; 19] = [
     Login, Logout, Take, Drop, Openr, Openw, Close, Create, Delete, Rename, Grant, Revoke, List,
-    Unlist, Make, Unmake, Share,
+    Unlist, Make, Unmake, Share, Join, Unjoin,
 ];
 
 impl Call {
@@ -118,6 +122,8 @@ impl Call {
             Make => "make",
             Unmake => "unmake",
             Share => "share",
+            Join => "join",
+            Unjoin => "unjoin",
         }
     }
 
@@ -135,6 +141,7 @@ impl Call {
             List | Unlist => &[Seat, Role, User],
             Make | Unmake => &[Seat, Role],
             Share => &[Seat, Entity, Shared],
+            Join | Unjoin => &[Seat, Role, Junior],
         }
     }
 }
@@ -203,6 +210,8 @@ pub struct RoleRecord {
     pub live: bool,
     pub users: [bool; 16],
     pub rights: [usize; 64],
+    /// The roles to which it is the senior.
+    pub juniors: [bool; 16],
 }
 
 #[derive(Clone, Copy, Debug, PartialEq, Eq)]
@@ -240,6 +249,7 @@ pub const EMPTY_ROLE: RoleRecord = RoleRecord {
     live: false,
     users: [false; 16],
     rights: [0; 64],
+    juniors: [false; 16],
 };
 pub const EMPTY_ENTITY: EntityRecord = EntityRecord {
     live: false,
@@ -306,14 +316,47 @@ pub fn is_child(tables: &Tables, entity: usize, parent: usize) -> bool {
     record.live && !is_root(entity) && record.parent == parent
 }
 
+/// By how many ties a role is below another: one for a junior, two for a junior of a junior, "to any depth". There are
+/// sixteen roles, so that what is further down has been met before. By the fewest, if there are several ways.
+pub fn depth(tables: &Tables, senior: usize, junior: usize) -> Option<usize> {
+    let mut below = tables.roles[senior].juniors;
+    for depth in 1..=16 {
+        if below[junior] {
+            return Some(depth);
+        }
+        if below == [false; 16] {
+            break;
+        }
+        let seniors = below;
+        below = [false; 16];
+        for senior in (0..16).filter(|&senior| seniors[senior]) {
+            for (junior, is_below) in below.iter_mut().enumerate() {
+                *is_below = *is_below || tables.roles[senior].juniors[junior];
+            }
+        }
+    }
+    None
+}
+
+pub fn is_below(tables: &Tables, junior: usize, senior: usize) -> bool {
+    depth(tables, senior, junior).is_some()
+}
+
+/// "A role then also has the rights of its juniors, and of theirs, to any depth".
+pub fn role_has(tables: &Tables, role: usize, entity: usize, right: usize) -> bool {
+    let in_record = |role: usize| has(tables.roles[role].rights[entity], right);
+    in_record(role) || (0..16).any(|other| in_record(other) && is_below(tables, other, role))
+}
+
 /// "A role held by x, of at least e's level, has it."
 pub fn gives(tables: &Tables, seat: usize, role: usize, entity: usize, right: usize) -> bool {
     tables.seats[seat].roles[role]
         && role_level(role) >= entity_level(entity)
-        && has(tables.roles[role].rights[entity], right)
+        && role_has(tables, role, entity, right)
 }
 
-/// "The check of a right now tells the lowest-numbered held role that gives it, or that none does."
+/// "The check of a right now tells the lowest-numbered held role that gives it, or that none does." "The role of A.6 is
+/// the held one."
 pub fn role_for(tables: &Tables, seat: usize, entity: usize, right: usize) -> Option<usize> {
     // From 0 on, so that the first is the lowest.
     (0..16).find(|&role| gives(tables, seat, role, entity, right))
@@ -372,8 +415,8 @@ pub fn build(users: &[UserRecord; 16], edition: usize) -> (Tables, usize) {
 
 // ---- Sound tables
 
-/// The six points on sound tables, in the paper's order, that of A.2, that of A.3 and that of A.13. Tables reached from
-/// fresh ones are sound; a run checks it.
+/// The six points on sound tables, in the paper's order, that of A.2, that of A.3, those of A.8 and that of A.13. Tables
+/// reached from fresh ones are sound; a run checks it.
 pub fn sound(tables: &Tables) -> bool {
     in_range(tables)
         && live_entities_placed(tables)
@@ -383,6 +426,8 @@ pub fn sound(tables: &Tables) -> bool {
         && writing_allowed(tables)
         && objects_unshared(tables)
         && rights_behind_opens(tables)
+        && ties_within_level(tables)
+        && no_role_below_itself(tables)
         && edition_known(tables)
 }
 
@@ -532,6 +577,23 @@ fn rights_behind_opens(tables: &Tables) -> bool {
     })
 }
 
+/// "Soundness asks that ties join live roles of one level".
+fn ties_within_level(tables: &Tables) -> bool {
+    (0..16).all(|senior| {
+        (0..16).all(|junior| {
+            !tables.roles[senior].juniors[junior]
+                || (tables.roles[senior].live
+                    && tables.roles[junior].live
+                    && role_level(senior) == role_level(junior))
+        })
+    })
+}
+
+/// ".. and no role is below itself."
+fn no_role_below_itself(tables: &Tables) -> bool {
+    (0..16).all(|role| !is_below(tables, role, role))
+}
+
 /// "An edition other than 1 or 2 gives 2 when building and 1 afterwards."
 fn edition_known(tables: &Tables) -> bool {
     EDITIONS.contains(&tables.edition)
@@ -583,6 +645,10 @@ const RIGHTS_RANGE: Side = side(2, "the rights are past 15", &[Rights], |_, q| {
 });
 const RIGHTS_ZERO: Side = side(2, "the rights are 0", &[Rights], |_, q| q.at(Rights) == 0);
 const MARK_RANGE: Side = side(2, "the mark is past 1", &[Shared], |_, q| q.at(Shared) > 1);
+const SENIOR_RANGE: Side = side(2, "the senior is past 15", &[Role], |_, q| q.at(Role) > 15);
+const JUNIOR_RANGE: Side = side(2, "the junior is past 15", &[Junior], |_, q| {
+    q.at(Junior) > 15
+});
 
 const SEAT_DEAD: Side = side(5, "x is not live", &[Seat], |t, q| {
     !t.seats[q.at(Seat)].live
@@ -605,9 +671,31 @@ const ROLE_BELOW_ENTITY: Side = side(10, "the role is below e", &[Role, Entity],
 const SEAT_BELOW_ROLE: Side = side(10, "x is below the role", &[Seat, Role], |_, q| {
     seat_level(q.at(Seat)) < role_level(q.at(Role))
 });
+/// "Holding a keeper means the keeper itself."
 const KEEPER_NOT_HELD: Side = side(
     12,
     "x does not hold the keeper of the role's level",
+    &[Seat, Role],
+    |t, q| !t.seats[q.at(Seat)].roles[keeper_of(q.at(Role))],
+);
+const SENIOR_DEAD: Side = side(7, "the senior is not live", &[Role], |t, q| {
+    !t.roles[q.at(Role)].live
+});
+const JUNIOR_DEAD: Side = side(7, "the junior is not live", &[Junior], |t, q| {
+    !t.roles[q.at(Junior)].live
+});
+const SEAT_BELOW_SENIOR: Side = side(10, "x is below the senior", &[Seat, Role], |_, q| {
+    seat_level(q.at(Seat)) < role_level(q.at(Role))
+});
+const LEVELS_DIFFER: Side = side(
+    10,
+    "the levels of the two roles differ",
+    &[Role, Junior],
+    |_, q| role_level(q.at(Role)) != role_level(q.at(Junior)),
+);
+const KEEPER_OF_SENIOR_NOT_HELD: Side = side(
+    12,
+    "x does not hold the keeper of the senior's level",
     &[Seat, Role],
     |t, q| !t.seats[q.at(Seat)].roles[keeper_of(q.at(Role))],
 );
@@ -937,7 +1025,7 @@ static MAKE: [Side; 6] = [
     KEEPER_NOT_HELD,
 ];
 
-static UNMAKE: [Side; 7] = [
+static UNMAKE: [Side; 9] = [
     SEAT_RANGE,
     ROLE_RANGE,
     SEAT_DEAD,
@@ -947,6 +1035,12 @@ static UNMAKE: [Side; 7] = [
     ROLE_DEAD,
     SEAT_BELOW_ROLE,
     KEEPER_NOT_HELD,
+    side(15, "the role has a junior", &[Role], |t, q| {
+        t.roles[q.at(Role)].juniors.contains(&true)
+    }),
+    side(15, "the role has a senior", &[Role], |t, q| {
+        t.roles.iter().any(|senior| senior.juniors[q.at(Role)])
+    }),
 ];
 
 static SHARE: [Side; 9] = [
@@ -965,7 +1059,52 @@ static SHARE: [Side; 9] = [
     }),
 ];
 
-/// Every side of every refusal that applies to the request, by number. 1 is left out: the program's tables are sound.
+static JOIN: [Side; 12] = [
+    SEAT_RANGE,
+    SENIOR_RANGE,
+    JUNIOR_RANGE,
+    SEAT_DEAD,
+    SENIOR_DEAD,
+    JUNIOR_DEAD,
+    SEAT_BELOW_SENIOR,
+    LEVELS_DIFFER,
+    KEEPER_OF_SENIOR_NOT_HELD,
+    side(22, "the two are one role", &[Role, Junior], |_, q| {
+        q.at(Role) == q.at(Junior)
+    }),
+    side(
+        22,
+        "the senior is below the junior already",
+        &[Role, Junior],
+        |t, q| is_below(t, q.at(Role), q.at(Junior)),
+    ),
+    side(16, "the tie exists already", &[Role, Junior], |t, q| {
+        t.roles[q.at(Role)].juniors[q.at(Junior)]
+    }),
+];
+
+static UNJOIN: [Side; 10] = [
+    SEAT_RANGE,
+    SENIOR_RANGE,
+    JUNIOR_RANGE,
+    SEAT_DEAD,
+    SENIOR_DEAD,
+    JUNIOR_DEAD,
+    SEAT_BELOW_SENIOR,
+    LEVELS_DIFFER,
+    KEEPER_OF_SENIOR_NOT_HELD,
+    side(16, "the tie is missing", &[Role, Junior], |t, q| {
+        !t.roles[q.at(Role)].juniors[q.at(Junior)]
+    }),
+];
+
+/// The numbers in the order in which they are looked at: the lowest first, but 22 "comes between 12 and 13".
+pub const ORDER: [usize; 17] = [1, 2, 3, 4, 5, 6, 7, 8, 9, 10, 11, 12, 22, 13, 14, 15, 16];
+
+/// One more than the highest number.
+pub const NUMBERS: usize = 23;
+
+/// Every side of every refusal that applies to the request, in that order. 1 is left out: the program's tables are sound.
 pub fn sides(call: Call) -> &'static [Side] {
     match call {
         Login => &LOGIN,
@@ -984,10 +1123,12 @@ pub fn sides(call: Call) -> &'static [Side] {
         Make => &MAKE,
         Unmake => &UNMAKE,
         Share => &SHARE,
+        Join => &JOIN,
+        Unjoin => &UNJOIN,
     }
 }
 
-/// The numbers that apply to the request, each once, rising.
+/// The numbers that apply to the request, each once, in their order.
 pub fn numbers(call: Call) -> Vec<usize> {
     let mut numbers: Vec<usize> = sides(call).iter().map(|side| side.number).collect();
     numbers.dedup();
@@ -1022,15 +1163,16 @@ pub fn met(tables: &Tables, request: &Request) -> u32 {
     met
 }
 
-/// "The lowest number that applies to the request and whose condition is met", 0 if there is none.
+/// "The lowest number that applies to the request and whose condition is met", 22 counting as one between 12 and 13; 0
+/// if there is none.
 pub fn answer(call: Call, met: u32) -> usize {
-    sides(call)
-        .iter()
-        .enumerate()
-        .filter(|(bit, _)| met & (1 << bit) != 0)
-        .map(|(_, side)| side.number)
-        .min()
-        .unwrap_or(0)
+    let is_met = |number: &usize| {
+        let sides = sides(call).iter().enumerate();
+        sides
+            .filter(|(_, side)| side.number == *number)
+            .any(|(bit, _)| met & (1 << bit) != 0)
+    };
+    ORDER.into_iter().find(is_met).unwrap_or(0)
 }
 
 /// "Accepted openr and openw hand back, beside the 0, the role for read or write on the entity; all else .. hands back
@@ -1144,11 +1286,16 @@ pub fn done(tables: &mut Tables, q: &Request) {
             end_opens(tables);
         }
         Share => tables.entities[entity].shared = q.at(Shared),
+        Join => tables.roles[role].juniors[q.at(Junior)] = true,
+        Unjoin => {
+            tables.roles[role].juniors[q.at(Junior)] = false;
+            end_opens(tables);
+        }
     }
 }
 
 /// "After drop, revoke and unmake, every seat loses each open for which it no longer has the read or write right.
-/// Reaching the entity is not looked at again."
+/// Reaching the entity is not looked at again." "Unjoin ends opens as A.3 says."
 fn end_opens(tables: &mut Tables) {
     for seat in 0..16 {
         for entity in 0..64 {
@@ -1170,10 +1317,10 @@ mod tests {
     fn pairs_and_sides() {
         let pairs: usize = CALLS.iter().map(|&call| numbers(call).len()).sum();
         let all: usize = CALLS.iter().map(|&call| sides(call).len()).sum();
-        assert_eq!((pairs, all), (94, 149));
+        assert_eq!((pairs, all), (108, 173));
         for call in CALLS {
-            let rising: Vec<usize> = sides(call).iter().map(|side| side.number).collect();
-            assert!(rising.windows(2).all(|pair| pair[0] <= pair[1]));
+            let place = |side: &Side| ORDER.iter().position(|&number| number == side.number);
+            assert!(sides(call).is_sorted_by_key(place));
             for side in sides(call) {
                 assert!(side.looks.iter().all(|field| call.uses().contains(field)));
                 assert!(side.number != 2 || side.looks.len() == 1);
@@ -1424,6 +1571,206 @@ mod tests {
                 t.seats[12].writing[50] = true;
                 t.seats[12].roles[12] = false;
                 t.seats[12].roles[15] = false;
+            }),
+        ];
+        for (place, (is_sound, change)) in changes.into_iter().enumerate() {
+            let mut changed = tables.clone();
+            change(&mut changed);
+            assert_eq!(sound(&changed), is_sound, "change {place}");
+        }
+    }
+
+    fn tie(call: Call, senior: usize, junior: usize) -> Request {
+        Request::with(call, &[(Seat, 13), (Role, senior), (Junior, junior)])
+    }
+
+    /// Roles 12 to 15 without rights and with these ties. Seat 12 holds role 13 alone, and seat 13 the keeper.
+    fn tied(ties: &[(usize, usize)]) -> Tables {
+        let mut tables = four_roles();
+        for role in 12..16 {
+            tables.roles[role].rights = [0; 64];
+            tables.seats[12].roles[role] = role == 13;
+        }
+        tables.seats[13].live = true;
+        tables.seats[13].roles[12] = true;
+        for &(senior, junior) in ties {
+            assert_eq!(step(&mut tables, &tie(Join, senior, junior)), 0);
+        }
+        assert!(sound(&tables));
+        tables
+    }
+
+    const CHAIN: [(usize, usize); 3] = [(13, 14), (14, 15), (15, 12)];
+
+    #[test]
+    fn to_any_depth() {
+        let mut tables = tied(&CHAIN);
+        for (place, (_, junior)) in CHAIN.into_iter().enumerate() {
+            assert_eq!(depth(&tables, 13, junior), Some(place + 1));
+            assert!(is_below(&tables, junior, 13) && !is_below(&tables, 13, junior));
+            tables.roles[junior].rights[48] = READ;
+            assert_eq!(role_for(&tables, 12, 48, READ), Some(13));
+            assert_eq!(role_for(&tables, 12, 48, WRITE), None);
+            tables.roles[junior].rights[48] = 0;
+        }
+        assert!((0..16).all(|role| !is_below(&tables, role, role)));
+        // What is above gives nothing.
+        tables.seats[12].roles[13] = false;
+        tables.seats[12].roles[15] = true;
+        for role in [13, 14] {
+            tables.roles[role].rights[48] = READ;
+        }
+        assert!(!has_right(&tables, 12, 48, READ));
+        tables.roles[12].rights[48] = READ;
+        assert_eq!(role_for(&tables, 12, 48, READ), Some(15));
+        // By the fewest ties.
+        tables.roles[13].juniors[12] = true;
+        assert_eq!(depth(&tables, 13, 12), Some(1));
+        // A ring ends too, but is not sound.
+        tables.roles[12].juniors[13] = true;
+        assert_eq!(depth(&tables, 13, 13), Some(2));
+        assert_eq!(depth(&tables, 13, 0), None);
+    }
+
+    #[test]
+    fn the_order_of_numbers() {
+        let place = |wanted: usize| ORDER.iter().position(|&number| number == wanted).unwrap();
+        assert!(place(12) < place(22) && place(22) < place(13) && place(22) < place(16));
+        assert!((2..16).all(|number| place(number) < place(number + 1)));
+        let bit = |number| sides(Join).iter().position(|side| side.number == number);
+        let [twelve, ring, again] = [12, 22, 16].map(|number| 1 << bit(number).unwrap());
+        assert_eq!(answer(Join, twelve | ring | again), 12);
+        assert_eq!(answer(Join, ring | again), 22);
+        assert_eq!(answer(Join, again), 16);
+        assert_eq!(numbers(Join), [2, 5, 7, 10, 12, 22, 16]);
+        assert_eq!(numbers(Unjoin), [2, 5, 7, 10, 12, 16]);
+        assert_eq!(numbers(Unmake), [2, 5, 6, 7, 10, 12, 15]);
+    }
+
+    #[test]
+    fn ties_made_and_ended() {
+        let mut tables = tied(&CHAIN);
+        let mut asks = |call, senior, junior, answer| {
+            assert_eq!(step(&mut tables, &tie(call, senior, junior)), answer);
+            assert!(sound(&tables));
+        };
+        // A ring of one, two, three and four.
+        for junior in [13, 14, 15, 12] {
+            asks(Join, junior, 13, 22);
+        }
+        asks(Join, 13, 14, 16);
+        asks(Unjoin, 13, 15, 16);
+        asks(Join, 13, 15, 0);
+        asks(Join, 13, 15, 16);
+        asks(Unjoin, 13, 13, 16);
+        asks(Unjoin, 14, 13, 16);
+        asks(Unjoin, 14, 15, 0);
+        asks(Join, 15, 13, 22);
+        asks(Join, 15, 14, 0);
+        asks(Join, 14, 15, 22);
+        asks(Join, 12, 16, 2);
+        asks(Join, 16, 12, 2);
+        asks(Join, 12, 9, 7);
+        asks(Join, 9, 12, 7);
+        asks(Join, 12, 8, 10);
+        asks(Join, 8, 12, 10);
+        asks(Join, 8, 8, 12);
+        asks(Unjoin, 8, 8, 12);
+    }
+
+    #[test]
+    fn holding_is_of_the_role_itself() {
+        // A senior of the keeper.
+        let mut tables = tied(&CHAIN);
+        for call in [List, Unlist, Unmake, Join, Unjoin] {
+            let asked = [(Seat, 12), (Role, 15), (Junior, 14), (User, 3)];
+            assert_eq!(step(&mut tables, &Request::with(call, &asked)), 12);
+        }
+        let take = |role| Request::with(Take, &[(Seat, 12), (Role, role)]);
+        tables.roles[14].users[0] = true;
+        assert_eq!(step(&mut tables, &take(15)), 12);
+        assert_eq!(step(&mut tables, &take(13)), 12);
+        assert_eq!(step(&mut tables, &take(14)), 0);
+        let drop = Request::with(Drop, &[(Seat, 12), (Role, 15)]);
+        assert_eq!(step(&mut tables, &drop), 16);
+        // And unmake.
+        let unmake = |role| Request::with(Unmake, &[(Seat, 13), (Role, role)]);
+        for (role, answer) in [(13, 15), (14, 15), (15, 15), (12, 6), (8, 6), (9, 7)] {
+            assert_eq!(step(&mut tables, &unmake(role)), answer);
+        }
+        assert_eq!(step(&mut tables, &tie(Unjoin, 13, 14)), 0);
+        assert_eq!(step(&mut tables, &unmake(14)), 15);
+        assert_eq!(step(&mut tables, &unmake(13)), 0);
+    }
+
+    #[test]
+    fn unjoin_ends_opens() {
+        // A diamond: 13 above 14 and 15, these above 12.
+        let mut tables = tied(&[(13, 14), (13, 15), (14, 12), (15, 12)]);
+        tables.roles[12].rights[50] = READ;
+        tables.roles[15].rights[50] = WRITE;
+        tables.seats[12].reading[50] = true;
+        tables.seats[12].writing[50] = true;
+        for (ties, is_left) in [
+            (&[(13, 14)][..], (true, true)),
+            (&[(14, 12)], (true, true)),
+            (&[(15, 12)], (true, true)),
+            (&[(13, 15)], (true, false)),
+            (&[(13, 14), (14, 12)], (true, true)),
+            (&[(13, 14), (15, 12)], (false, true)),
+            (&[(14, 12), (15, 12)], (false, true)),
+            (&[(13, 14), (13, 15)], (false, false)),
+        ] {
+            let mut tables = tables.clone();
+            let (last, before) = ties.split_last().unwrap();
+            for &(senior, junior) in before {
+                assert_eq!(left(&tables, &tie(Unjoin, senior, junior)), (true, true));
+                step(&mut tables, &tie(Unjoin, senior, junior));
+            }
+            let request = tie(Unjoin, last.0, last.1);
+            assert_eq!(left(&tables, &request), is_left, "{ties:?}");
+        }
+        // A tie more ends nothing.
+        assert_eq!(left(&tables, &tie(Join, 13, 12)), (true, true));
+    }
+
+    #[test]
+    fn ties_of_sound_tables() {
+        let tables = tied(&CHAIN[..2]);
+        type Change = fn(&mut Tables);
+        let changes: [(bool, Change); 15] = [
+            (true, |_| {}),
+            (true, |t| t.roles[13].juniors[15] = true),
+            (true, |t| t.roles[12].juniors = t.roles[13].juniors),
+            // Not live, of another level, to itself.
+            (false, |t| t.roles[8].juniors[9] = true),
+            (false, |t| t.roles[9].juniors[8] = true),
+            (false, |t| t.roles[9].juniors[9] = true),
+            (false, |t| t.roles[12].juniors[8] = true),
+            (false, |t| t.roles[8].juniors[12] = true),
+            (false, |t| t.roles[15].juniors[15] = true),
+            // A ring of two, three and four.
+            (false, |t| t.roles[15].juniors[14] = true),
+            (false, |t| t.roles[15].juniors[13] = true),
+            (false, |t| {
+                t.roles[15].juniors[12] = true;
+                t.roles[12].juniors[13] = true;
+            }),
+            // An open by a tie, by one the other way round, and by none.
+            (true, |t| {
+                t.roles[15].rights[48] = READ;
+                t.seats[12].reading[48] = true;
+            }),
+            (false, |t| {
+                t.roles[13].rights[48] = READ;
+                t.seats[12].roles[13] = false;
+                t.seats[12].roles[15] = true;
+                t.seats[12].reading[48] = true;
+            }),
+            (false, |t| {
+                t.roles[15].rights[48] = READ;
+                t.roles[14].juniors[15] = false;
+                t.seats[12].reading[48] = true;
             }),
         ];
         for (place, (is_sound, change)) in changes.into_iter().enumerate() {

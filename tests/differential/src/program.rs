@@ -8,6 +8,7 @@ use crate::marks;
 use crate::paper::{
     self, Call, Field, Label, Request, Tables, UserRecord, Values, CALLS, FIELDS, OPTIONAL,
 };
+use crate::ties;
 
 pub const LAST_LINE: usize = 65_535;
 pub const LONGEST_LINE: usize = 255;
@@ -63,6 +64,8 @@ pub enum What {
         situations: u32,
         /// And of opens that end: bit i for `ends::SITUATIONS[i]`.
         ends: u32,
+        /// And of ties: bit i for `ties::SITUATIONS[i]`.
+        ties: u64,
     },
 }
 
@@ -209,6 +212,13 @@ impl Program {
                     after: &self.tables,
                     lost: &self.lost,
                 });
+                let ties = ties::situations(&ties::Look {
+                    before: &before,
+                    request: &request,
+                    met,
+                    told: role,
+                    after: &self.tables,
+                });
                 if answer == 0 {
                     self.lost.note(&before, &request, &self.tables);
                 }
@@ -219,6 +229,7 @@ impl Program {
                         upper_half,
                         situations,
                         ends,
+                        ties,
                     },
                     answer,
                     role,
@@ -319,6 +330,10 @@ mod tests {
     const NAMES: &str = "call seat user role entity parent kind name level cats rights ceiling\n";
     const NAMES_SHARED: &str =
         "call seat user role entity parent kind name level cats rights ceiling shared\n";
+    const NAMES_JUNIOR: &str =
+        "call seat user role entity parent kind name level cats rights ceiling junior\n";
+    const NAMES_BOTH: &str =
+        "call junior seat user role entity parent kind name level cats rights ceiling shared\n";
 
     fn answers(lines: &str) -> Vec<usize> {
         answers_below(NAMES, lines)
@@ -448,6 +463,53 @@ mod tests {
         assert_eq!(answers_below(NAMES_SHARED, lines), [17, 17, 0]);
     }
 
+    #[test]
+    fn ties() {
+        let lines = "login 0 0 - - - - - 0 0 - - -\ntake 0 - 0 - - - - - - - - -\n\
+             make 0 - 1 - - - - - - - - -\nmake 0 - 2 - - - - - - - - -\n\
+             join 0 - 1 - - - - - - - - 2\njoin 0 - 2 - - - - - - - - 00000\n\
+             join 0 - 0 - - - - - - - - 1\njoin 0 - 0 - - - - - - - - 0\n\
+             join 0 - 1 - - - - - - - - 2\njoin 0 - 1 - - - - - - - - 16\n\
+             join 0 - 1 - - - - - - - - 65536\njoin 0 - 1 - - - - - - - - 123456\n\
+             join 0 - 1 - - - - - - - - -\njoin 0 - 1 - - - - - - - 2 -\n\
+             unmake 0 - 2 - - - - - - - - -\nunmake 0 - 2 - - - - - - - - 0\n\
+             list 0 0 1 - - - - - - - - -\nlogin 1 0 - - - - - 0 0 - - -\n\
+             take 1 - 1 - - - - - - - - -\nopenw 1 - - 0 - - - - - - - -\n\
+             unjoin 0 - 1 - - - - - - - - 0\nunjoin 0 - 2 - - - - - - - - 0\n\
+             close 1 - - 0 - - - - - - - -\nunjoin 0 - 1 - - - - - - - - 2\n\
+             unmake 0 - 2 - - - - - - - - -\n";
+        let input = format!("{NAMES_JUNIOR}{lines}");
+        let report = report(input.as_bytes());
+        assert!(report.names_good && report.sound);
+        let answers: Vec<usize> = report.seen.iter().map(|seen| seen.answer).collect();
+        assert_eq!(
+            answers,
+            [0, 0, 0, 0, 0, 0, 22, 22, 16, 2, 2, 17, 17, 17, 15, 17, 0, 0, 0, 0, 16, 0, 16, 0, 0]
+        );
+        // The role that is held.
+        assert_eq!(report.seen[19].role, Some(1));
+    }
+
+    #[test]
+    fn without_the_name_there_is_no_junior() {
+        let lines = "join 0 - 1 - - - - - - - -\njoin 0 - 1 - - - - - - - - 2\n\
+             join 0 - 1 - - - - - - - 2\nuser - 0 - - - - - 0 0 - 0\n";
+        assert_eq!(answers(lines), [17, 17, 17, 0]);
+        let lines = "join 0 - 1 - - - - - - - - -\njoin 0 - 1 - - - - - - - - 1\n\
+             join 0 - 1 - - - - - - - - - 1\nuser - 0 - - - - - 0 0 - 0 -\n\
+             share 0 - - 0 - - - - - - - 1\n";
+        assert_eq!(answers_below(NAMES_SHARED, lines), [17, 17, 17, 0, 5]);
+        let lines = "share 0 - - 0 - - - - - - - 1\nshare 0 - - 0 - - - - - - - -\n\
+             user - 0 - - - - - 0 0 - 0 1\nuser - 0 - - - - - 0 0 - 0 -\n\
+             join 0 - 0 - - - - - - - - 1\n";
+        assert_eq!(answers_below(NAMES_JUNIOR, lines), [17, 17, 17, 0, 5]);
+        let lines = "join 1 0 - 0 - - - - - - - - -\njoin - 0 - 0 - - - - - - - - 1\n\
+             join 1 0 - 0 - - - - - - - - 1\nshare - 0 - - 0 - - - - - - - 1\n\
+             share 1 0 - - 0 - - - - - - - -\nuser - - 0 - - - - - 0 0 - 0 -\n\
+             join 1 0 - 0 - - - - - - - -\n";
+        assert_eq!(answers_below(NAMES_BOTH, lines), [5, 17, 17, 5, 17, 17, 17]);
+    }
+
     /// One file in both editions (document 02, A.13).
     #[test]
     fn reading_down() {
@@ -516,5 +578,16 @@ mod tests {
         assert!(!good(&NAMES_SHARED.replace("kind", "shared")));
         assert!(!good(&NAMES_SHARED.replace("kind", "kind shared")));
         assert!(!good(&NAMES_SHARED.replace("shared", "share")));
+        // With neither, either and both.
+        assert!(
+            good(NAMES_JUNIOR) && good(NAMES_BOTH) && good(&NAMES.replace("call", "junior call"))
+        );
+        assert!(good(&NAMES.replace("kind", "shared kind junior")));
+        assert!(good(&NAMES.replace("kind", "junior shared kind")));
+        assert!(!good(&NAMES.replace("kind", "junior")) && !good("junior\n"));
+        assert!(!good(&NAMES_BOTH.replace("kind", "junior kind")));
+        assert!(!good(&NAMES_BOTH.replace("kind", "shared kind")));
+        assert!(!good(&NAMES_BOTH.replace("kind ", "")));
+        assert!(!good(&NAMES_JUNIOR.replace("junior", "senior")));
     }
 }

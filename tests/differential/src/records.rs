@@ -1,8 +1,8 @@
 //! Records as the test program `guard_cases` sets and prints them.
 
 use crate::paper::{
-    self, EntityRecord, Label, RoleRecord, SeatRecord, Tables, UserRecord, EXECUTE, OWN, READ,
-    WRITE,
+    self, EntityRecord, Label, RoleRecord, SeatRecord, Tables, UserRecord, EMPTY_ROLE, EXECUTE,
+    OWN, READ, WRITE,
 };
 
 /// A kind of records: its word where one and where several are meant, how many there are, and their fields
@@ -45,7 +45,9 @@ pub static KINDS: [Kind; 5] = [
         "role",
         "roles",
         16,
-        &["live", "users", "reads", "writes", "executes", "owns"],
+        &[
+            "live", "users", "reads", "writes", "executes", "owns", "juniors",
+        ],
     ),
     kind(
         "entity",
@@ -93,6 +95,7 @@ pub fn get(tables: &Tables, kind: &str, at: usize, field: &str) -> u64 {
         ("user", "cats") => wide(tables.users[at].clearance.cats),
         ("role", "live") => u64::from(tables.roles[at].live),
         ("role", "users") => number(tables.roles[at].users),
+        ("role", "juniors") => number(tables.roles[at].juniors),
         ("role", word) => {
             let rights = tables.roles[at].rights;
             number(rights.map(|rights| paper::has(rights, right(word))))
@@ -124,6 +127,7 @@ pub fn set(tables: &mut Tables, kind: &str, at: usize, field: &str, value: u64) 
         ("user", "cats") => tables.users[at].clearance.cats = short,
         ("role", "live") => tables.roles[at].live = value == 1,
         ("role", "users") => tables.roles[at].users = members(value),
+        ("role", "juniors") => tables.roles[at].juniors = members(value),
         ("role", word) => {
             let (_, right) = RIGHTS.into_iter().find(|right| right.0 == word).unwrap();
             let having: [bool; 64] = members(value);
@@ -176,13 +180,14 @@ pub fn shown(tables: &Tables, kind: &Kind, at: usize) -> String {
             label()
         ),
         "role" => format!(
-            "  role {at} {}, users {}, reads {}, writes {}, executes {}, owns {}",
+            "  role {at} {}, users {}, reads {}, writes {}, executes {}, owns {}, juniors {}",
             live(),
             set("users"),
             set("reads"),
             set("writes"),
             set("executes"),
-            set("owns")
+            set("owns"),
+            set("juniors")
         ),
         "entity" => format!(
             "  entity {at} {}, kind {}, parent {}, name {}, label {}, shared {}",
@@ -323,7 +328,7 @@ impl<'a> Words<'a> {
         let mut role = RoleRecord {
             live: self.live()?,
             users: self.set("users")?,
-            rights: [0; 64],
+            ..EMPTY_ROLE
         };
         for (word, right) in RIGHTS {
             let having: [bool; 64] = self.set(word)?;
@@ -331,6 +336,7 @@ impl<'a> Words<'a> {
                 *rights += if having { right } else { 0 };
             }
         }
+        role.juniors = self.set("juniors")?;
         Some(role)
     }
 
@@ -386,9 +392,10 @@ mod tests {
             shown(&tables, &KINDS[0], 15),
             "  seat 15 live, user 0, label 0/0, roles { }, reading { 7 63 }, writing { }"
         );
+        set(&mut tables, "role", 4, "juniors", 1 << 5 | 1 << 7);
         assert_eq!(
             shown(&tables, &KINDS[2], 4),
-            "  role 4 live, users { 0 }, reads { 16 }, writes { 16 }, executes { 16 }, owns { 16 }"
+            "  role 4 live, users { 0 }, reads { 16 }, writes { 16 }, executes { 16 }, owns { 16 }, juniors { 5 7 }"
         );
         assert_eq!(
             shown(&tables, &KINDS[3], 5),

@@ -30,6 +30,7 @@ impl Writer {
                 18 => self.write_object(),
                 19..=21 => self.drawer(),
                 22..=24 => self.end_opens(),
+                25..=28 => self.tie(),
                 _ => self.aimed(),
             }
             if self.random.chance(self.habits.unreadable, 100) {
@@ -340,6 +341,9 @@ impl Writer {
                     || t.seats.iter().any(|seat| seat.roles[role]))
         });
         let before = self.tables().roles[role];
+        if self.random.chance(3, 4) {
+            self.untie(role);
+        }
         if !self.wish(Call::Unmake, &[(Field::Role, role)])
             || !self.wish(Call::Make, &[(Field::Role, role)])
         {
@@ -408,6 +412,9 @@ impl Writer {
                 self.wish(Call::Drop, &[(Field::Seat, seat), (Field::Role, role)]);
             }
             2 if !paper::is_keeper(role) => {
+                if self.random.chance(3, 4) {
+                    self.untie(role);
+                }
                 self.wish(Call::Unmake, &[(Field::Role, role)]);
             }
             _ => {
@@ -535,7 +542,12 @@ impl Writer {
             match self.random.below(8) {
                 0..=2 => self.wish(Call::Drop, &held),
                 3..=5 => self.wish(Call::Revoke, &give(role, sheet, rights)),
-                6 => self.wish(Call::Unmake, &[(Field::Seat, owner), (Field::Role, role)]),
+                6 => {
+                    if self.random.chance(3, 4) {
+                        self.untie(role);
+                    }
+                    self.wish(Call::Unmake, &[(Field::Seat, owner), (Field::Role, role)])
+                }
                 // By one that may not, most often.
                 _ => {
                     let call = self.random.pick(&[Call::Unmake, Call::Revoke]);
@@ -554,10 +566,10 @@ impl Writer {
     }
 
     /// Each of the seats asks for the entity, so that its answers tell whether it has it open and in which way.
-    fn ask_what_is_left(&mut self, seats: &[usize], entity: usize) {
+    pub fn ask_what_is_left(&mut self, seats: &[usize], entity: usize) {
         for &seat in seats {
             let named = [(Field::Seat, seat), (Field::Entity, entity)];
-            match self.random.below(6) {
+            match self.random.below(7) {
                 0 => self.ask(Call::Openr, &named),
                 1 => self.ask(Call::Openw, &named),
                 2 => self.ask(Call::Close, &named),
@@ -565,7 +577,7 @@ impl Writer {
                     let inside = [(Field::Seat, seat), (Field::Parent, entity)];
                     self.ask(Call::Create, &inside)
                 }
-                4 => {
+                4 | 5 => {
                     let child = self.one_of(64, |t, e| paper::is_child(t, e, entity));
                     let call = self.random.pick(&[Call::Delete, Call::Rename]);
                     self.ask(call, &[(Field::Seat, seat), (Field::Entity, child)])
@@ -675,7 +687,7 @@ impl Writer {
     }
 
     /// Each of the seats tries to delete or rename some of what is in the container, and to share it.
-    fn try_sheets(&mut self, seats: &[usize], container: usize) {
+    pub fn try_sheets(&mut self, seats: &[usize], container: usize) {
         for &seat in seats {
             for _ in 0..2 {
                 let sheet = self.one_of(64, |t, e| paper::is_child(t, e, container));

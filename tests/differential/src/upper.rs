@@ -1,6 +1,6 @@
 //! "The upper part for a level L", and the isolation rule on two logs that have been run. Of document 02 it
-//! has A.6: "The isolation rule's equal answers include the role"; and A.13: "The edition joins the upper
-//! part, and the isolation rule speaks of both."
+//! has A.6: "The isolation rule's equal answers include the role"; A.8: "Ties among upper roles join the
+//! upper part"; and A.13: "The edition joins the upper part, and the isolation rule speaks of both."
 
 use crate::cases;
 use crate::logs::{Asked, Log, Ran};
@@ -12,7 +12,8 @@ use crate::records;
 /// "The upper part holds all users; the live mark, user and label of seats of level L and above; of what
 /// those seats hold or have open, the roles and entities of level L and above; the live mark and list of
 /// roles of level L and above, and their rights on entities of level L and above; the whole record of
-/// entities of level L and above." And the edition. What does not belong to it is empty here.
+/// entities of level L and above." And ties among these roles, and the edition. What does not belong to it
+/// is empty here.
 pub fn upper(level: usize, tables: &Tables) -> Tables {
     let mut upper = tables.clone();
     for seat in 0..16 {
@@ -35,6 +36,9 @@ pub fn upper(level: usize, tables: &Tables) -> Tables {
         }
         for entity in (0..64).filter(|&entity| entity_level(entity) < level) {
             record.rights[entity] = 0;
+        }
+        for junior in (0..16).filter(|&junior| role_level(junior) < level) {
+            record.juniors[junior] = false;
         }
     }
     for entity in (0..64).filter(|&entity| entity_level(entity) < level) {
@@ -60,7 +64,7 @@ pub fn names_upper(level: usize, asked: &Asked) -> bool {
         let number = request.at(field);
         match field {
             Field::Seat => is_upper(level, asked),
-            Field::Role => number > 15 || role_level(number) >= level,
+            Field::Role | Field::Junior => number > 15 || role_level(number) >= level,
             Field::Entity | Field::Parent => number > 63 || entity_level(number) >= level,
             _ => true,
         }
@@ -134,7 +138,7 @@ mod tests {
     #[test]
     fn what_belongs_to_the_upper_part() {
         type Change = fn(&mut Tables);
-        let changes: [(usize, Change); 17] = [
+        let changes: [(usize, Change); 21] = [
             (3, |t| t.users[0].ceiling = 1),
             (3, |t| t.edition = 2),
             (0, |t| t.seats[3].live = true),
@@ -151,6 +155,11 @@ mod tests {
             (2, |t| t.roles[11].users[0] = true),
             (0, |t| t.roles[12].rights[0] = 1),
             (3, |t| t.roles[12].rights[48] = 1),
+            (0, |t| t.roles[0].juniors[3] = true),
+            (2, |t| t.roles[11].juniors[9] = true),
+            (3, |t| t.roles[12].juniors[15] = true),
+            // No sound tables have one like it.
+            (1, |t| t.roles[12].juniors[4] = true),
             (1, |t| t.entities[16].shared = 1),
             (3, |t| t.entities[63].name = 1),
         ];
@@ -175,7 +184,7 @@ mod tests {
         assert!(!is_upper(1, &openr(16, 48)));
         assert!(names_upper(2, &openr(12, 32)) && !names_upper(3, &openr(12, 32)));
         assert!(names_upper(3, &openr(12, 64)) && !names_upper(1, &openr(3, 64)));
-        let no_kind = |seat| Asked::NoKind { call: 17, seat };
+        let no_kind = |seat| Asked::NoKind { call: 19, seat };
         assert!(names_upper(3, &no_kind(12)) && !names_upper(3, &no_kind(11)));
         let create = |parent| {
             let named = [
@@ -191,6 +200,19 @@ mod tests {
         let logout = request(Call::Logout, &[(Field::Seat, 12), (Field::Role, 0)]);
         assert!(names_upper(3, &logout));
         assert!(!names_upper(3, &request(Call::Take, &[(Field::Seat, 12)])));
+        let tie = |call, senior, junior| {
+            let named = [
+                (Field::Seat, 12),
+                (Field::Role, senior),
+                (Field::Junior, junior),
+            ];
+            request(call, &named)
+        };
+        for call in [Call::Join, Call::Unjoin] {
+            assert!(names_upper(3, &tie(call, 12, 15)) && !names_upper(3, &tie(call, 12, 11)));
+            assert!(names_upper(2, &tie(call, 12, 11)) && !names_upper(3, &tie(call, 11, 12)));
+            assert!(names_upper(3, &tie(call, 16, 16)));
+        }
     }
 
     #[test]

@@ -1,14 +1,14 @@
 //! The access guard of document 01 in plain Rust, with the categories, the
-//! shared drawers, the opens that end with their rights, the role told and the
-//! editions of document 02, A.1, A.2, A.3, A.6 and A.13: the tables are changed
-//! in place, sets are bit sets and no request touches the heap. It follows the
-//! papers alone and shares no line with the proved guard, so that the two can be
-//! held against each other.
+//! shared drawers, the opens that end with their rights, the role told, the
+//! senior and junior roles and the editions of document 02, A.1, A.2, A.3, A.6,
+//! A.8 and A.13: the tables are changed in place, sets are bit sets and no
+//! request touches the heap. It follows the papers alone and shares no line with
+//! the proved guard, so that the two can be held against each other.
 //!
 //! Numbers handed back are those of the paper: 0 for done, otherwise the
 //! refusal. The refusals of a request stand in the order in which they are
-//! looked at, the lowest first. Beside the 0 of an open stands the role that let
-//! the seat in.
+//! looked at, the lowest first; 22 "comes between 12 and 13". Beside the 0 of an
+//! open stands the role that let the seat in.
 
 #[cfg(test)]
 mod tests;
@@ -31,7 +31,7 @@ pub const CONTAINER: u8 = 1;
 pub const EDITION_1: u8 = 1;
 pub const EDITION_2: u8 = 2;
 
-/// The numbers of the seventeen requests.
+/// The numbers of the nineteen requests.
 pub mod call {
     pub const LOGIN: u32 = 0;
     pub const LOGOUT: u32 = 1;
@@ -50,6 +50,8 @@ pub mod call {
     pub const MAKE: u32 = 14;
     pub const UNMAKE: u32 = 15;
     pub const SHARE: u32 = 16;
+    pub const JOIN: u32 = 17;
+    pub const UNJOIN: u32 = 18;
 }
 
 /// A confidentiality label. `grade` is in range up to 3. `cats` has one bit for
@@ -112,6 +114,8 @@ pub struct Role {
     pub live: bool,
     /// The users listed, one bit for each.
     pub users: u16,
+    /// The roles tied directly below it, one bit for each.
+    pub juniors: u16,
     pub rights: [u8; ENTITIES],
 }
 
@@ -119,6 +123,7 @@ impl Role {
     const EMPTY: Role = Role {
         live: false,
         users: 0,
+        juniors: 0,
         rights: [0; ENTITIES],
     };
 }
@@ -146,7 +151,7 @@ pub struct Tables {
 
 /// A request as the host brings it: any number may stand in any field, and a
 /// field that the request does not use is not looked at. `level` is the
-/// label's grade, `shared` the mark asked for.
+/// label's grade, `shared` the mark asked for. Of a tie, `role` is the senior.
 #[derive(Clone, Copy, Debug, Default, PartialEq, Eq)]
 pub struct Request {
     pub call: u32,
@@ -161,6 +166,7 @@ pub struct Request {
     pub cats: u32,
     pub rights: u32,
     pub shared: u32,
+    pub junior: u32,
 }
 
 /// What a request hands back. "Accepted openr and openw hand back, beside the 0,
@@ -216,8 +222,8 @@ pub fn is_keeper(role: usize) -> bool {
     role.is_multiple_of(4)
 }
 
-/// The seventeen requests, by their numbers. Those that open tell a role.
-const CALLS: [fn(&mut Tables, &Request) -> Answer; 17] = [
+/// The nineteen requests, by their numbers. Those that open tell a role.
+const CALLS: [fn(&mut Tables, &Request) -> Answer; 19] = [
     |t, r| t.login(r).into(),
     |t, r| t.logout(r).into(),
     |t, r| t.take(r).into(),
@@ -235,6 +241,8 @@ const CALLS: [fn(&mut Tables, &Request) -> Answer; 17] = [
     |t, r| t.make(r).into(),
     |t, r| t.unmake(r).into(),
     |t, r| t.share(r).into(),
+    |t, r| t.join(r).into(),
+    |t, r| t.unjoin(r).into(),
 ];
 
 /// Takes the number of a table's row, or leaves the request with 2.
@@ -591,8 +599,10 @@ impl Tables {
     fn revoke(&mut self, r: &Request) -> u8 {
         let answer = self.regrant(r, |held, named| held & !named);
         if answer == 0 && r.rights & u32::from(READ | WRITE) != 0 {
+            // A seat may have it by a role above the named one.
             for x in 0..SEATS {
-                if self.seats[x].roles >> r.role & 1 != 0 {
+                let seat = &self.seats[x];
+                if (seat.reading | seat.writing) >> r.entity & 1 != 0 {
                     self.end_opens(x, 1 << r.entity);
                 }
             }
@@ -682,7 +692,7 @@ impl Tables {
     fn unmake(&mut self, r: &Request) -> u8 {
         let x = row!(r.seat, SEATS);
         let p = row!(r.role, ROLES);
-        let (seat, role) = (&self.seats[x], &mut self.roles[p]);
+        let (seat, role) = (&self.seats[x], &self.roles[p]);
         if !seat.live {
             return 5;
         }
@@ -698,7 +708,11 @@ impl Tables {
         if !holds_keeper_of(seat, p) {
             return 12;
         }
-        *role = Role::EMPTY;
+        // "A role with a junior or a senior is not unmade."
+        if role.juniors != 0 || self.roles.iter().any(|senior| senior.juniors >> p & 1 != 0) {
+            return 15;
+        }
+        self.roles[p] = Role::EMPTY;
         for x in 0..SEATS {
             let held = &mut self.seats[x].roles;
             if *held >> p & 1 != 0 {
@@ -738,26 +752,104 @@ impl Tables {
         0
     }
 
-    /// Of the roles the lowest-numbered one, of at least the entity's level, that
-    /// has the right. "The check of a right now tells the lowest-numbered held
-    /// role that gives it, or that none does" (document 02, A.6).
+    fn join(&mut self, r: &Request) -> u8 {
+        self.retie(r, true)
+    }
+
+    fn unjoin(&mut self, r: &Request) -> u8 {
+        let answer = self.retie(r, false);
+        if answer == 0 {
+            for x in 0..SEATS {
+                self.end_opens(x, u64::MAX);
+            }
+        }
+        answer
+    }
+
+    #[inline]
+    fn retie(&mut self, r: &Request, tied: bool) -> u8 {
+        let x = row!(r.seat, SEATS);
+        let p = row!(r.role, ROLES);
+        let q = row!(r.junior, ROLES);
+        let (seat, senior) = (&self.seats[x], &self.roles[p]);
+        if !seat.live {
+            return 5;
+        }
+        if !senior.live || !self.roles[q].live {
+            return 7;
+        }
+        if level(x) < level(p) || level(p) != level(q) {
+            return 10;
+        }
+        if !holds_keeper_of(seat, p) {
+            return 12;
+        }
+        if tied && (p == q || self.below(q) >> p & 1 != 0) {
+            return 22;
+        }
+        if (senior.juniors >> q & 1 != 0) == tied {
+            return 16;
+        }
+        self.roles[p].juniors ^= 1 << q;
+        0
+    }
+
+    /// These roles and those below them: their juniors, and theirs, "to any depth"
+    /// (document 02, A.8).
+    fn with_juniors(&self, roles: u16) -> u16 {
+        let (mut all, mut left) = (roles, roles);
+        while left != 0 {
+            let juniors = self.roles[left.trailing_zeros() as usize].juniors;
+            left = (left & (left - 1)) | (juniors & !all);
+            all |= juniors;
+        }
+        all
+    }
+
+    /// The roles below this one. It is among them itself only where ties go round
+    /// in a ring.
+    fn below(&self, p: usize) -> u16 {
+        self.with_juniors(self.roles[p].juniors)
+    }
+
+    /// Whether one of the juniors has the right, or one below them.
+    #[inline(never)]
+    fn junior_has(&self, juniors: u16, right: u8, e: usize) -> bool {
+        members(self.with_juniors(juniors).into()).any(|p| self.roles[p].rights[e] & right != 0)
+    }
+
+    /// Whether one of the roles, of at least the entity's level, has the right: in
+    /// its own record or in that of a role below it.
+    #[inline(always)]
+    fn has(&self, roles: u16, right: u8, e: usize) -> bool {
+        let mut left = roles & (u16::MAX << (4 * entity_level(e)));
+        let mut juniors = 0;
+        while left != 0 {
+            let role = &self.roles[left.trailing_zeros() as usize];
+            if role.rights[e] & right != 0 {
+                return true;
+            }
+            juniors |= role.juniors;
+            left &= left - 1;
+        }
+        juniors != 0 && self.junior_has(juniors, right, e)
+    }
+
+    /// Of the roles the lowest-numbered one that has the right so. "The check of a
+    /// right now tells the lowest-numbered held role that gives it, or that none
+    /// does" (document 02, A.6); it "is the held one", also where the right is in a
+    /// junior's record (A.8).
     #[inline(always)]
     fn giving(&self, roles: u16, right: u8, e: usize) -> Option<u8> {
-        let mut left = roles & (u16::MAX << (4 * entity_level(e)));
+        let mut left = roles;
         while left != 0 {
             let p = left.trailing_zeros();
-            if self.roles[p as usize].rights[e] & right != 0 {
+            if self.has(1 << p, right, e) {
                 return Some(p as u8);
             }
             left &= left - 1;
         }
         None
-    }
-
-    /// Whether one of the roles gives the right.
-    #[inline]
-    fn has(&self, roles: u16, right: u8, e: usize) -> bool {
-        self.giving(roles, right, e).is_some()
     }
 
     /// Whether the roles have execute on every container above the entity.
@@ -913,9 +1005,15 @@ impl Tables {
                 *allowed = READ | WRITE | EXECUTE | OWN;
             }
         }
+        let live_roles = self.live_roles();
         self.roles.iter().enumerate().all(|(p, role)| {
             if !role.live {
                 return !is_keeper(p) && *role == Role::EMPTY;
+            }
+            // Ties join live roles of one level, and no role is below itself.
+            let of_level = 0b1111 << (4 * level(p));
+            if role.juniors & !(live_roles & of_level) != 0 || self.below(p) >> p & 1 != 0 {
+                return false;
             }
             let (up_to_level, above) = role.rights.split_at(16 * (level(p) + 1));
             let excess = up_to_level
@@ -926,12 +1024,15 @@ impl Tables {
         })
     }
 
-    fn seats_are_sound(&self) -> bool {
-        let live_roles = self
-            .roles
+    fn live_roles(&self) -> u16 {
+        self.roles
             .iter()
             .enumerate()
-            .fold(0u16, |set, (p, role)| set | u16::from(role.live) << p);
+            .fold(0, |set, (p, role)| set | u16::from(role.live) << p)
+    }
+
+    fn seats_are_sound(&self) -> bool {
+        let live_roles = self.live_roles();
         self.seats.iter().enumerate().all(|(x, seat)| {
             if !seat.live {
                 return *seat == Seat::default();
@@ -966,7 +1067,7 @@ fn holds_keeper_of(seat: &Seat, role: usize) -> bool {
     seat.roles >> (4 * level(role)) & 1 != 0
 }
 
-/// The entities in a set.
+/// The numbers in a set.
 fn members(mut set: u64) -> impl Iterator<Item = usize> {
     std::iter::from_fn(move || {
         let e = (set != 0).then(|| set.trailing_zeros() as usize)?;

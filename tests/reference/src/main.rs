@@ -2,7 +2,8 @@
 //! standard input, answers on standard output. "`cats` may reach 65,535"
 //! (document 02, A.1), which is the guard's bound. "The program gains a
 //! thirteenth name `shared`; a names line without it is still read, the field
-//! then counting as a dash" (A.2).
+//! then counting as a dash" (A.2); of a tie it "has the senior under `role` and
+//! gains a name `junior`", without which a names line is still read too (A.8).
 //!
 //! The tables start fresh and only the guard changes them, so that they stay
 //! sound, and the program does not test them again before each request. With
@@ -47,6 +48,7 @@ enum Field {
     Rights,
     Ceiling,
     Shared,
+    Junior,
 }
 
 use Field::*;
@@ -65,6 +67,7 @@ const FIELDS: &[(&[u8], Field)] = &[
     (b"rights", Rights),
     (b"ceiling", Ceiling),
     (b"shared", Shared),
+    (b"junior", Junior),
 ];
 
 /// The most names that a names line can have, and the twelve that it has to have
@@ -72,11 +75,11 @@ const FIELDS: &[(&[u8], Field)] = &[
 const NAMES: usize = FIELDS.len();
 const TWELVE: u16 = (1 << 12) - 1;
 
-/// The word `user`, numbered behind the seventeen requests.
-const SET_USER: u32 = 17;
+/// The word `user`, numbered behind the nineteen requests.
+const SET_USER: u32 = 19;
 
 /// The fields that each word uses, as bit sets.
-const USES: [u16; 18] = {
+const USES: [u16; 20] = {
     const fn set(fields: &[Field]) -> u16 {
         let mut set = 1 << Call as u16;
         let mut i = 0;
@@ -90,7 +93,8 @@ const USES: [u16; 18] = {
     let with_entity = set(&[Seat, Entity]);
     let with_rights = set(&[Seat, Role, Entity, Rights]);
     let with_user = set(&[Seat, Role, User]);
-    let mut uses = [0; 18];
+    let with_junior = set(&[Seat, Role, Junior]);
+    let mut uses = [0; 20];
     uses[call::LOGIN as usize] = set(&[Seat, User, Level, Cats]);
     uses[call::LOGOUT as usize] = set(&[Seat]);
     uses[call::TAKE as usize] = with_role;
@@ -108,6 +112,8 @@ const USES: [u16; 18] = {
     uses[call::MAKE as usize] = with_role;
     uses[call::UNMAKE as usize] = with_role;
     uses[call::SHARE as usize] = set(&[Seat, Entity, Shared]);
+    uses[call::JOIN as usize] = with_junior;
+    uses[call::UNJOIN as usize] = with_junior;
     uses[SET_USER as usize] = set(&[User, Level, Cats, Ceiling]);
     uses
 };
@@ -134,6 +140,8 @@ fn take_word(text: &[u8]) -> Option<(u32, &[u8])> {
         [b'm', b'a', b'k', b'e', rest @ ..] => (call::MAKE, rest),
         [b'u', b'n', b'm', b'a', b'k', b'e', rest @ ..] => (call::UNMAKE, rest),
         [b's', b'h', b'a', b'r', b'e', rest @ ..] => (call::SHARE, rest),
+        [b'j', b'o', b'i', b'n', rest @ ..] => (call::JOIN, rest),
+        [b'u', b'n', b'j', b'o', b'i', b'n', rest @ ..] => (call::UNJOIN, rest),
         [b'u', b's', b'e', b'r', rest @ ..] => (SET_USER, rest),
         _ => return None,
     })
@@ -228,8 +236,8 @@ fn read_line<'a>(
     }
 }
 
-/// The answers that there are, 0 for done among them.
-const ANSWERS: usize = 18;
+/// The answers are below this number, 0 for done among them.
+const ANSWERS: usize = 23;
 
 /// A row of the output behind the line's number, and its length: those of the
 /// answers, then those of the roles told beside a 0.
@@ -444,7 +452,7 @@ impl Program {
         if self.values[Call as usize] == SET_USER {
             return self.set_user();
         }
-        let [call, seat, user, role, entity, parent, kind, name, level, cats, rights, _, shared] =
+        let [call, seat, user, role, entity, parent, kind, name, level, cats, rights, _, shared, junior] =
             self.values;
         let request = Request {
             call,
@@ -459,6 +467,7 @@ impl Program {
             cats,
             rights,
             shared,
+            junior,
         };
         let tables = self
             .tables

@@ -1,3 +1,5 @@
+mod ties;
+
 use crate::*;
 
 const NONE: UserRecord = UserRecord {
@@ -47,6 +49,7 @@ fn of(call: u32, seat: u32) -> Request {
         cats: UNUSED,
         rights: UNUSED,
         shared: UNUSED,
+        junior: UNUSED,
     }
 }
 
@@ -180,6 +183,21 @@ fn share(seat: u32, entity: u32, shared: u32) -> Request {
     }
 }
 
+fn with_junior(call: u32, seat: u32, senior: u32, junior: u32) -> Request {
+    Request {
+        junior,
+        ..with_role(call, seat, senior)
+    }
+}
+
+fn join(seat: u32, senior: u32, junior: u32) -> Request {
+    with_junior(call::JOIN, seat, senior, junior)
+}
+
+fn unjoin(seat: u32, senior: u32, junior: u32) -> Request {
+    with_junior(call::UNJOIN, seat, senior, junior)
+}
+
 /// Steps through the requests and asks for the answer of each; the tables stay
 /// sound, and a refusal leaves them as they were. "Accepted openr and openw" tell
 /// a role, and nothing else does.
@@ -308,7 +326,7 @@ fn edges() {
             (share(12, 48, 65_536), 2),
             (share(12, 48, 99_999), 2),
             (share(12, 48, u32::MAX), 2),
-            (of(17, 12), 2),
+            (of(19, 12), 2),
             (of(u32::MAX, 12), 2),
             (logout(u32::MAX), 2),
             // A number out of range comes before a dead seat.
@@ -1054,7 +1072,7 @@ fn unsound_tables_give_1() {
         let mut changed = tables.clone();
         change(&mut changed);
         let before = changed.clone();
-        for request in [logout(12), logout(16), share(12, 48, 1), of(17, 0)] {
+        for request in [logout(12), logout(16), share(12, 48, 1), of(19, 0)] {
             assert_eq!(changed.step(&request), Answer::Plain(1), "change {place}");
         }
         assert_eq!(changed, before);
@@ -1144,7 +1162,7 @@ fn other_editions_give_1() {
         openr(12, 64),
         close(12, 48),
         share(12, 48, 1),
-        of(17, 0),
+        of(19, 0),
     ];
     for edition in [0, 3, 4, 128, 254, 255] {
         let mut tables = at_work();
@@ -1360,7 +1378,7 @@ fn what_ends_a_read_down() {
 fn soundness_of_reads_down() {
     let mut tables = counter(2);
     run(&mut tables, &[(openr(15, 2), 0), (openr(15, 48), 0)]);
-    let requests = [logout(15), close(15, 2), openr(15, 2), of(17, 0)];
+    let requests = [logout(15), close(15, 2), openr(15, 2), of(19, 0)];
     // "Edition 1 is the rule so far."
     tables.edition = 1;
     assert!(!tables.is_sound());
@@ -1414,7 +1432,7 @@ fn no_request_changes_the_edition() {
     for edition in [1, 2] {
         let mut tables = full();
         tables.edition = edition;
-        for call in 0..=17 {
+        for call in 0..=19 {
             for seat in [12, 13] {
                 let request = Request {
                     call,
@@ -1429,6 +1447,7 @@ fn no_request_changes_the_edition() {
                     cats: 0,
                     rights: 15,
                     shared: 1,
+                    junior: 12,
                 };
                 tables.step(&request);
                 assert_eq!(tables.edition, edition);
@@ -1631,7 +1650,7 @@ fn what_tells_no_role() {
     ] {
         assert_eq!(tables.step(&request), Answer::Plain(0), "{request:?}");
     }
-    assert_eq!(tables.step(&of(17, 12)), Answer::Plain(2));
+    assert_eq!(tables.step(&of(19, 12)), Answer::Plain(2));
     // Unsound tables.
     tables.edition = 3;
     assert_eq!(tables.step(&openr(12, 48)), Answer::Plain(1));

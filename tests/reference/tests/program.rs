@@ -9,6 +9,12 @@ const NAMES: &str = "call seat user role entity parent kind name level cats righ
 const NAMES_SHARED: &str =
     "call seat user role entity parent kind name level cats rights ceiling shared";
 
+const NAMES_JUNIOR: &str =
+    "call seat user role entity parent kind name level cats rights ceiling junior";
+
+const NAMES_BOTH: &str =
+    "call seat user role entity parent kind name level cats rights ceiling shared junior";
+
 fn run_with(words: &[&str], input: &[u8]) -> String {
     let mut program = Command::new(env!("CARGO_BIN_EXE_reference"))
         .args(words)
@@ -416,6 +422,232 @@ fn names_lines_with_shared() {
     }
 }
 
+/// Seat 12 keeps level 3, and seat 13 holds role 13, which may do nothing yet. Roles 13, 14 and 15
+/// are there.
+const FOUR_ROLES: [(&str, u8); 9] = [
+    ("user - 0 - - - - - 3 255 - 3 -", 0),
+    ("login 12 0 - - - - - 0 0 - - -", 0),
+    ("take 12 - 12 - - - - - - - - -", 0),
+    ("make 12 - 13 - - - - - - - - -", 0),
+    ("make 12 - 14 - - - - - - - - -", 0),
+    ("make 12 - 15 - - - - - - - - -", 0),
+    ("list 12 0 13 - - - - - - - - -", 0),
+    ("login 13 0 - - - - - 0 0 - - -", 0),
+    ("take 13 - 13 - - - - - - - - -", 0),
+];
+
+#[test]
+fn ties() {
+    let lines = [
+        ("openr 13 - - 48 - - - - - - - -", 13),
+        ("join 12 - 13 - - - - - - - - 14", 0),
+        ("join 12 - 14 - - - - - - - - 15", 0),
+        ("join 12 - 15 - - - - - - - - 00012", 0),
+        ("join 12 - 13 - - - - - - - - 14", 16),
+        ("join 12 - 13 - - - - - - - - 13", 22),
+        ("join 12 - 14 - - - - - - - - 13", 22),
+        ("join 12 - 15 - - - - - - - - 13", 22),
+        ("join 12 - 12 - - - - - - - - 13", 22),
+        ("join 12 - 13 - - - - - - - - 15", 0),
+        ("unjoin 12 - 13 - - - - - - - - 15", 0),
+        ("unjoin 12 - 13 - - - - - - - - 15", 16),
+        ("unjoin 12 - 13 - - - - - - - - 13", 16),
+        // The edges of a role's number.
+        ("join 12 - 13 - - - - - - - - 16", 2),
+        ("join 12 - 13 - - - - - - - - 256", 2),
+        ("join 12 - 13 - - - - - - - - 65535", 2),
+        ("join 12 - 13 - - - - - - - - 65536", 2),
+        ("unjoin 12 - 13 - - - - - - - - 99999", 2),
+        ("unjoin 12 - 13 - - - - - - - - 100000", 17),
+        ("unjoin 12 - 13 - - - - - - - - 000014", 17),
+        ("join 12 - 16 - - - - - - - - 13", 2),
+        ("join 16 - 13 - - - - - - - - 14", 2),
+        ("join 14 - 13 - - - - - - - - 14", 5),
+        ("unjoin 14 - 13 - - - - - - - - 14", 5),
+        ("join 12 - 13 - - - - - - - - 11", 7),
+        ("unjoin 12 - 11 - - - - - - - - 13", 7),
+        ("join 12 - 13 - - - - - - - - 8", 10),
+        ("unjoin 12 - 8 - - - - - - - - 13", 10),
+        ("join 13 - 13 - - - - - - - - 15", 12),
+        ("unjoin 13 - 13 - - - - - - - - 14", 12),
+        // By a right of the last, and without a tie no more.
+        ("openw 13 - - 48 - - - - - - - -", 0),
+        ("create 13 - 12 49 48 0 7 0 0 - - -", 12),
+        ("create 13 - 13 49 48 0 7 0 0 - - -", 0),
+        ("unmake 12 - 13 - - - - - - - - -", 15),
+        ("unmake 12 - 14 - - - - - - - - -", 15),
+        ("unmake 12 - 12 - - - - - - - - -", 6),
+        ("unjoin 12 - 14 - - - - - - - - 00015", 0),
+        ("rename 13 - - 49 - - 8 - - - - -", 13),
+        ("close 13 - - 48 - - - - - - - -", 16),
+        ("openw 13 - - 48 - - - - - - - -", 13),
+        ("unjoin 12 - 13 - - - - - - - - 14", 0),
+        ("unmake 12 - 14 - - - - - - - - -", 0),
+        ("join 12 - 13 - - - - - - - - 14", 7),
+    ];
+    check_below(NAMES_JUNIOR, &[&FOUR_ROLES[..], &lines].concat());
+}
+
+#[test]
+fn faults_with_junior() {
+    for line in [
+        // Both words use their three fields and no other.
+        "join 12 - 13 - - - - - - - - -",
+        "join 12 - - - - - - - - - - 14",
+        "join - - 13 - - - - - - - - 14",
+        "join 12 0 13 - - - - - - - - 14",
+        "join 12 - 13 48 - - - - - - - 14",
+        "join 12 - 13 - - - - - - - 0 14",
+        "join 12 - 13 - - - - - - - 14 -",
+        "join 12 - 13 - - - - - - 14 - -",
+        "join 12 - 13 - - - - - - - - -1",
+        "join 12 - 13 - - - - - - - - +1",
+        "join 12 - 13 - - - - - - - - 1a",
+        "join 12 - 13 - - - - - - - - 14 ",
+        "unjoin 12 - 13 - - - - - - - - -",
+        "unjoin 12 - - - - - - - - - - 14",
+        "unjoin 12 - 13 - - - - 0 - - - 14",
+        "joins 12 - 13 - - - - - - - - 14",
+        "joi 12 - 13 - - - - - - - - 14",
+        "Join 12 - 13 - - - - - - - - 14",
+        "JOIN 12 - 13 - - - - - - - - 14",
+        "rejoin 12 - 13 - - - - - - - - 14",
+        "unjoi 12 - 13 - - - - - - - - 14",
+        "ununjoin 12 - 13 - - - - - - - - 14",
+        "junior 12 - 13 - - - - - - - - 14",
+        // The other words do not use it.
+        "logout 12 - - - - - - - - - - 0",
+        "logout 12 - - - - - - - - - - 15",
+        "logout 12 - - - - - - - - - - 99999",
+        "logout 12 - - - - - - - - - - 123456",
+        "take 12 - 12 - - - - - - - - 12",
+        "unmake 12 - 13 - - - - - - - - 14",
+        "list 12 0 13 - - - - - - - - 14",
+        "user - 0 - - - - - 3 255 - 3 0",
+        // Without its name there is no mark.
+        "share 12 - - 48 - - - - - - - 1",
+        "share 12 - - 48 - - - - - - - -",
+        // As many values as names.
+        "logout 12 - - - - - - - - - -",
+        "user - 0 - - - - - 3 255 - 3",
+        "join 12 - 13 - - - - - - - 14",
+        "logout 12 - - - - - - - - - - - -",
+        "join 12 - 13 - - - - - - - - 14 -",
+        "join 12 - 13 - - - - - - - - - 14",
+    ] {
+        let readable = ("logout 12 - - - - - - - - - - -", 5);
+        check_below(NAMES_JUNIOR, &[(line, 17), readable]);
+    }
+    // Below the twelve names, and below `shared`, no line can give the junior.
+    for line in [
+        "join 12 - 13 - - - - - - - -",
+        "join 12 - 13 - - - - - - - 14",
+        "join 12 - 13 - - - - - - - - -",
+        "join 12 - 13 - - - - - - - - 14",
+        "unjoin 12 - 13 - - - - - - - -",
+        "unjoin 12 - 13 - - - - - - - - 14",
+    ] {
+        check(&[
+            (line, 17),
+            ("user - 0 - - - - - 3 255 - 3", 0),
+            ("logout 12 - - - - - - - - - -", 5),
+        ]);
+    }
+    for line in [
+        "join 12 - 13 - - - - - - - - -",
+        "join 12 - 13 - - - - - - - - 14",
+        "join 12 - 13 - - - - - - - - 1",
+        "join 12 - 13 - - - - - - - - - 14",
+        "unjoin 12 - 13 - - - - - - - - -",
+        "unjoin 12 - 13 - - - - - - - - 14",
+    ] {
+        check_below(
+            NAMES_SHARED,
+            &[
+                (line, 17),
+                ("user - 0 - - - - - 3 255 - 3 -", 0),
+                ("share 12 - - 48 - - - - - - - 1", 5),
+            ],
+        );
+    }
+    // Each of the two below its own name.
+    for line in [
+        "join 12 - 13 - - - - - - - - 14 -",
+        "join 12 - 13 - - - - - - - - 1 14",
+        "join 12 - 13 - - - - - - - - 14",
+        "share 12 - - 48 - - - - - - - - 1",
+        "share 12 - - 48 - - - - - - - 1 1",
+        "share 12 - - 48 - - - - - - - 1",
+        "logout 12 - - - - - - - - - - -",
+        "logout 12 - - - - - - - - - - 0 -",
+        "logout 12 - - - - - - - - - - - 0",
+        "logout 12 - - - - - - - - - - - - -",
+        "user - 0 - - - - - 3 255 - 3 - 0",
+        "user - 0 - - - - - 3 255 - 3 0 -",
+        "user - 0 - - - - - 3 255 - 3 -",
+    ] {
+        check_below(
+            NAMES_BOTH,
+            &[
+                (line, 17),
+                ("user - 0 - - - - - 3 255 - 3 - -", 0),
+                ("share 12 - - 48 - - - - - - - 1 -", 5),
+                ("join 12 - 13 - - - - - - - - - 14", 5),
+                ("logout 12 - - - - - - - - - - - -", 5),
+            ],
+        );
+    }
+}
+
+#[test]
+fn names_lines_with_junior() {
+    for good in [
+        NAMES_JUNIOR,
+        NAMES_BOTH,
+        "junior call seat user role entity parent kind name level cats rights ceiling",
+        "call junior seat user role entity parent kind name level cats rights ceiling",
+        "call seat user role entity parent kind name level cats rights ceiling junior shared",
+        "junior call seat user role entity parent kind name level cats rights ceiling shared",
+        "shared junior call seat user role entity parent kind name level cats rights ceiling",
+        "call seat user role shared entity parent kind name junior level cats rights ceiling",
+    ] {
+        assert_eq!(run(good.as_bytes()), "line answer\n");
+        assert_eq!(run(format!("{good}\n").as_bytes()), "line answer\n");
+        let more = format!("{good}\n{}\n", [NAMES; 2].join("\n"));
+        assert_eq!(run(more.as_bytes()), "line answer\n2 17\n3 17\n");
+    }
+    for bad in [
+        "junior",
+        "junior shared",
+        "call seat user role entity parent kind name level cats rights junior",
+        "call seat user role entity parent kind name level cats rights shared junior",
+        "junior seat user role entity parent kind name level cats rights ceiling shared",
+        "call seat user role entity parent kind name level cats rights ceiling junior junior",
+        "junior call seat user role entity parent kind name level cats rights ceiling junior",
+        "call seat user role entity parent kind name level cats rights ceiling junior shared junior",
+        "call seat user role entity parent kind name level cats rights ceiling shared junior shared",
+        "call seat user role entity parent kind name level cats rights ceiling shared shared junior",
+        "call seat user role entity parent kind name level cats rights ceiling ceiling shared junior",
+        "call seat user role role entity parent kind name level cats rights ceiling junior",
+        "call seat user role entity parent kind name level cats rights rights shared junior",
+        "call seat user role entity parent kind name level cats rights ceiling Junior",
+        "call seat user role entity parent kind name level cats rights ceiling juniors",
+        "call seat user role entity parent kind name level cats rights ceiling junio",
+        "call seat user role entity parent kind name level cats rights ceiling senior junior",
+        "call seat user senior entity parent kind name level cats rights ceiling junior",
+        "call seat user role entity parent kind name level cats rights ceiling join",
+        "call seat user role entity parent kind name level cats rights ceiling sharedjunior",
+        "call seat user role entity parent kind name level cats rights ceiling junior ",
+        "call seat user role entity parent kind name level cats rights ceiling shared  junior",
+        "call seat user role entity parent kind name level cats rights ceiling shared junior\r",
+        "call seat user role entity parent kind name level cats rights ceiling shared junior mark",
+    ] {
+        assert_eq!(run(bad.as_bytes()), BAD_START);
+        let more = format!("{bad}\nlogout 12 - - - - - - - - - - - -\n");
+        assert_eq!(run(more.as_bytes()), BAD_START);
+    }
+}
+
 #[test]
 fn names_lines() {
     assert_eq!(run(b""), BAD_START);
@@ -448,8 +680,11 @@ fn names_lines() {
 /// Runs the lines with the columns in many orders.
 fn check_in_any_order(names: &str, lines: &[&str], output: &str) {
     let count = names.split(' ').count();
-    // None has a divisor in common with 12 or 13.
+    // None has a divisor in common with 12 or 13, but one with 14.
     for stride in [1, 5, 7, 11] {
+        if stride > 1 && count.is_multiple_of(stride) {
+            continue;
+        }
         for start in 0..count {
             let turn = |line: &str| {
                 let values: Vec<&str> = line.split(' ').collect();
@@ -498,6 +733,44 @@ fn names_in_any_order() {
     ];
     let output = "line answer\n2 17\n3 0\n4 0\n5 17\n6 0\n7 0\n8 17\n9 16\n10 2\n11 13\n12 0\n";
     check_in_any_order(NAMES_SHARED, &lines, output);
+    let lines = [
+        "user - 0 - - - - - 3 255 - 3 1",
+        "user - 0 - - - - - 3 255 - 3 -",
+        "login 12 0 - - - - - 1 2 - - -",
+        "take 12 - 12 - - - - - - - - -",
+        "make 12 - 13 - - - - - - - - -",
+        "join 12 - 13 - - - - - - - - 12",
+        "join 12 - 12 - - - - - - - - 13",
+        "join 12 - 13 - - - - - - - - -",
+        "join 12 - 13 - - - - - - - - 16",
+        "unmake 12 - 13 - - - - - - - - 12",
+        "unmake 12 - 13 - - - - - - - - -",
+        "unjoin 12 - 13 - - - - - - - - 12",
+    ];
+    let output =
+        "line answer\n2 17\n3 0\n4 0\n5 0\n6 0\n7 0\n8 22\n9 17\n10 2\n11 17\n12 15\n13 0\n";
+    check_in_any_order(NAMES_JUNIOR, &lines, output);
+    let lines = [
+        "user - 0 - - - - - 3 255 - 3 - 12",
+        "user - 0 - - - - - 3 255 - 3 1 -",
+        "user - 0 - - - - - 3 255 - 3 - -",
+        "login 12 0 - - - - - 1 2 - - - -",
+        "take 12 - 12 - - - - - - - - - -",
+        "make 12 - 13 - - - - - - - - - -",
+        "join 12 - 13 - - - - - - - - - 12",
+        "join 12 - 13 - - - - - - - - 12 -",
+        "join 12 - 13 - - - - - - - - 1 12",
+        "share 12 - - 48 - - - - - - - 1 -",
+        "share 12 - - 48 - - - - - - - - 1",
+        "share 12 - - 48 - - - - - - - 1 12",
+        "share 12 - - 48 - - - - - - - 1 -",
+        "unjoin 12 - 13 - - - - - - - - - 12",
+        "unjoin 12 - 13 - - - - - - - - - 12",
+    ];
+    let output =
+        "line answer\n2 17\n3 17\n4 0\n5 0\n6 0\n7 0\n8 0\n9 17\n10 17\n11 0\n12 17\n13 17\n\
+                  14 16\n15 0\n16 16\n";
+    check_in_any_order(NAMES_BOTH, &lines, output);
 }
 
 #[test]
@@ -601,6 +874,42 @@ openw 12 - - 16 - - - - - - -
         &["--test-each", "--edition", "2", "--roles"],
     ] {
         assert_eq!(run_with(words, input.as_bytes()), reading_down);
+    }
+}
+
+/// "The role of A.6 is the held one" (document 02, A.8).
+#[test]
+fn roles_with_ties() {
+    let lines = "\
+join 12 - 13 - - - - - - - - 14
+join 12 - 14 - - - - - - - - 12
+openr 13 - - 48 - - - - - - - -
+list 12 0 14 - - - - - - - - -
+take 13 - 14 - - - - - - - - -
+openw 13 - - 48 - - - - - - - -
+unjoin 12 - 13 - - - - - - - - 14
+close 13 - - 48 - - - - - - - -
+openr 13 - - 48 - - - - - - - -
+join 12 - 12 - - - - - - - - 14
+take 13 - 12 - - - - - - - - -
+openw 13 - - 48 - - - - - - - -
+";
+    let mut input = format!("{NAMES_JUNIOR}\n");
+    for (line, _) in FOUR_ROLES {
+        input += &format!("{line}\n");
+    }
+    input += lines;
+    let plain =
+        "line answer\n2 0\n3 0\n4 0\n5 0\n6 0\n7 0\n8 0\n9 0\n10 0\n11 0\n12 0\n13 0\n14 0\n\
+                 15 0\n16 0\n17 0\n18 0\n19 0\n20 22\n21 0\n22 0\n";
+    assert_eq!(run(input.as_bytes()), plain);
+    let told = plain
+        .replace("\n13 0\n", "\n13 0 13\n")
+        .replace("\n16 0\n", "\n16 0 13\n")
+        .replace("\n19 0\n", "\n19 0 14\n")
+        .replace("\n22 0\n", "\n22 0 12\n");
+    for words in [&["--roles"][..], &["--test-each", "--roles"]] {
+        assert_eq!(run_with(words, input.as_bytes()), told);
     }
 }
 

@@ -2,8 +2,9 @@
 --     has-meet, has-join, has-minus                             the members of an operation's result
 --     has-none, has-one                                         the members of 0 and of a power of two
 --     sets-ext                                                  sets with the same members are one number
---     has-with-same, has-with-other                             s and one member
+--     has-with-same, has-with-other, has-with-old, has-with     s and one member
 --     has-without-same, has-without-other, has-without          s less one member
+--     has-either, has-minus-e                                   a member of s and what is left of s without another set
 --     has-past, has-below                                       a set of w bits has members below w
 --     join-lt, with-lt, minus-add-meet, minus-le, without-le    sizes
 --     join-none, minus-all, minus-zero-l, without-none          against 0
@@ -13,7 +14,8 @@
 use Prim.Native.Nat.{ℕ, zero, suc, _+_, _/_, _%_, _^_, _≤_, _<_}
 use mathlib.Core.Bool.{Bool, true, false, not, _&&_, _||_, cond, and-true, and-false, or-true, or-false, and-not-self, and-self-left, and-eq-true-iff}
 use mathlib.Core.Path.{_≡_, refl, sym, ap, _∙_}
-use native.Mathlib.Decide.{decLt}
+use mathlib.Core.Logic.{_⊎_, inl, inr, ⊎-elim}
+use native.Mathlib.Decide.{decLt, ℕ-discrete}
 use native.Mathlib.Nat.{zero-div, div-one, div-eq-of-lt, lt-of-lt-of-le, mul-mod-left, pow-suc}
 use native.Mathlib.Numerals.{one-add}
 use native.Mathlib.Omega.{arith}
@@ -24,7 +26,7 @@ use lib.Pow.{pow-lt, pow-mono, shr-shr}
 use borrow.Author.Tests.{eqb-true, eq-eqb, ne-eqb}
 use Rattle.bitset.specs.Sets.{has, join, minus, contains, with, without}
 use Rattle.bitset.specs.Tests.{all, implies}
-use Rattle.bitset.specs.Tests.Laws.{both, clash, all-i, all-e, implies-i, implies-e}
+use Rattle.bitset.specs.Tests.Laws.{decide, both, clash, all-i, all-e, implies-i, implies-e}
 
 -- ---- the members of an operation's result
 
@@ -117,15 +119,25 @@ sets-ext a b f = go (a + b) a b (omega arith) (omega arith) f
 
 -- ---- s with a member, and without one
 
-has-with : (s i j : ℕ) → has (with s i) j ≡ (has s j || eqb j i)
+has-with-as : (s i j : ℕ) → has (with s i) j ≡ (has s j || eqb j i)
 unfolding with
-has-with s i j = rw (has-join, has-one)
+has-with-as s i j = rw (has-join, has-one)
 
 pub has-with-same : (s i : ℕ) → has (with s i) i ≡ true
-has-with-same s i = rw (has-with, eq-eqb i i refl) (or-true (has s i))
+has-with-same s i = rw (has-with-as, eq-eqb i i refl) (or-true (has s i))
 
 pub has-with-other : (s i j : ℕ) → (j ≡ i → ⊥) → has (with s i) j ≡ has s j
-has-with-other s i j h = rw (has-with, ne-eqb j i h) (or-false (has s j))
+has-with-other s i j h = rw (has-with-as, ne-eqb j i h) (or-false (has s j))
+
+pub has-with-old : (s i j : ℕ) → has s j ≡ true → has (with s i) j ≡ true
+has-with-old s i j h = rw (has-with-as, h)
+
+pub has-with : (s i j : ℕ) → has (with s i) j ≡ true → (j ≡ i) ⊎ (has s j ≡ true)
+has-with s i j h = go (ℕ-discrete j i)
+  where
+    go : Dec (j ≡ i) → (j ≡ i) ⊎ (has s j ≡ true)
+    go (yes is) = inl is
+    go (no ne) = inr (sym (has-with-other s i j ne) ∙ h)
 
 has-without-as : (s i j : ℕ) → has (without s i) j ≡ (has s j && not (eqb j i))
 unfolding without
@@ -142,6 +154,21 @@ has-without s i j h = (sym (has-without-other s i j other) ∙ h, other)
   where
     other : j ≡ i → ⊥
     other e = clash (has (without s i) i) (rw e at h) (has-without-same s i)
+
+-- ---- a member of s is one of m, or of what is left of s without m
+pub has-either : (s m j : ℕ) → has s j ≡ true → (has m j ≡ true) ⊎ (has (minus s m) j ≡ true)
+has-either s m j h = ⊎-elim inl (λ out. inr (stays out)) (decide (has m j))
+  where
+    stays : has m j ≡ false → has (minus s m) j ≡ true
+    stays out = has-minus s m j ∙ rw (h, out)
+
+pub has-minus-e : (s m j : ℕ) → has (minus s m) j ≡ true → (has s j ≡ true) × (has m j ≡ false)
+has-minus-e s m j h = go (has s j) refl (has m j) refl (sym (has-minus s m j) ∙ h)
+  where
+    go : (a : Bool) → has s j ≡ a → (b : Bool) → has m j ≡ b → (a && not b) ≡ true → (has s j ≡ true) × (has m j ≡ false)
+    go true a false b h = (a, b)
+    go true a true b h = absurd (clash false h refl)
+    go false a b c h = absurd (clash false h refl)
 
 -- ---- sizes
 

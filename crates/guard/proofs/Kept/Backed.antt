@@ -2,7 +2,7 @@
 -- are not backed any more; and where an entity goes, its opens go too.
 --     KeepsBacked                           a rule after which each open is backed
 --     session-backed, more-backed           one session replaced; roles replaced that give no less
---     backs-login .. backs-share            the rules
+--     backs-login .. backs-unjoin           the rules
 -- Assumes nothing.
 use Prim.Native.Nat.{ℕ, _<_}
 use mathlib.Core.Path.{_≡_, refl, sym, _∙_}
@@ -12,20 +12,21 @@ use native.Mathlib.Decide.{ℕ-discrete}
 use lib.ListN.{length, set}
 use Rattle.bitset.specs.Tests.Laws.{clash, of-not-false, either-no-l, or-l}
 use Rattle.bitset.specs.Sets.{has, contains, join, with}
-use Rattle.bitset.specs.Sets.Laws.{has-none, has-join, has-with-same, has-with-other, has-without, contains-has, has-contains}
+use Rattle.bitset.specs.Sets.Laws.{has-none, has-join, has-with-other, has-with-old, has-without, contains-has, has-contains}
 use Rattle.guard.specs.Tables.{noSession, noRole, sessionAt, roleAt, read, write, rightsOf, hasRight}
-use Rattle.guard.specs.Edits.{atSession, atRole, atEntity, eachSession, eachRole, takeRole, openReading, openWriting, closeBoth, putIn, setRights, addRights, clearRights, listUser, unlistUser}
+use Rattle.guard.specs.Edits.{atSession, atRole, atEntity, eachSession, eachRole, takeRole, openReading, openWriting, closeBoth, putIn, setRights, addRights, clearRights, listUser, unlistUser, tieJunior}
 use Rattle.guard.specs.Conditions.{cannotOpen}
-use Rattle.guard.specs.Requests.{Rule, loggedIn, login, logout, take, drop, openr, openw, close, create, delete, rename, grant, revoke, list, unlist, make, unmake, share}
+use Rattle.guard.specs.Requests.{Rule, loggedIn, login, logout, take, drop, openr, openw, close, create, delete, rename, grant, revoke, list, unlist, make, unmake, share, join as joining, unjoin}
 use Rattle.guard.specs.declared.Session.{Session}
 use Rattle.guard.specs.declared.Role.{Role}
 use Rattle.guard.specs.declared.Tables.{Tables}
 use Rattle.guard.specs.declared.Request.{Request}
 use Rattle.guard.proofs.Laws.Refusals.{unmet}
 use Rattle.guard.proofs.Laws.Rights.{contains-read, contains-write, has-put-same, has-put-other, rights-other}
-use Rattle.guard.proofs.Laws.Told.{right-some}
+use Rattle.guard.proofs.Laws.Juniors.{has-more}
+use Rattle.guard.proofs.Laws.Told.{right-by}
 use Rattle.guard.proofs.Laws.Step.{DoneIn}
-use Rattle.guard.proofs.Laws.Sound.{roleIn, rightBy, BackedBy, Backed, Formed, formed-e, backed-e}
+use Rattle.guard.proofs.Laws.Sound.{roleIn, juniorIn, givesIn, hasIn, rightBy, BackedBy, Backed, Formed, formed-e, backed-e}
 use Rattle.guard.proofs.Laws.Backed.{right-more, ended-backed}
 use Rattle.guard.proofs.Kept.EachStays.{set-each, map-each}
 
@@ -56,13 +57,6 @@ unfolding logout
 backs-logout t q d = session-backed t (q .seat) _ (formed-e t (d .isSound)) (backed-e _ t (d .isSound)) (λ l old. nothing-backed _ _ refl refl)
 
 -- with a role more
-taken-held : (held p r : ℕ) → has held r ≡ true → has (with held p) r ≡ true
-taken-held held p r h = go (ℕ-discrete r p)
-  where
-    go : Dec (r ≡ p) → has (with held p) r ≡ true
-    go (yes e) = rw e (has-with-same held p)
-    go (no ne) = has-with-other held p r ne ∙ h
-
 pub backs-take : {width : ℕ} → KeepsBacked width take
 unfolding take takeRole
 backs-take t q d =
@@ -70,7 +64,7 @@ backs-take t q d =
     record { reading = λ e k m. more (sessionAt t (q .seat) .roles) read e (old .reading e k m); writing = λ e k m. more (sessionAt t (q .seat) .roles) write e (old .writing e k m) })
   where
     more : (held right e : ℕ) → rightBy (t .roles) held right e ≡ true → rightBy (t .roles) (with held (q .role)) right e ≡ true
-    more held right e = right-more (t .roles) (t .roles) held (with held (q .role)) right e (λ r k on gives. (taken-held held (q .role) r on, gives))
+    more held right e = right-more (t .roles) (t .roles) held (with held (q .role)) right e (λ r k on gives. (has-with-old held (q .role) r on, gives))
 
 pub backs-drop : {width : ℕ} → KeepsBacked width drop
 unfolding drop
@@ -82,7 +76,7 @@ opened-backed : (t : Tables) (x right set e : ℕ) → ((i : ℕ) → i < 64 →
 opened-backed t x right set e old new i l m = go (ℕ-discrete i e)
   where
     go : Dec (i ≡ e) → rightBy (t .roles) (sessionAt t x .roles) right i ≡ true
-    go (yes same) = rw same (sym (right-some t x right e) ∙ new)
+    go (yes same) = rw same (sym (right-by t x right e) ∙ new)
     go (no ne) = old i l (sym (has-with-other set e i ne) ∙ m)
 
 pub backs-openr : {width : ℕ} → KeepsBacked width openr
@@ -109,8 +103,13 @@ backs-close t q d =
     })
 
 -- ---- a role that gives no less
-abbrev NoLess : Role → Role → Type 0
-NoLess old new = (e : ℕ) → (has (old .reads) e ≡ true → has (new .reads) e ≡ true) × (has (old .writes) e ≡ true → has (new .writes) e ≡ true)
+record NoLess (old new : Role) : Type 0 where
+  juniors : (j : ℕ) → has (old .juniors) j ≡ true → has (new .juniors) j ≡ true
+  reads : (e : ℕ) → has (old .reads) e ≡ true → has (new .reads) e ≡ true
+  writes : (e : ℕ) → has (old .writes) e ≡ true → has (new .writes) e ≡ true
+
+no-less : (p : Role) → NoLess p p
+no-less p = record { juniors = λ j m. m; reads = λ e m. m; writes = λ e m. m }
 
 more-backed : (t : Tables) (r : ℕ) (f : Role → Role) → length (t .roles) ≡ 16 → Backed t → (r < 16 → NoLess (roleAt t r) (f (roleAt t r)))
     → Backed (atRole r f t)
@@ -120,17 +119,22 @@ more-backed t r f long backs more s l =
     record {
       reading = λ e k m.
           right-more (t .roles) new held held read e
-          (λ p b on gives. (on, contains-read (roleIn new p) e ∙ each p b e .0 (sym (contains-read (roleAt t p) e) ∙ gives))) (backs s l .reading e k m);
+          (λ p b on gives. (on, has-more (t .roles) new read e ties (λ r c g. contains-read (roleIn new r) e ∙ each r c .reads e (sym (contains-read (roleAt t r) e) ∙ g)) p b gives))
+          (backs s l .reading e k m);
       writing = λ e k m.
           right-more (t .roles) new held held write e
-          (λ p b on gives. (on, contains-write (roleIn new p) e ∙ each p b e .1 (sym (contains-write (roleAt t p) e) ∙ gives))) (backs s l .writing e k m);
+          (λ p b on gives. (on, has-more (t .roles) new write e ties (λ r c g. contains-write (roleIn new r) e ∙ each r c .writes e (sym (contains-write (roleAt t r) e) ∙ g)) p b gives))
+          (backs s l .writing e k m);
     }
   where
     new : List Role
     new = set (t .roles) r (f (roleAt t r))
 
     each : (p : ℕ) → p < 16 → NoLess (roleAt t p) (roleIn new p)
-    each = set-each (λ p a. NoLess (roleAt t p) a) 16 (t .roles) noRole long r _ (λ p k ne e. (λ m. m, λ m. m)) more
+    each = set-each (λ p a. NoLess (roleAt t p) a) 16 (t .roles) noRole long r _ (λ p k ne. no-less _) more
+
+    ties : (r j : ℕ) → r < 16 → j < 16 → juniorIn (t .roles) r j ≡ true → juniorIn new r j ≡ true
+    ties r j l k = each r l .juniors j
 
 -- rights joined to those that it has
 join-keeps : (a b m : ℕ) → contains a m ≡ true → contains (join a b) m ≡ true
@@ -146,7 +150,7 @@ added e n m s p same i h = go (ℕ-discrete i e)
 
 no-less-added : (e n : ℕ) (p : Role) → NoLess p (addRights e n p)
 unfolding addRights setRights
-no-less-added e n p i = (added e n 1 _ p (contains-read p e) i, added e n 2 _ p (contains-write p e) i)
+no-less-added e n p = record { juniors = λ j m. m; reads = added e n 1 _ p (contains-read p e); writes = added e n 2 _ p (contains-write p e) }
 
 pub backs-create : {width : ℕ} → KeepsBacked width create
 unfolding create atEntity
@@ -163,11 +167,11 @@ backs-revoke t q d = ended-backed _
 
 pub backs-list : {width : ℕ} → KeepsBacked width list
 unfolding list listUser
-backs-list t q d = more-backed t (q .role) _ (formed-e t (d .isSound) .manyRoles) (backed-e _ t (d .isSound)) (λ l e. (λ m. m, λ m. m))
+backs-list t q d = more-backed t (q .role) _ (formed-e t (d .isSound) .manyRoles) (backed-e _ t (d .isSound)) (λ l. record { juniors = λ j m. m; reads = λ e m. m; writes = λ e m. m })
 
 pub backs-unlist : {width : ℕ} → KeepsBacked width unlist
 unfolding unlist unlistUser
-backs-unlist t q d = more-backed t (q .role) _ (formed-e t (d .isSound) .manyRoles) (backed-e _ t (d .isSound)) (λ l e. (λ m. m, λ m. m))
+backs-unlist t q d = more-backed t (q .role) _ (formed-e t (d .isSound) .manyRoles) (backed-e _ t (d .isSound)) (λ l. record { juniors = λ j m. m; reads = λ e m. m; writes = λ e m. m })
 
 -- a role that was dead gave nothing
 pub backs-make : {width : ℕ} → KeepsBacked width make
@@ -175,13 +179,28 @@ unfolding make
 backs-make t q d =
     let ok = formed-e t (d .isSound) in
     let dead = unmet _ refl (d .none) 8 in
-    more-backed t (q .role) _ (ok .manyRoles) (backed-e _ t (d .isSound)) (λ l e.
+    more-backed t (q .role) _ (ok .manyRoles) (backed-e _ t (d .isSound)) (λ l.
     let old = ok .role (q .role) l in
-    (λ m. absurd (clash _ (rw (old .reads .none dead) at m) (has-none e)), λ m. absurd (clash _ (rw (old .writes .none dead) at m) (has-none e))))
+    record {
+      juniors = λ j m. absurd (clash _ (rw (old .juniors .none dead) at m) (has-none j));
+      reads = λ e m. absurd (clash _ (rw (old .reads .none dead) at m) (has-none e));
+      writes = λ e m. absurd (clash _ (rw (old .writes .none dead) at m) (has-none e));
+    })
 
 pub backs-unmake : {width : ℕ} → KeepsBacked width unmake
 unfolding unmake
 backs-unmake t q d = ended-backed _
+
+-- ---- a tie comes, or goes
+pub backs-join : {width : ℕ} → KeepsBacked width joining
+unfolding joining tieJunior
+backs-join t q d =
+    more-backed t (q .role) _ (formed-e t (d .isSound) .manyRoles) (backed-e _ t (d .isSound)) (λ l.
+    record { juniors = has-with-old (roleAt t (q .role) .juniors) (q .junior); reads = λ e m. m; writes = λ e m. m })
+
+pub backs-unjoin : {width : ℕ} → KeepsBacked width unjoin
+unfolding unjoin
+backs-unjoin t q d = ended-backed _
 
 -- ---- an entity goes, with the opens of it and the rights on it; what is open beside it keeps its rights
 pub backs-delete : {width : ℕ} → KeepsBacked width delete
@@ -199,12 +218,18 @@ backs-delete t q d =
     cleared : List Role
     cleared = map (clearRights (q .entity)) (t .roles)
 
-    still : (held e : ℕ) → (e ≡ q .entity → ⊥) → (right p : ℕ) → p < 16 → has held p ≡ true → contains (rightsOf (roleAt t p) e) right ≡ true
-        → (has held p ≡ true) × (contains (rightsOf (roleIn cleared p) e) right ≡ true)
+    same-ties : (r j : ℕ) → r < 16 → j < 16 → juniorIn (t .roles) r j ≡ true → juniorIn cleared r j ≡ true
+    same-ties r j l k =
+        map-each (λ r a. juniorIn (t .roles) r j ≡ true → has (a .juniors) j ≡ true) (clearRights (q .entity)) 16 (t .roles) noRole
+        (formed-e t (d .isSound) .manyRoles) (λ r b h. h) r l
+
+    still : (held e : ℕ) → (e ≡ q .entity → ⊥) → (right p : ℕ) → p < 16 → has held p ≡ true → hasIn (t .roles) right e p ≡ true
+        → (has held p ≡ true) × (hasIn cleared right e p ≡ true)
     still held e ne right p l on gives = (
       on,
-      map-each (λ r a. contains (rightsOf (roleAt t r) e) right ≡ true → contains (rightsOf a e) right ≡ true) (clearRights (q .entity)) 16 (t .roles) noRole
-          (formed-e t (d .isSound) .manyRoles) (λ r k h. rw (rights-other (q .entity) 0 (roleAt t r) e ne) h) p l gives,
+      has-more (t .roles) cleared right e same-ties
+          (map-each (λ r a. givesIn (t .roles) right e r ≡ true → contains (rightsOf a e) right ≡ true) (clearRights (q .entity)) 16 (t .roles) noRole
+          (formed-e t (d .isSound) .manyRoles) (λ r k h. rw (rights-other (q .entity) 0 (roleAt t r) e ne) h)) p l gives,
     )
 
 -- ---- an entity changes

@@ -28,7 +28,7 @@ use Rattle.guard.proofs.Laws.Refusals.{unmet}
 use Rattle.guard.proofs.Laws.Chain.{ancestor, ancestor-same, Ends, ends-somewhere, ends-within}
 use Rattle.guard.proofs.Laws.Sound.{entityIn, parentIn, grantable, fitsIn, OwnName, Formed, formed-e}
 use Rattle.guard.proofs.Kept.Sessions.{Keeps, not-below}
-use Rattle.guard.proofs.Kept.Roles.{granted-ok, role-kept}
+use Rattle.guard.proofs.Kept.Roles.{granted-ok, role-kept, ties-kept}
 use Rattle.guard.proofs.Kept.Entities.{Kin, parent-kin, kin, others-stay, dead-unused, entity-kept}
 use Rattle.guard.proofs.Kept.Rename.{free-name}
 
@@ -108,3 +108,4 @@ keeps-create t q d =
     let at = at-new t (formed-e t (d .isSound)) (q .entity) (created q) l (no 8) in
     role-kept _ (atEntity (q .entity) (λ old. created q) t) (q .role) _ made (λ s k m live. live) (λ k old.
     granted-ok _ _ _ old (q .entity) _ (of-not-false _ (either-no-r _ _ (no 7))) l (ap (λ (a : Entity). grantable (q .role) (q .entity) a) at ∙ can))
+    (ties-kept (atEntity (q .entity) (λ old. created q) t) (q .role) _ made refl (λ live. live))

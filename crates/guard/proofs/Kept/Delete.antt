@@ -76,7 +76,7 @@ module _ (width : ℕ) (t : Tables) (e : ℕ) (ok : Formed width t) (l : e < 64)
   cleared-formed =
       each-role-kept _ (eachSession (closeBoth e) t) (clearRights e)
       (each-session-kept t (closeBoth e) ok (λ s r old. closed-ok _ _ _ _ old e))
-      (λ p. refl) (λ r p ok. fewer-ok _ _ _ ok e 0 (contains-zero _))
+      (λ p. refl) (λ p. refl) (λ r p ok. fewer-ok _ _ _ ok e 0 (contains-zero _))
 
   cleared-unused : Unused cleared e
   unfolding eachRole eachSession closeBoth

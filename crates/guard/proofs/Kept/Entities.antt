@@ -180,6 +180,7 @@ entity-kept {width} t e n ok way stay new =
       manyRoles = ok .manyRoles;
       manyEntities = length-set (t .entities) e n ∙ ok .manyEntities;
       session = session;
+      ties = ok .ties;
       role = role;
       entity = entities-kept t ok e n stay new;
     }
@@ -212,6 +213,7 @@ entity-kept {width} t e n ok way stay new =
         record {
           keeper = old .keeper;
           users = old .users;
+          juniors = old .juniors;
           reads = seen-ok 64 _ (grantable r) _ (t .entities) noEntity e n (ok .manyEntities) (old .reads)
               (kept (grantable r e) _ (λ unused. rights-zero _ e (none unused) .0) way);
           writes = seen-ok 64 _ (grantable r) _ (t .entities) noEntity e n (ok .manyEntities) (old .writes)

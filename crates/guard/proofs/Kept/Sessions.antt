@@ -77,6 +77,7 @@ sessions-kept t sessions ok many new =
       manyEntities = ok .manyEntities;
       session = new;
       role = ok .role;
+      ties = ok .ties;
       entity = ok .entity;
     }
 

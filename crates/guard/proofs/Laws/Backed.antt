@@ -14,22 +14,21 @@ use lib.Seq.{getD-set-same, getD-set-other}
 use native.Mathlib.Decide.{ℕ-discrete}
 use native.Mathlib.Omega.{arith}
 use Rattle.bitset.specs.Tests.Laws.{every-i, every-at, some-i, some-e}
-use Rattle.bitset.specs.Sets.{has, contains, keeping}
+use Rattle.bitset.specs.Sets.{has, keeping}
 use Rattle.bitset.specs.Sets.Keeping.{has-keeping, keeping-all}
-use Rattle.guard.specs.Tables.{noSession, sessionAt, read, write, rightsOf, hasRight}
+use Rattle.guard.specs.Tables.{noSession, sessionAt, read, write, hasRight}
 use Rattle.guard.specs.Edits.{withSessions, atSession}
 use Rattle.guard.specs.Backed.{backed, endUnbacked}
 use Rattle.guard.specs.declared.Session.{Session}
 use Rattle.guard.specs.declared.Role.{Role}
 use Rattle.guard.specs.declared.Tables.{Tables}
-use Rattle.guard.proofs.Laws.Told.{right-some}
-use Rattle.guard.proofs.Laws.Sound.{roleIn, rightBy, BackedBy, Backed}
+use Rattle.guard.proofs.Laws.Told.{right-by}
+use Rattle.guard.proofs.Laws.Sound.{hasIn, rightBy, BackedBy, Backed}
 use Rattle.guard.proofs.Filling.{getD-tabulate, tabulate-is}
 
 -- every role that gave the right is held still, or again, and gives it
 pub right-more : (old new : List Role) (held held′ right e : ℕ)
-    → ((r : ℕ) → r < 16 → has held r ≡ true → contains (rightsOf (roleIn old r) e) right ≡ true
-    → (has held′ r ≡ true) × (contains (rightsOf (roleIn new r) e) right ≡ true))
+    → ((r : ℕ) → r < 16 → has held r ≡ true → hasIn old right e r ≡ true → (has held′ r ≡ true) × (hasIn new right e r ≡ true))
     → rightBy old held right e ≡ true → rightBy new held′ right e ≡ true
 right-more old new held held′ right e gives h =
     let (r, l, met) = some-e 16 _ h in
@@ -45,8 +44,8 @@ unfolding endUnbacked backed
 ended-backed t s l =
     rw (getD-tabulate (backed t) 16 s noSession l)
     (record {
-      reading = λ e k m. sym (right-some t s read e) ∙ kept (hasRight t s read) (sessionAt t s .reading) e k m;
-      writing = λ e k m. sym (right-some t s write e) ∙ kept (hasRight t s write) (sessionAt t s .writing) e k m;
+      reading = λ e k m. sym (right-by t s read e) ∙ kept (hasRight t s read) (sessionAt t s .reading) e k m;
+      writing = λ e k m. sym (right-by t s write e) ∙ kept (hasRight t s write) (sessionAt t s .writing) e k m;
     })
 
 -- a session that has the right on each of its opens keeps them all
@@ -54,8 +53,8 @@ pub stays : (t : Tables) (x : ℕ) → BackedBy (t .roles) (sessionAt t x) → b
 unfolding backed
 stays t x ok =
     rw (
-      keeping-all (hasRight t x read) (sessionAt t x .reading) 64 (λ e l m. right-some t x read e ∙ ok .reading e l m),
-      keeping-all (hasRight t x write) (sessionAt t x .writing) 64 (λ e l m. right-some t x write e ∙ ok .writing e l m),
+      keeping-all (hasRight t x read) (sessionAt t x .reading) 64 (λ e l m. right-by t x read e ∙ ok .reading e l m),
+      keeping-all (hasRight t x write) (sessionAt t x .writing) 64 (λ e l m. right-by t x write e ∙ ok .writing e l m),
     )
 
 -- the sessions after the end, by what is left of each
@@ -77,9 +76,9 @@ module _ (t : Tables) (x : ℕ) (f : Session → Session) where
   pub others-right : (y right e : ℕ) → (y ≡ x → ⊥) → hasRight (atSession x f t) y right e ≡ hasRight t y right e
   unfolding atSession
   others-right y right e ne =
-      right-some (atSession x f t) y right e
+      right-by (atSession x f t) y right e
       ∙ ap (λ (s : Session). rightBy (t .roles) (s .roles) right e) (other-same y ne)
-      ∙ sym (right-some t y right e)
+      ∙ sym (right-by t y right e)
 
   -- what each other session is after the end, it was
   other-stays : Backed t → (y : ℕ) → y < 16 → (y ≡ x → ⊥) → backed (atSession x f t) y ≡ sessionAt t y

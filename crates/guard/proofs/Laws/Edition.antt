@@ -15,13 +15,13 @@ use lib.ListN.{getD}
 use borrow.Author.Tests.{eqb-false}
 use Rattle.bitset.specs.Tests.{every}
 use Rattle.bitset.specs.Tests.Laws.{clash, every-i, every-at, implies-i}
-use Rattle.guard.specs.Tables.{edition1, edition2, roleFor, hasRight, isChild}
+use Rattle.guard.specs.Tables.{edition1, edition2, roleHas, roleFor, hasRight, isChild}
 use Rattle.guard.specs.Chain.{reaches}
 use Rattle.guard.specs.Sound.{sound, editionInRange}
 use Rattle.guard.specs.Edits.{atSession, atRole, atEntity, eachSession, eachRole}
 use Rattle.guard.specs.Backed.{backed, endUnbacked}
-use Rattle.guard.specs.Conditions.{entityBelowSeat, userTooLow, createOutOfLevel, grantBelow, cannotOpen, cannotChangeIn, cannotChange, notOpen, nameTaken, hasChildren}
-use Rattle.guard.specs.Requests.{Rule, login, logout, take, drop, openr, openw, close, create, delete, rename, grant, revoke, list, unlist, make, unmake, share, unknown, rules, ruleOf}
+use Rattle.guard.specs.Conditions.{entityBelowSeat, userTooLow, createOutOfLevel, grantBelow, tieOutOfLevel, closesCycle, roleTied, cannotOpen, cannotChangeIn, cannotChange, notOpen, nameTaken, hasChildren}
+use Rattle.guard.specs.Requests.{Rule, login, logout, take, drop, openr, openw, close, create, delete, rename, grant, revoke, list, unlist, make, unmake, share, join, unjoin, unknown, rules, ruleOf}
 use Rattle.guard.specs.Kind as kind
 use Rattle.guard.specs.Step.{answer, answerIn, next, nextIn, roleOpening, roleTold, roleToldIn, run, runIn}
 use Rattle.guard.specs.declared.Tables.{Tables}
@@ -40,8 +40,8 @@ abbrev Does : Rule → Type 0
 Does rule = (edition : ℕ) (q : Request) (t : Tables) → rule .effect q (withEdition edition t) ≡ withEdition edition (rule .effect q t)
 
 each-does : Each Does rules
-unfolding rules login logout take drop openr openw close create delete rename grant revoke list unlist make unmake share atSession atRole atEntity eachSession eachRole endUnbacked backed hasRight roleFor
-each-does = (λ n q t. refl, (λ n q t. refl, (λ n q t. refl, (λ n q t. refl, (λ n q t. refl, (λ n q t. refl, (λ n q t. refl, (λ n q t. refl, (λ n q t. refl, (λ n q t. refl, (λ n q t. refl, (λ n q t. refl, (λ n q t. refl, (λ n q t. refl, (λ n q t. refl, (λ n q t. refl, (λ n q t. refl, tt)))))))))))))))))
+unfolding rules login logout take drop openr openw close create delete rename grant revoke list unlist make unmake share join unjoin atSession atRole atEntity eachSession eachRole endUnbacked backed hasRight roleFor roleHas
+each-does = (λ n q t. refl, (λ n q t. refl, (λ n q t. refl, (λ n q t. refl, (λ n q t. refl, (λ n q t. refl, (λ n q t. refl, (λ n q t. refl, (λ n q t. refl, (λ n q t. refl, (λ n q t. refl, (λ n q t. refl, (λ n q t. refl, (λ n q t. refl, (λ n q t. refl, (λ n q t. refl, (λ n q t. refl, (λ n q t. refl, (λ n q t. refl, tt)))))))))))))))))))
 
 unknown-does : Does unknown
 unfolding unknown
@@ -90,6 +90,7 @@ sound-in-2 t h =
             writing = old .writing;
           };
       role = ok .role;
+      ties = ok .ties;
       entity = ok .entity;
     })
     (backed-e _ _ h)
@@ -100,8 +101,8 @@ module _ (t : Tables) (q : Request) where
   Alike n rule = (n ≡ kind.openr → entityBelowSeat t q ≡ false) → rule .refusals (withEdition edition1 t) q ≡ rule .refusals (withEdition edition2 t) q
 
   each-alike : EachAt Alike rules
-  unfolding rules login logout take drop openr openw close create delete rename grant revoke list unlist make unmake share userTooLow createOutOfLevel grantBelow cannotOpen cannotChangeIn cannotChange notOpen nameTaken hasChildren roleFor hasRight isChild reaches every
-  each-alike = (λ h. refl, (λ h. refl, (λ h. refl, (λ h. refl, (λ h. rw (h refl), (λ h. refl, (λ h. refl, (λ h. refl, (λ h. refl, (λ h. refl, (λ h. refl, (λ h. refl, (λ h. refl, (λ h. refl, (λ h. refl, (λ h. refl, (λ h. refl, tt)))))))))))))))))
+  unfolding rules login logout take drop openr openw close create delete rename grant revoke list unlist make unmake share join unjoin userTooLow createOutOfLevel grantBelow tieOutOfLevel closesCycle roleTied cannotOpen cannotChangeIn cannotChange notOpen nameTaken hasChildren roleHas roleFor hasRight isChild reaches every
+  each-alike = (λ h. refl, (λ h. refl, (λ h. refl, (λ h. refl, (λ h. rw (h refl), (λ h. refl, (λ h. refl, (λ h. refl, (λ h. refl, (λ h. refl, (λ h. refl, (λ h. refl, (λ h. refl, (λ h. refl, (λ h. refl, (λ h. refl, (λ h. refl, (λ h. refl, (λ h. refl, tt)))))))))))))))))))
 
   unknown-alike : (n : ℕ) → Alike n unknown
   unfolding unknown
@@ -116,7 +117,7 @@ module _ (t : Tables) (q : Request) where
       → (answer (withEdition edition1 t) q ≡ answer (withEdition edition2 t) q)
       × (roleTold (withEdition edition1 t) q ≡ roleTold (withEdition edition2 t) q)
       × (next (withEdition edition1 t) q ≡ withEdition edition1 (next (withEdition edition2 t) q))
-  unfolding nextIn roleToldIn roleOpening roleFor
+  unfolding nextIn roleToldIn roleOpening roleFor roleHas
   editions-agree h above =
       (answers-agree h above, rw (answers-agree h above), rw (answers-agree h above) (go (eqb (answer (withEdition edition2 t) q) 0)))
     where

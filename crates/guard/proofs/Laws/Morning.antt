@@ -30,7 +30,7 @@ pub record Row : Type 0 where
 -- All labels asked for are 0/0.
 abbrev pub row : ℕ → ℕ → ℕ → ℕ → ℕ → ℕ → ℕ → ℕ → ℕ → Row
 row call seat user role entity parent kind name expected =
-    record { request = request call seat user role entity parent kind name 0 0 0 0; expected = expected }
+    record { request = request call seat user role entity parent kind name 0 0 0 0 0; expected = expected }
 
 -- K1 to K14 run in order from fresh tables. The columns: call, seat, user, role, entity, parent, kind, name; the answer.
 unfoldable pub morning : List Row

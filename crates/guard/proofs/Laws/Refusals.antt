@@ -7,10 +7,10 @@
 --     first-none      the answer is 0 exactly when no condition is met
 --     Leads, first-leads          .. and n exactly when n's condition is met and none before it
 --     first-met       an answer other than 0 is a number whose condition is met
---     risingFrom, first-lowest    of a list whose numbers rise, it is the lowest such number
+--     risingFrom, first-lowest    of a list whose numbers rise in an order, it is the first such number of the order
 -- Assumes nothing.
 use Prim.Native.Nat.{ℕ, _≤_, _<_}
-use mathlib.Core.Path.{_≡_, refl, sym, _∙_}
+use mathlib.Core.Path.{_≡_, refl, sym, ap, _∙_}
 use mathlib.Core.Bool.{Bool, true, false, cond, true≢false}
 use mathlib.Core.List.{List, [], _∷_, _++_}
 use mathlib.Core.Logic.{_⊎_, inl, inr, _↔_}
@@ -162,45 +162,46 @@ first-none cs r = (unmet cs r, λ none. none-met (eqb (first cs) 0) refl none)
     none-met true e none = eqb-true (first cs) 0 e
     none-met false e none = absurd (clash (conditionOf (first cs) cs) (first-met cs r (eqb-false (first cs) 0 e)) (none (first cs)))
 
--- ---- a list whose numbers rise
--- every number of the list is past n, and each past the one before it
-abbrev pub risingFrom : ℕ → List Refusal → Bool
-risingFrom n [] = true
-risingFrom n (c ∷ cs) = cond (ltb n (c .number)) (risingFrom (c .number) cs) false
+-- ---- a list whose numbers rise in an order: `place` tells where each number stands in it
+module _ (place : ℕ → ℕ) where
+  -- every number of the list stands past n, and each past the one before it
+  abbrev pub risingFrom : ℕ → List Refusal → Bool
+  risingFrom n [] = true
+  risingFrom n (c ∷ cs) = cond (ltb n (place (c .number))) (risingFrom (place (c .number)) cs) false
 
-rising-cons : (m k : ℕ) (rest : Bool) → cond (ltb m k) rest false ≡ true → (ltb m k ≡ true) × (rest ≡ true)
-rising-cons m k rest h = go (ltb m k) h
-  where
-    go : (b : Bool) → cond b rest false ≡ true → (b ≡ true) × (rest ≡ true)
-    go true h = (refl, h)
-    go false h = absurd (true≢false (sym h))
+  rising-cons : (m k : ℕ) (rest : Bool) → cond (ltb m k) rest false ≡ true → (ltb m k ≡ true) × (rest ≡ true)
+  rising-cons m k rest h = go (ltb m k) h
+    where
+      go : (b : Bool) → cond b rest false ≡ true → (b ≡ true) × (rest ≡ true)
+      go true h = (refl, h)
+      go false h = absurd (true≢false (sym h))
 
--- the condition of a rising list that is met stands past m
-condition-past : (cs : List Refusal) (m : ℕ) → risingFrom m cs ≡ true → (n : ℕ) → conditionOf n cs ≡ true → m < n
-condition-past [] m r n h = absurd (true≢false (sym h))
-condition-past (c ∷ cs) m r n h =
-    let (past, rest) = rising-cons m (c .number) (risingFrom (c .number) cs) r in
-    go (eqb (c .number) n) refl (ltb-true _ _ past) (λ k. condition-past cs (c .number) rest n k) h
-  where
-    go : (b : Bool) → eqb (c .number) n ≡ b → m < c .number → (conditionOf n cs ≡ true → c .number < n)
-        → cond b (c .met) (conditionOf n cs) ≡ true → m < n
-    go true e past more h = omega (arith, eqb-true (c .number) n e)
-    go false e past more h = omega (arith, more h)
+  -- the condition of a rising list that is met stands past m
+  condition-past : (cs : List Refusal) (m : ℕ) → risingFrom m cs ≡ true → (n : ℕ) → conditionOf n cs ≡ true → m < place n
+  condition-past [] m r n h = absurd (true≢false (sym h))
+  condition-past (c ∷ cs) m r n h =
+      let (past, rest) = rising-cons m (place (c .number)) (risingFrom (place (c .number)) cs) r in
+      go (eqb (c .number) n) refl (ltb-true _ _ past) (λ k. condition-past cs (place (c .number)) rest n k) h
+    where
+      go : (b : Bool) → eqb (c .number) n ≡ b → m < place (c .number) → (conditionOf n cs ≡ true → place (c .number) < place n)
+          → cond b (c .met) (conditionOf n cs) ≡ true → m < place n
+      go true e past more h = omega (arith, ap place (eqb-true (c .number) n e))
+      go false e past more h = omega (arith, more h)
 
-lowest-from : (cs : List Refusal) (m : ℕ) → risingFrom m cs ≡ true → (n : ℕ) → conditionOf n cs ≡ true → first cs ≤ n
-unfolding first
-lowest-from [] m r n h = absurd (true≢false (sym h))
-lowest-from (c ∷ cs) m r n h =
-    let (past, rest) = rising-cons m (c .number) (risingFrom (c .number) cs) r in
-    go (eqb (c .number) n) refl (c .met) (condition-past cs (c .number) rest n) (lowest-from cs (c .number) rest n) h
-  where
-    go : (same : Bool) → eqb (c .number) n ≡ same → (b : Bool) → (conditionOf n cs ≡ true → c .number < n)
-        → (conditionOf n cs ≡ true → first cs ≤ n) → cond same b (conditionOf n cs) ≡ true
-        → cond b (c .number) (first cs) ≤ n
-    go true e true past more h = omega (arith, eqb-true (c .number) n e)
-    go true e false past more h = absurd (true≢false (sym h))
-    go false e true past more h = omega (arith, past h)
-    go false e false past more h = more h
+  lowest-from : (cs : List Refusal) (m : ℕ) → risingFrom m cs ≡ true → (n : ℕ) → conditionOf n cs ≡ true → place (first cs) ≤ place n
+  unfolding first
+  lowest-from [] m r n h = absurd (true≢false (sym h))
+  lowest-from (c ∷ cs) m r n h =
+      let (past, rest) = rising-cons m (place (c .number)) (risingFrom (place (c .number)) cs) r in
+      go (eqb (c .number) n) refl (c .met) (condition-past cs (place (c .number)) rest n) (lowest-from cs (place (c .number)) rest n) h
+    where
+      go : (same : Bool) → eqb (c .number) n ≡ same → (b : Bool) → (conditionOf n cs ≡ true → place (c .number) < place n)
+          → (conditionOf n cs ≡ true → place (first cs) ≤ place n) → cond same b (conditionOf n cs) ≡ true
+          → place (cond b (c .number) (first cs)) ≤ place n
+      go true e true past more h = omega (arith, ap place (eqb-true (c .number) n e))
+      go true e false past more h = absurd (true≢false (sym h))
+      go false e true past more h = omega (arith, past h)
+      go false e false past more h = more h
 
-pub first-lowest : (cs : List Refusal) → risingFrom 0 cs ≡ true → (n : ℕ) → conditionOf n cs ≡ true → first cs ≤ n
-first-lowest cs r n h = lowest-from cs 0 r n h
+  pub first-lowest : (cs : List Refusal) → risingFrom 0 cs ≡ true → (n : ℕ) → conditionOf n cs ≡ true → place (first cs) ≤ place n
+  first-lowest cs r n h = lowest-from cs 0 r n h

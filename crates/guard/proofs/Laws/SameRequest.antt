@@ -14,8 +14,8 @@ use borrow.Author.Tests.{eqb-true, eq-eqb}
 use Rattle.bitset.specs.Tests.Laws as tests
 use Rattle.bitset.specs.Tests.Laws.{every-i, every-e, every-at}
 use Rattle.guard.specs.Label.{sameLabel}
-use Rattle.guard.specs.Conditions.{userTooLow, createOutOfLevel, grantBelow, cannotOpen, cannotChangeIn, cannotChange, notOpen, nameTaken, hasChildren}
-use Rattle.guard.specs.Requests.{Rule, Field, call, seat, user, role, entity, parent, kind, name, label, rights, shared, fieldInRangeIn, loggedIn, created, login, logout, take, drop, openr, openw, close, create, delete, rename, grant, revoke, list, unlist, make, unmake, share, unknown, rules, ruleOf}
+use Rattle.guard.specs.Conditions.{userTooLow, createOutOfLevel, grantBelow, tieOutOfLevel, closesCycle, cannotOpen, cannotChangeIn, cannotChange, notOpen, nameTaken, hasChildren, roleTied}
+use Rattle.guard.specs.Requests.{Rule, Field, call, seat, user, role, entity, parent, kind, name, label, rights, shared, junior, fieldInRangeIn, loggedIn, created, login, logout, take, drop, openr, openw, close, create, delete, rename, grant, revoke, list, unlist, make, unmake, share, join, unjoin, unknown, rules, ruleOf}
 use Rattle.guard.specs.Step.{inRangesIn, answer, answerIn, next, nextIn, roleOpening, roleTold, roleToldIn, step}
 use Rattle.guard.specs.Kind as kinds
 use Rattle.guard.specs.SameRequest.{sameField, sameRequest, sameRequests}
@@ -38,6 +38,7 @@ SameField p q name = p .name ≡ q .name
 SameField p q label = (p .grade ≡ q .grade) × (p .cats ≡ q .cats)
 SameField p q rights = p .rights ≡ q .rights
 SameField p q shared = p .shared ≡ q .shared
+SameField p q junior = p .junior ≡ q .junior
 
 abbrev pub SameFields : Request → Request → List Field → Type 0
 SameFields p q [] = Unit {0}
@@ -57,6 +58,7 @@ module _ (p q : Request) where
   field-e label h = (eqb-true _ _ (every-at _ h 0), eqb-true _ _ (every-at _ h 1))
   field-e rights h = eqb-true _ _ h
   field-e shared h = eqb-true _ _ h
+  field-e junior h = eqb-true _ _ h
 
   fields-e : (fs : List Field) → tests.Each (map (sameField p q) fs) → SameFields p q fs
   fields-e [] h = tt
@@ -75,6 +77,7 @@ module _ (p q : Request) where
   range-same label (g, c) = rw (g, c)
   range-same rights e = rw e
   range-same shared e = rw e
+  range-same junior e = rw e
 
   -- a test of each field
   pub map-same : (of-p of-q : Field → Bool) → ((f : Field) → SameField p q f → of-p f ≡ of-q f) → (fs : List Field) → SameFields p q fs
@@ -149,12 +152,20 @@ unfolding make
 reads-make p q (s, (r, more)) = (s, λ t. rw (s, r), λ t. rw r)
 
 reads-unmake : Reads unmake
-unfolding unmake
+unfolding unmake roleTied
 reads-unmake p q (s, (r, more)) = (s, λ t. rw (s, r), λ t. rw r)
 
 reads-share : Reads share
 unfolding share
 reads-share p q (s, (e, (m, more))) = (s, λ t. rw (s, e, m), λ t. rw (e, m))
+
+reads-join : Reads join
+unfolding join tieOutOfLevel closesCycle
+reads-join p q (s, (r, (j, more))) = (s, λ t. rw (s, r, j), λ t. rw (r, j))
+
+reads-unjoin : Reads unjoin
+unfolding unjoin join tieOutOfLevel
+reads-unjoin p q (s, (r, (j, more))) = (s, λ t. rw (s, r, j), λ t. rw (r, j))
 
 reads-unknown : Reads unknown
 unfolding unknown
@@ -164,8 +175,8 @@ each-reads : Each Reads rules
 unfolding rules
 each-reads = (reads-login, (reads-logout, (reads-take, (reads-drop, (reads-openr, (reads-openw, (reads-close, (reads-create, (reads-delete, (reads-rename, more))))))))))
   where
-    more : Each Reads (grant ∷ revoke ∷ list ∷ unlist ∷ make ∷ unmake ∷ share ∷ [])
-    more = (reads-grant, (reads-revoke, (reads-list, (reads-unlist, (reads-make, (reads-unmake, (reads-share, tt)))))))
+    more : Each Reads (grant ∷ revoke ∷ list ∷ unlist ∷ make ∷ unmake ∷ share ∷ join ∷ unjoin ∷ [])
+    more = (reads-grant, (reads-revoke, (reads-list, (reads-unlist, (reads-make, (reads-unmake, (reads-share, (reads-join, (reads-unjoin, tt)))))))))
 
 reads : (q : Request) → Reads (ruleOf q)
 reads = each-rule Reads each-reads reads-unknown
@@ -234,6 +245,7 @@ module _ (q : Request) where
   field-refl label = every-i _ (itself (q .grade), (itself (q .cats), tt))
   field-refl rights = itself (q .rights)
   field-refl shared = itself (q .shared)
+  field-refl junior = itself (q .junior)
 
   fields-refl : (fs : List Field) → tests.Each (map (sameField q q) fs)
   fields-refl [] = tt

@@ -14,13 +14,14 @@ use Rattle.bitset.specs.Sets.{has}
 use Rattle.guard.specs.Level.{sessionLevel, entityLevel, isRoot}
 use Rattle.guard.specs.Tables.{sessionAt, roleAt, entityAt, read, write, isWriting, rightsOf, rightsOn, isChild}
 use Rattle.guard.specs.Chain.{endsAtRoot}
-use Rattle.guard.specs.Sound.{sessionInRangeIn, roleInRange, fieldsInRangeIn, rootsAsSaid, keepersAsSaid, hasOwnName, isPlaced, entitiesPlaced, objectsUnshared, isEmptySession, isEmptyRole, deadAreEmpty, deadAreUnused, rightsWithin, readingWithin, writingWithin, opensBacked, sound, soundIn}
+use Rattle.guard.specs.Sound.{sessionInRangeIn, roleInRange, fieldsInRangeIn, rootsAsSaid, keepersAsSaid, hasOwnName, isPlaced, entitiesPlaced, objectsUnshared, isEmptySession, isEmptyRole, deadAreEmpty, deadAreUnused, rightsWithin, readingWithin, writingWithin, opensBacked, tiesJoin, noneBelowItself, sound, soundIn}
 use Rattle.guard.specs.declared.Session.{Session}
 use Rattle.guard.specs.declared.Role.{Role}
 use Rattle.guard.specs.declared.Entity.{Entity}
 use Rattle.guard.specs.declared.Tables.{Tables}
 use Rattle.guard.proofs.Laws.Rights.{rights-none, rights-zero}
-use Rattle.guard.proofs.Laws.Told.{right-some}
+use Rattle.guard.proofs.Laws.Below.{below-e, below-i}
+use Rattle.guard.proofs.Laws.Told.{right-by}
 pub mod Facts
 pub mod Chains
 pub use Facts.*
@@ -86,13 +87,14 @@ role-e width t h r l =
     record {
       keeper = λ k. implies-e _ _ (all-e 16 _ (every-at _ h 2) r l) k;
       users = set-e 16 _ _ _ (ltb-true _ _ (every-at _ range 0)) (λ d. every-at _ (empty d) 0) (λ u k m. refl);
-      reads = set-e 64 _ _ _ (ltb-true _ _ (every-at _ range 1)) (λ d. every-at _ (empty d) 1)
+      juniors = set-e 16 _ _ _ (ltb-true _ _ (every-at _ range 1)) (λ d. every-at _ (empty d) 1) (λ u k m. refl);
+      reads = set-e 64 _ _ _ (ltb-true _ _ (every-at _ range 2)) (λ d. every-at _ (empty d) 2)
           (λ e k m. rights-e width t h r e l k (λ z. clash _ m (rights-zero p e z .0)));
-      writes = set-e 64 _ _ _ (ltb-true _ _ (every-at _ range 2)) (λ d. every-at _ (empty d) 2)
+      writes = set-e 64 _ _ _ (ltb-true _ _ (every-at _ range 3)) (λ d. every-at _ (empty d) 3)
           (λ e k m. rights-e width t h r e l k (λ z. clash _ m (rights-zero p e z .1)));
-      executes = set-e 64 _ _ _ (ltb-true _ _ (every-at _ range 3)) (λ d. every-at _ (empty d) 3)
+      executes = set-e 64 _ _ _ (ltb-true _ _ (every-at _ range 4)) (λ d. every-at _ (empty d) 4)
           (λ e k m. rights-e width t h r e l k (λ z. clash _ m (rights-zero p e z .2)));
-      owns = set-e 64 _ _ _ (ltb-true _ _ (every-at _ range 4)) (λ d. every-at _ (empty d) 4)
+      owns = set-e 64 _ _ _ (ltb-true _ _ (every-at _ range 5)) (λ d. every-at _ (empty d) 5)
           (λ e k m. rights-e width t h r e l k (λ z. clash _ m (rights-zero p e z .3)));
     }
 
@@ -118,6 +120,14 @@ entity-e t h e l =
       empty = λ d. dead _ _ (all-e 64 _ (every-at _ (every-at _ h 5) 2) e l) d;
     }
 
+ties-e : (width : ℕ) (t : Tables) → soundIn width t ≡ true → TiesOk (t .roles)
+unfolding soundIn tiesJoin noneBelowItself
+ties-e width t h =
+    record {
+      joined = λ r j l k m. implies-e _ _ (all-e 16 _ (all-e 16 _ (every-at _ h 11) r l) j k) m;
+      noCycle = λ r l b. clash _ (below-i _ r r l b) (of-not-true _ (all-e 16 _ (every-at _ h 12) r l));
+    }
+
 pub formed-e : {width : ℕ} (t : Tables) → soundIn width t ≡ true → Formed width t
 unfolding soundIn fieldsInRangeIn
 formed-e t h =
@@ -130,6 +140,7 @@ formed-e t h =
       manyEntities = eqb-true _ _ (every-at _ fields 5);
       session = session-e t h;
       role = role-e _ t h;
+      ties = ties-e _ t h;
       entity = entity-e t h;
     }
 
@@ -139,8 +150,8 @@ unfolding soundIn opensBacked
 backed-e width t h s l =
     let each = all-e 64 _ (all-e 16 _ (every-at _ h 10) s l) in
     record {
-      reading = λ e k m. sym (right-some t s read e) ∙ implies-e _ _ (every-at _ (each e k) 0) m;
-      writing = λ e k m. sym (right-some t s write e) ∙ implies-e _ _ (every-at _ (each e k) 1) m;
+      reading = λ e k m. sym (right-by t s read e) ∙ implies-e _ _ (every-at _ (each e k) 0) m;
+      writing = λ e k m. sym (right-by t s write e) ∙ implies-e _ _ (every-at _ (each e k) 1) m;
     }
 
 -- ---- and back
@@ -192,6 +203,7 @@ module _ (es : List Entity) (r : ℕ) (p : Role) (ok : RoleOk es r p) where
   role-range =
       every-of _
       (lt-ltb _ _ (ok .users .small)
+      also lt-ltb _ _ (ok .juniors .small)
       also lt-ltb _ _ (ok .reads .small)
       also lt-ltb _ _ (ok .writes .small)
       also lt-ltb _ _ (ok .executes .small)
@@ -203,6 +215,7 @@ module _ (es : List Entity) (r : ℕ) (p : Role) (ok : RoleOk es r p) where
   role-empty d =
       every-of _
       (eq-eqb _ _ (ok .users .none d)
+      also eq-eqb _ _ (ok .juniors .none d)
       also eq-eqb _ _ (ok .reads .none d)
       also eq-eqb _ _ (ok .writes .none d)
       also eq-eqb _ _ (ok .executes .none d)
@@ -227,7 +240,7 @@ placed-i t e ok =
     own = all-i 64 _ (λ f l. implies-i _ _ (λ h. not-of-false _ (ok .ownName f l (eqb-false f e (of-not-true _ (every-at _ h 1))) (every-at _ h 0))))
 
 pub sound-i : {width : ℕ} (t : Tables) → Formed width t → Backed t → soundIn width t ≡ true
-unfolding soundIn fieldsInRangeIn rootsAsSaid keepersAsSaid entitiesPlaced objectsUnshared deadAreEmpty deadAreUnused rightsWithin readingWithin writingWithin opensBacked
+unfolding soundIn fieldsInRangeIn rootsAsSaid keepersAsSaid entitiesPlaced objectsUnshared deadAreEmpty deadAreUnused rightsWithin readingWithin writingWithin opensBacked tiesJoin noneBelowItself
 sound-i {width} t ok backs =
     every-of _
     (fields
@@ -242,9 +255,11 @@ sound-i {width} t ok backs =
     also all-i 16 _ (λ s l. open-i _ _ _ _ (ok .session s l .writing .members) .1)
     also all-i 16 _ (λ s l. all-i 64 _ (λ e k.
     every-of _
-    (implies-i _ _ (λ m. right-some t s read e ∙ backs s l .reading e k m)
-    also implies-i _ _ (λ m. right-some t s write e ∙ backs s l .writing e k m)
+    (implies-i _ _ (λ m. right-by t s read e ∙ backs s l .reading e k m)
+    also implies-i _ _ (λ m. right-by t s write e ∙ backs s l .writing e k m)
     also no-more)))
+    also all-i 16 _ (λ r l. all-i 16 _ (λ j k. implies-i _ _ (ok .ties .joined r j l k)))
+    also all-i 16 _ (λ r l. not-of-false _ (is-false _ (λ b. ok .ties .noCycle r l (below-e _ r r b))))
     also no-more)
   where
     fields : fieldsInRangeIn width t ≡ true

@@ -2,7 +2,7 @@
 --     DoneIn, Done    what answer 0 tells of the tables and the request, in any width and in force
 --     done            answer 0, as DoneIn
 --     next-by         a property of the tables that holds now, and after the effect where the request is done, holds next
---     each-rule       what holds of each of the seventeen rules and of the unknown one holds of every request's rule
+--     each-rule       what holds of each of the nineteen rules and of the unknown one holds of every request's rule
 --     each-numbered   .. and may speak of the rule's number
 -- Assumes nothing.
 use Prim.Native.Nat.{ℕ, zero, suc}

@@ -4,6 +4,7 @@
 --     lowest-cong                           tests that agree below n tell the same
 --     byte-read                             a byte of a batch tells what it was stored for
 --     right-some                            "x has a right on e" in document 01's words: a role held by x, of at least e's level, has it
+--     right-by                              .. over the list of roles
 --     role-for, role-none                   the role that the check of a right tells, and that it tells none
 --     Opening, opening-same                 what openr and openw tell, by the role for the right
 --     openr-tells, openw-tells              accepted, both tell the role for the right, and one is told
@@ -20,10 +21,9 @@ use lib.ListN.{getD}
 use borrow.Author.Tests.{eqb-true, ne-eqb}
 use Rattle.bitset.specs.Tests.{every, some}
 use Rattle.bitset.specs.Tests.Laws.{none-below, some-no-e, either-no-l, of-not-false}
-use Rattle.bitset.specs.Sets.{contains}
 use Rattle.guard.specs.Level.{roleCount, roleLevel, entityLevel}
 use Rattle.guard.specs.Told.{isTold, orElse, lowest, roleByte}
-use Rattle.guard.specs.Tables.{read, write, holds, rightsOn, roleFor, hasRight}
+use Rattle.guard.specs.Tables.{read, write, holds, roleHas, roleFor, hasRight}
 use Rattle.guard.specs.Conditions.{cannotOpen}
 use Rattle.guard.specs.Requests.{openr, openw, unknown, rules, ruleOf}
 use Rattle.guard.specs.Step.{answer, roleOpening, roleTold, roleToldIn}
@@ -34,6 +34,7 @@ use Rattle.guard.specs.declared.Request.{Request}
 use Rattle.guard.specs.declared.Told.{Told}
 use Rattle.guard.specs.declared.Told.the-variants.{By, None}
 use Rattle.guard.proofs.Laws.Requests.{answer-none, numbered}
+use Rattle.guard.proofs.Laws.Juniors.{hasIn}
 
 -- ---- the lowest number
 pub lowest-none : (n : ℕ) (p : ℕ → Bool) → ((k : ℕ) → k < n → p k ≡ false) → lowest n p ≡ None
@@ -92,14 +93,19 @@ byte-read n p small = go (lowest n p) refl
 
 -- ---- the check of a right
 module _ (t : Tables) (x right e : ℕ) where
-  -- role r is held by x, of at least e's level, and has the right
+  -- role r is held by x, of at least e's level, and has the right, itself or through a role below it
   abbrev pub Gives : ℕ → Bool
-  Gives r = every (leb (entityLevel e) (roleLevel r) ∷ holds t x r ∷ contains (rightsOn t r e) right ∷ [])
+  Gives r = every (leb (entityLevel e) (roleLevel r) ∷ holds t x r ∷ roleHas t r right e ∷ [])
 
   -- "x has a right on e" means that a role held by x, of at least e's level, has it.
   pub right-some : hasRight t x right e ≡ some roleCount Gives
   unfolding hasRight roleFor
   right-some = told-some roleCount Gives
+
+  -- over the list of roles
+  pub right-by : hasRight t x right e ≡ some 16 (λ r. every (leb (entityLevel e) (roleLevel r) ∷ holds t x r ∷ hasIn (t .roles) right e r ∷ []))
+  unfolding roleHas
+  right-by = right-some
 
   -- The check of a right tells the lowest-numbered held role that gives it, or that none does.
   pub role-for : (r : ℕ) → roleFor t x right e ≡ By r → (r < roleCount) × (Gives r ≡ true) × ((k : ℕ) → k < r → Gives k ≡ false)

@@ -83,19 +83,20 @@ module _ (e : ℕ) (n p : Entity) where
 
 -- ---- a role
 
-idle : (live k u : Bool) → either live (every (not k ∷ u ∷ [])) ≡ not (not live && (k || not u))
+idle : (live k u j : Bool) → either live (every (not k ∷ u ∷ j ∷ [])) ≡ not (not live && ((k || not u) || not j))
 unfolding either every
-idle true k u = refl
-idle false true u = refl
-idle false false true = refl
-idle false false false = refl
+idle true k u j = refl
+idle false true u j = refl
+idle false false true true = refl
+idle false false true false = refl
+idle false false false j = refl
 
 pub rights-small : (p : Role) → p .reads < 2 ^ 64 → p .writes < 2 ^ 64 → p .executes < 2 ^ 64 → p .owns < 2 ^ 64 → rightsSet p < 2 ^ 64
 rights-small p r w x o = join-lt 64 _ _ (join-lt 64 _ _ (join-lt 64 _ _ r w) x) o
 
 module _ (set r : ℕ) (p : Role) where
-  pub role-out : (not (p .live) && (isKeeper r || not (eqb (p .users) 0))) ≡ true → false ≡ roleTest (has set) r p
-  role-out h = sym (is-false _ (λ k. clash _ (every-at _ k 2) (idle (p .live) (isKeeper r) (eqb (p .users) 0) ∙ not-of-true _ h)))
+  pub role-out : (not (p .live) && ((isKeeper r || not (eqb (p .users) 0)) || not (eqb (p .juniors) 0))) ≡ true → false ≡ roleTest (has set) r p
+  role-out h = sym (is-false _ (λ k. clash _ (every-at _ k 3) (idle (p .live) (isKeeper r) (eqb (p .users) 0) (eqb (p .juniors) 0) ∙ not-of-true _ h)))
 
   bounded : (e : ℕ) → has (cond (p .live) set 0) e ≡ every (p .live ∷ has set e ∷ [])
   unfolding every
@@ -105,12 +106,12 @@ module _ (set r : ℕ) (p : Role) where
       go true live = rw live (sym (and-true (has set e)))
       go false dead = rw dead (has-none e)
 
-  pub role-last : (x : Bool) → p .users < 65536 → rightsSet p < 2 ^ 64 → (not (p .live) && (isKeeper r || not (eqb (p .users) 0))) ≡ false
+  pub role-last : (x : Bool) → p .users < 65536 → p .juniors < 65536 → rightsSet p < 2 ^ 64 → (not (p .live) && ((isKeeper r || not (eqb (p .users) 0)) || not (eqb (p .juniors) 0))) ≡ false
       → x ≡ contains (cond (p .live) set 0) (rightsSet p) → x ≡ roleTest (has set) r p
-  role-last x u l h e =
+  role-last x u j l h e =
       let all = e ∙ within-mask 64 (rightsSet p) _ _ l (λ k b. bounded k) in
-      both x _ (λ t. every-i _ (lt-ltb _ _ u, (lt-ltb _ _ l, (idle (p .live) (isKeeper r) (eqb (p .users) 0) ∙ not-of-false _ h, (sym all ∙ t, tt)))))
-      (λ t. all ∙ every-at _ t 3)
+      both x _ (λ t. every-i _ (lt-ltb _ _ u, (lt-ltb _ _ j, (lt-ltb _ _ l, (idle (p .live) (isKeeper r) (eqb (p .users) 0) (eqb (p .juniors) 0) ∙ not-of-false _ h, (sym all ∙ t, tt))))))
+      (λ t. all ∙ every-at _ t 4)
 
 -- ---- a session
 

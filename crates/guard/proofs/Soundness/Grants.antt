@@ -28,7 +28,7 @@ Live t live = (e : ℕ) → e < 64 → has live e ≡ entityAt t e .live
 
 role-cong : (f g : ℕ → Bool) (r : ℕ) (p : Role) → ((e : ℕ) → e < 64 → f e ≡ g e) → roleTest f r p ≡ roleTest g r p
 role-cong f g r p h =
-    ap (λ (b : Bool). every (ltb (p .users) (2 ^ 16) ∷ ltb (rightsSet p) (2 ^ 64) ∷ either (p .live) (every (not (isKeeper r) ∷ eqb (p .users) 0 ∷ [])) ∷ b ∷ []))
+    ap (λ (b : Bool). every (ltb (p .users) (2 ^ 16) ∷ ltb (p .juniors) (2 ^ 16) ∷ ltb (rightsSet p) (2 ^ 64) ∷ either (p .live) (every (not (isKeeper r) ∷ eqb (p .users) 0 ∷ eqb (p .juniors) 0 ∷ [])) ∷ b ∷ []))
     (all-cong 64 _ _ (λ e l. ap (λ (b : Bool). implies (has (rightsSet p) e) (every (p .live ∷ b ∷ []))) (h e l)))
 
 -- of the entities in m, which are those of at most the role's level, those that are live
@@ -69,15 +69,20 @@ module _ (t : Tables) (live : ℕ) (L : Live t live) (r : ℕ) (p : Role) where
   pub role-e : roleTest (grantableIn live r) r p ≡ true → RoleOk (t .entities) r p
   role-e h =
       let test = every-at _ h in
-      let set = part (ltb-true _ _ (test 1)) (test 3) in
+      let set = part (ltb-true _ _ (test 2)) (test 4) in
       let three = join-l (join (join (p .reads) (p .writes)) (p .executes)) (p .owns) in
       let two = contains-trans _ _ _ three (join-l (join (p .reads) (p .writes)) (p .executes)) in
       record {
-        keeper = λ k. ⊎-elim (λ live. live) (λ x. absurd (clash _ k (of-not-true _ (every-at _ x 0)))) (either-e _ _ (test 2));
+        keeper = λ k. ⊎-elim (λ live. live) (λ x. absurd (clash _ k (of-not-true _ (every-at _ x 0)))) (either-e _ _ (test 3));
         users = record {
           small = ltb-true _ _ (test 0);
-          none = λ d. ⊎-elim (λ live. absurd (clash _ live d)) (λ x. eqb-true _ _ (every-at _ x 1)) (either-e _ _ (test 2));
+          none = λ d. ⊎-elim (λ live. absurd (clash _ live d)) (λ x. eqb-true _ _ (every-at _ x 1)) (either-e _ _ (test 3));
           members = λ u k m. refl;
+        };
+        juniors = record {
+          small = ltb-true _ _ (test 1);
+          none = λ d. ⊎-elim (λ live. absurd (clash _ live d)) (λ x. eqb-true _ _ (every-at _ x 2)) (either-e _ _ (test 3));
+          members = λ j k m. refl;
         };
         reads = set _ (contains-trans _ _ _ two (join-l (p .reads) (p .writes)));
         writes = set _ (contains-trans _ _ _ two (join-r (p .reads) (p .writes)));
@@ -102,17 +107,20 @@ module _ (t : Tables) (live : ℕ) (L : Live t live) (r : ℕ) (p : Role) where
       every-i _ (
         lt-ltb _ _ (ok .users .small),
         (
-          lt-ltb _ _ (set .small),
-          (idle (p .live) refl, (all-i 64 _ (λ e l. implies-i _ _ (λ m. within e l m (p .live) refl)), tt)),
+          lt-ltb _ _ (ok .juniors .small),
+          (
+            lt-ltb _ _ (set .small),
+            (idle (p .live) refl, (all-i 64 _ (λ e l. implies-i _ _ (λ m. within e l m (p .live) refl)), tt)),
+          ),
         ),
       )
     where
       set : Granted (rightsSet p)
       set = joined _ _ (joined _ _ (joined _ _ (ok .reads) (ok .writes)) (ok .executes)) (ok .owns)
 
-      idle : (b : Bool) → p .live ≡ b → either (p .live) (every (not (isKeeper r) ∷ eqb (p .users) 0 ∷ [])) ≡ true
+      idle : (b : Bool) → p .live ≡ b → either (p .live) (every (not (isKeeper r) ∷ eqb (p .users) 0 ∷ eqb (p .juniors) 0 ∷ [])) ≡ true
       idle true live = either-l _ _ live
-      idle false dead = either-r _ _ (every-i _ (not-of-false _ (is-false _ (λ k. clash _ (ok .keeper k) dead)), (eq-eqb _ _ (ok .users .none dead), tt)))
+      idle false dead = either-r _ _ (every-i _ (not-of-false _ (is-false _ (λ k. clash _ (ok .keeper k) dead)), (eq-eqb _ _ (ok .users .none dead), (eq-eqb _ _ (ok .juniors .none dead), tt))))
 
       within : (e : ℕ) → e < 64 → has (rightsSet p) e ≡ true → (b : Bool) → p .live ≡ b → every (p .live ∷ grantableIn live r e ∷ []) ≡ true
       within e l m true alive =

@@ -1,7 +1,7 @@
 -- The parts of the test, in its order, against `sound`: what sound tables pass, and that tables which pass all are sound.
---     usersTest, entitiesTest, chainsTest, namesTest, rolesTest, sessionsTest                the parts
+--     usersTest, entitiesTest, chainsTest, namesTest, rolesTest, tiesTest, sessionsTest      the parts
 --     Taken, LiveRoles, Sized, keys-small, numbers                                           what the later parts rest on
---     edition-pass, users-pass, entities-pass, chains-pass, names-pass, roles-pass, sessions-pass          what sound tables pass
+--     edition-pass, users-pass, entities-pass, chains-pass, names-pass, roles-pass, ties-pass, sessions-pass          what sound tables pass
 --     refuted, met, decided                    a part that fails, one that is met, and the last part, which decides
 -- Assumes nothing.
 use Prim.Native.Nat.{ℕ, _%_, _≤_, _<_}
@@ -19,16 +19,17 @@ use Rattle.guard.specs.Tables.{noUser, sessionAt, roleAt, entityAt}
 use Rattle.guard.specs.Label.{allCategories}
 use Rattle.guard.specs.Sound.{usersInRangeIn, editionInRange, sound}
 use Rattle.guard.specs.Private.Tested.{parentByKey, liveByKey, grantableIn, ends, entityTest, ownKey, roleTest, sessionTest}
-use Rattle.guard.specs.Private.Scan.{Keys, Grants, opensGiven}
+use Rattle.guard.specs.Private.Scan.{Keys, Grants, tieTest, opensGiven}
 use Rattle.guard.specs.Private.InForce.{userInRange}
 use Rattle.guard.specs.declared.Tables.{Tables}
 use Rattle.guard.proofs.Laws.Sound.{formed-e, backed-e, sound-i}
-use Rattle.guard.proofs.Laws.Sound.Facts.{Formed, EntityOk, parentIn}
+use Rattle.guard.proofs.Laws.Sound.Facts.{Formed, RoleOk, EntityOk, parentIn}
 use Rattle.guard.proofs.Given.{opens-right}
 use Rattle.guard.proofs.Soundness.Climb.{climbs-root, climbs-on}
 use Rattle.guard.proofs.Soundness.EntityFacts.{Settled, Known, settled, test-of, known}
 use Rattle.guard.proofs.Soundness.Keys.{chains-as, own-e, own-i, live-of-key, key-small}
 use Rattle.guard.proofs.Soundness.Grants.{role-e, role-i}
+use Rattle.guard.proofs.Soundness.Ties.{ties-e, ties-i}
 use Rattle.guard.proofs.Soundness.Opens.{Labels, session-e, session-i}
 
 abbrev pub usersTest : Tables → Bool
@@ -45,6 +46,9 @@ namesTest keys = all 64 (ownKey keys)
 
 abbrev pub rolesTest : Tables → ℕ → Bool
 rolesTest t live = all 16 (λ r. roleTest (grantableIn live r) r (roleAt t r))
+
+abbrev pub tiesTest : List ℕ → ℕ → Bool
+tiesTest grants roles = all 16 (tieTest grants roles)
 
 abbrev pub sessionsTest : Tables → List ℕ → List ℕ → ℕ → Bool
 sessionsTest t labels grants roles =
@@ -107,9 +111,12 @@ module _ (t : Tables) (h : sound t ≡ true) where
   pub roles-pass : (keys : List ℕ) (live : ℕ) → Keys (t .entities) keys → Taken keys live → rolesTest t live ≡ true
   roles-pass keys live K L = all-i 16 _ (λ r l. role-i t live (λ e k. L e k ∙ live-of-key t keys K numbers e k) r _ (ok .role r l))
 
+  pub ties-pass : (grants : List ℕ) (roles : ℕ) → Grants (t .roles) grants → LiveRoles t roles → tiesTest grants roles ≡ true
+  ties-pass grants roles G R = ties-i t (ok .role) grants G roles R (ok .ties)
+
   pub sessions-pass : (labels grants : List ℕ) (roles : ℕ) → Labels t labels → Grants (t .roles) grants → LiveRoles t roles → sessionsTest t labels grants roles ≡ true
   sessions-pass labels grants roles L G R =
-      all-i 16 _ (λ s l. every-i _ (session-i t labels L numbers roles R s _ (ok .session s l), (opens-right t (ok .role) grants G s .1 (backed-e _ t h s l), tt)))
+      all-i 16 _ (λ s l. every-i _ (session-i t labels L numbers roles R s _ (ok .session s l), (opens-right t (ok .role) (ok .ties) grants G s .1 (backed-e _ t h s l), tt)))
 
 -- ---- a part that fails, and one that is met
 pub refuted : (t : Tables) (r p : Bool) → r ≡ p → (sound t ≡ true → p ≡ true) → not r ≡ true → false ≡ sound t
@@ -125,11 +132,11 @@ pub record Sized (t : Tables) : Type 0 where
   pub roles : length (t .roles) ≡ 16
   pub entities : length (t .entities) ≡ 64
 
-passed : (t : Tables) (keys labels grants : List ℕ) (live roles : ℕ) → Sized t → Keys (t .entities) keys → Taken keys live → Labels t labels → LiveRoles t roles
-    → editionInRange (t .edition) ≡ true → usersTest t ≡ true → entitiesTest t ≡ true → chainsTest keys ≡ true → namesTest keys ≡ true → rolesTest t live ≡ true → sessionsTest t labels grants roles ≡ true
+passed : (t : Tables) (keys labels grants : List ℕ) (live roles : ℕ) → Sized t → Keys (t .entities) keys → Grants (t .roles) grants → Taken keys live → Labels t labels → LiveRoles t roles
+    → editionInRange (t .edition) ≡ true → usersTest t ≡ true → entitiesTest t ≡ true → chainsTest keys ≡ true → namesTest keys ≡ true → rolesTest t live ≡ true → tiesTest grants roles ≡ true → sessionsTest t labels grants roles ≡ true
     → Formed allCategories t
 unfolding usersInRangeIn
-passed t keys labels grants live roles size K L B R d u e c n r s =
+passed t keys labels grants live roles size K G L B R d u e c n r x s =
     record {
       edition = d;
       users = every-i _ (eq-eqb _ _ (size .users), (u, tt));
@@ -137,7 +144,8 @@ passed t keys labels grants live roles size K L B R d u e c n r s =
       manyRoles = size .roles;
       manyEntities = size .entities;
       session = λ k l. session-e t labels B numbers′ roles R k _ (every-at _ (all-e 16 _ s k l) 0);
-      role = λ k l. role-e t live (λ f b. L f b ∙ live-of-key t keys K numbers′ f b) k _ (all-e 16 _ r k l);
+      role = role′;
+      ties = ties-e t role′ grants G roles R x;
       entity = λ k l.
           let set = settled′ k l in
           record {
@@ -160,13 +168,16 @@ passed t keys labels grants live roles size K L B R d u e c n r s =
     numbers′ : (k : ℕ) → k < 64 → Known k (entityAt t k)
     numbers′ k l = known t k _ (settled′ k l)
 
+    role′ : (k : ℕ) → k < 16 → RoleOk (t .entities) k (roleAt t k)
+    role′ k l = role-e t live (λ f b. L f b ∙ live-of-key t keys K numbers′ f b) k _ (all-e 16 _ r k l)
+
 pub decided : (t : Tables) (keys grants labels : List ℕ) (live roles : ℕ) → Sized t → Keys (t .entities) keys → Grants (t .roles) grants → Taken keys live → Labels t labels → LiveRoles t roles
-    → editionInRange (t .edition) ≡ true → usersTest t ≡ true → entitiesTest t ≡ true → chainsTest keys ≡ true → namesTest keys ≡ true → rolesTest t live ≡ true
+    → editionInRange (t .edition) ≡ true → usersTest t ≡ true → entitiesTest t ≡ true → chainsTest keys ≡ true → namesTest keys ≡ true → rolesTest t live ≡ true → tiesTest grants roles ≡ true
     → (r : Bool) → r ≡ sessionsTest t labels grants roles → r ≡ sound t
-decided t keys grants labels live roles size K G L B R d u e c n p r s = both r (sound t) forth (λ h. s ∙ sessions-pass t h labels grants roles B G R)
+decided t keys grants labels live roles size K G L B R d u e c n p x r s = both r (sound t) forth (λ h. s ∙ sessions-pass t h labels grants roles B G R)
   where
     forth : r ≡ true → sound t ≡ true
     forth h =
         let all-met = sym s ∙ h in
-        let ok = passed t keys labels grants live roles size K L B R d u e c n p all-met in
-        sound-i t ok (λ x l. opens-right t (ok .role) grants G x .0 (every-at _ (all-e 16 _ all-met x l) 1))
+        let ok = passed t keys labels grants live roles size K G L B R d u e c n p x all-met in
+        sound-i t ok (λ y l. opens-right t (ok .role) (ok .ties) grants G y .0 (every-at _ (all-e 16 _ all-met y l) 1))

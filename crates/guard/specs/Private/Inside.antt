@@ -15,7 +15,7 @@ use Rattle.guard.specs.Chain.{reaches}
 use Rattle.guard.specs.Sound.{topName}
 use Rattle.guard.specs.Edits.{takeRole, dropRole, openReading, openWriting, closeBoth, putIn, renameTo, markAs}
 use Rattle.guard.specs.Refusals.{_when_, first}
-use Rattle.guard.specs.Conditions.{nameTaken, hasChildren, recordedParent}
+use Rattle.guard.specs.Conditions.{nameTaken, hasChildren, roleTied, closesCycle, recordedParent}
 use Rattle.guard.specs.Requests.{Rule, loggedIn, created}
 use Rattle.guard.specs.Kind as kind
 use Rattle.guard.specs.Private.InForce.{fieldInRange, inRanges}
@@ -48,6 +48,7 @@ pub record Placed (q : Request) (p : Places) : Type 0 where
   pub role : Below roleCount (q .role) (p .role)
   pub entity : Below entityCount (q .entity) (p .entity)
   pub parent : Below entityCount (q .parent) (p .parent)
+  pub junior : Below roleCount (q .junior) (p .junior)
   pub fits : p .fits ≡ inRanges q
 
 -- ---- what a kind asks of the tables beside the records that it concerns
@@ -67,14 +68,16 @@ asksRights call =
     (either (eqb call kind.delete) (either (eqb call kind.grant) (either (eqb call kind.revoke) (eqb call kind.share)))))
 
 -- ---- the view, from the records and what the scans tell
-abbrev pub viewOf : Places → Session → User → Role → Entity → Entity → Found → ℕ → View
-viewOf at session user role entity parent found edition =
+abbrev pub viewOf : Places → Session → User → Role → Bool → Entity → Entity → Found → ℕ → View
+viewOf at session user role alive entity parent found edition =
     record {
       fits = at .fits;
       session = session;
       user = user;
       live = role .live;
       users = role .users;
+      juniors = role .juniors;
+      alive = alive;
       entity = entity;
       parent = parent;
       found = found;
@@ -95,20 +98,25 @@ pub record Seen (t : Tables) (q : Request) (v : View) : Type 0 where
   pub user : q .user < userCount → v .user ≡ userAt t (q .user)
   pub live : q .role < roleCount → v .live ≡ roleAt t (q .role) .live
   pub users : q .role < roleCount → v .users ≡ roleAt t (q .role) .users
+  pub juniors : q .role < roleCount → v .juniors ≡ roleAt t (q .role) .juniors
+  pub alive : q .junior < roleCount → v .alive ≡ roleAt t (q .junior) .live
   pub entity : q .entity < entityCount → v .entity ≡ entityAt t (q .entity)
   pub inside : q .entity < entityCount → entityAt t (q .entity) .parent < entityCount
   pub parent : q .call ≡ kind.create → q .parent < entityCount → v .parent ≡ entityAt t (q .parent)
   pub outer : eqb (q .call) kind.create ≡ false → q .entity < entityCount → v .parent ≡ entityAt t (recordedParent t q)
   pub rights : asksRights (q .call) ≡ true → q .seat < sessionCount → RightsOf t (q .seat) (v .found .rights)
   pub reached : asksWay (q .call) ≡ true → q .seat < sessionCount → q .entity < entityCount → v .found .reached ≡ reaches t (q .seat) (q .entity)
-  pub created : q .call ≡ kind.create → q .parent < entityCount → 1 ≤ q .name → q .name ≤ topName → v .found .child ≡ nameTaken t q (q .parent)
+  pub created : q .call ≡ kind.create → q .parent < entityCount → 1 ≤ q .name → q .name ≤ topName → v .found .kin ≡ nameTaken t q (q .parent)
   pub renamed : q .call ≡ kind.rename → q .entity < entityCount → 1 ≤ q .name → q .name ≤ topName
-      → v .found .child ≡ nameTaken t q (recordedParent t q)
-  pub deleted : q .call ≡ kind.delete → q .entity < entityCount → isRoot (q .entity) ≡ false → v .found .child ≡ hasChildren t q
+      → v .found .kin ≡ nameTaken t q (recordedParent t q)
+  pub deleted : q .call ≡ kind.delete → q .entity < entityCount → isRoot (q .entity) ≡ false → v .found .kin ≡ hasChildren t q
+  pub unmade : q .call ≡ kind.unmake → q .role < roleCount → v .found .kin ≡ roleTied t q
+  pub joined : q .call ≡ kind.join → q .role < roleCount → q .junior < roleCount → v .found .kin ≡ closesCycle t q
+  pub untied : q .call ≡ kind.unjoin → v .found .kin ≡ false
 
 -- ---- what is stored where the answer is 0
 -- which records a kind changes: a session; an entity, with a role (create) or every role and session (delete); a role, with
--- every session (revoke, unmake)
+-- every session (revoke, unmake, unjoin)
 unfoldable pub changeOf : ℕ → Change
 changeOf call =
     cond (leb call kind.close) ASession (cond (either (leb call kind.rename) (eqb call kind.share)) AnEntity ARole)
@@ -116,6 +124,10 @@ changeOf call =
 -- the kinds that change an entity
 abbrev pub OfEntity : ℕ → Type 0
 OfEntity call = ((kind.create ≤ call) × (call ≤ kind.rename)) ⊎ (call ≡ kind.share)
+
+-- the requests on a role after which opens end that are no longer backed
+unfoldable pub endsOpens : ℕ → Bool
+endsOpens call = either (either (eqb call kind.revoke) (eqb call kind.unmake)) (eqb call kind.unjoin)
 
 -- the acting session s after a request of the first seven kinds; `keep` is what a drop leaves of its opens
 unfoldable pub sessionAfter : (Session → Session) → Request → Session → Session
@@ -146,6 +158,7 @@ grantedAfter given named e p =
     record {
       live = p .live;
       users = p .users;
+      juniors = p .juniors;
       reads = setAfter given (contains named read) e (p .reads);
       writes = setAfter given (contains named write) e (p .writes);
       executes = setAfter given (contains named execute) e (p .executes);
@@ -157,7 +170,12 @@ unfoldable pub usersAfter : Request → ℕ → ℕ
 usersAfter q users =
     cond (eqb (q .call) kind.list) (with users (q .user)) (cond (eqb (q .call) kind.unlist) (without users (q .user)) users)
 
--- the role p after grant, revoke, unmake, list, unlist or make
+-- the juniors of a role after join or unjoin
+unfoldable pub juniorsAfter : Request → ℕ → ℕ
+juniorsAfter q juniors =
+    cond (eqb (q .call) kind.join) (with juniors (q .junior)) (cond (eqb (q .call) kind.unjoin) (without juniors (q .junior)) juniors)
+
+-- the role p after grant, revoke, unmake, list, unlist, make, join or unjoin
 unfoldable pub roleAfter : Request → Role → Role
 roleAfter q p =
     cond (eqb (q .call) kind.grant) (grantedAfter true (q .rights) (q .entity) p)
@@ -166,6 +184,7 @@ roleAfter q p =
     (record {
       live = true;
       users = usersAfter q (p .users);
+      juniors = juniorsAfter q (p .juniors);
       reads = p .reads;
       writes = p .writes;
       executes = p .executes;
@@ -175,9 +194,9 @@ roleAfter q p =
 -- the role p with own on e
 abbrev pub owning : ℕ → Role → Role
 owning e p =
-    record { live = p .live; users = p .users; reads = p .reads; writes = p .writes; executes = p .executes; owns = with (p .owns) e }
+    record { live = p .live; users = p .users; juniors = p .juniors; reads = p .reads; writes = p .writes; executes = p .executes; owns = with (p .owns) e }
 
 -- ---- a request as a row
 abbrev pub rowOf : Request → List ℕ
 rowOf q =
-    q .call ∷ q .seat ∷ q .user ∷ q .role ∷ q .entity ∷ q .parent ∷ q .kind ∷ q .name ∷ q .grade ∷ q .cats ∷ q .rights ∷ q .shared ∷ []
+    q .call ∷ q .seat ∷ q .user ∷ q .role ∷ q .entity ∷ q .parent ∷ q .kind ∷ q .name ∷ q .grade ∷ q .cats ∷ q .rights ∷ q .shared ∷ q .junior ∷ []

@@ -79,8 +79,9 @@ abbrev pub roleTest : (ℕ → Bool) → ℕ → Role → Bool
 roleTest grantable r p =
     every
     (ltb (p .users) (2 ^ 16)
+    ∷ ltb (p .juniors) (2 ^ 16)
     ∷ ltb (rightsSet p) (2 ^ 64)
-    ∷ either (p .live) (every (not (isKeeper r) ∷ eqb (p .users) 0 ∷ []))
+    ∷ either (p .live) (every (not (isKeeper r) ∷ eqb (p .users) 0 ∷ eqb (p .juniors) 0 ∷ []))
     ∷ members (λ e. every (p .live ∷ grantable e ∷ [])) (rightsSet p)
     ∷ [])
 

@@ -1,16 +1,21 @@
-// Roles and their rights, by the set of the entities on which it may have some.
+// Roles, their rights, by the set of the entities on which each may have some, and their ties.
 ghost use Prim.Native.Nat.{ℕ, _<_};
 ghost use mathlib.Core.Path.{_≡_};
 ghost use mathlib.Core.Bool.{true, cond};
+ghost use lib.Dec.{eqb};
 ghost use lib.ListN.{getD};
 ghost use Rattle.bitset.specs.Tests.{all};
 ghost use Rattle.bitset.specs.Sets.{has, with};
-ghost use Rattle.guard.specs.Level.{roleCount};
+ghost use Rattle.guard.specs.Level.{roleCount, roleLevel};
 ghost use Rattle.guard.specs.Tables.{noRole};
 ghost use Rattle.guard.specs.Private.Tested.{grantableIn, roleTest};
+ghost use Rattle.guard.specs.Private.Scan.{tieTest};
 use super::opens::to_level;
 use crate::Role;
+use crate::scan;
+use crate::scan::GRANTS;
 use crate::sizes::LEVEL_ROLES;
+use crate::sizes::ROLE_END;
 use crate::sizes::ROLES;
 
 // The count as the loop has it that hands a number on, and how many roles a level has.
@@ -35,7 +40,7 @@ fn bound(live: bool, set: u64) -> u64
 fn role_ok(set: u64, r: u8, p: Role) -> bool
     ensures { λ ok. ⌜ ok ≡ roleTest (has set) r p ⌝ }
 {
-    if !p.live & ((r % LEVEL == 0) | (p.users != 0)) {
+    if !p.live & ((r % LEVEL == 0) | (p.users != 0) | (p.juniors != 0)) {
         return false;
     }
     bitset::contains64(bound(p.live, set), p.reads | p.writes | p.executes | p.owns)
@@ -72,4 +77,51 @@ pub fn roles_ok(roles: [Role; ROLES], live: u64) -> Roles
         ok: true,
         live: found,
     }
+}
+
+// The roles of a level.
+fn of_level(level: u32) -> u16
+    requires { ⌜ level < 4 ⌝ }
+    ensures { λ s. ⌜ ((j : ℕ) → j < roleCount → has s j ≡ eqb (roleLevel j) level) ⌝ }
+{
+    if level == 0 {
+        return 0x000f;
+    }
+    if level == 1 {
+        return 0x00f0;
+    }
+    if level == 2 {
+        return 0x0f00;
+    }
+    0xf000
+}
+
+// Whether the ties of role `r` join it to roles of its level among those that are live, and it is not below itself.
+fn tie_ok(grants: &[u64; GRANTS], live: u16, r: u32) -> bool
+    requires { ⌜ r < roleCount ⌝ }
+    ensures { λ ok. ⌜ ok ≡ tieTest (now (grants .entry)) live r ⌝ }
+{
+    let juniors = scan::juniors(grants, r as usize);
+    if juniors == 0 {
+        return true;
+    }
+    if !bitset::contains16(live & of_level(r / LEVEL_ROLES), juniors) {
+        return false;
+    }
+    let below = scan::gather(grants, juniors);
+    !bitset::has16(below.roles, r)
+}
+
+// Every role so.
+pub fn ties_ok(grants: &[u64; GRANTS], live: u16) -> bool
+    ensures { λ ok. ⌜ ok ≡ all roleCount (tieTest (now (grants .entry)) live) ⌝ }
+{
+    let mut r = 0u32;
+    while r < ROLE_END {
+        if !tie_ok(grants, live, r) {
+            return false;
+        }
+        r += 1;
+    }
+    true
 }

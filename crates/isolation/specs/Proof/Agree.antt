@@ -4,7 +4,8 @@
 use Prim.Native.Nat.{ℕ, _≤_, _<_}
 use mathlib.Core.Path.{_≡_, refl, ap, ap₂, _∙_}
 use mathlib.Core.Bool.{Bool, true, false, not}
-use mathlib.Core.List.{[], _∷_, map}
+use mathlib.Core.List.{List, [], _∷_, map}
+use mathlib.Core.Logic.{inl, inr}
 use native.Mathlib.Decide.{decLt}
 use native.Mathlib.Omega.{arith}
 use lib.Dec.{leb, ltb, eqb}
@@ -12,13 +13,13 @@ use borrow.Author.Tests.{ltb-true}
 use Rattle.bitset.specs.Tests.{every, either}
 use Rattle.bitset.specs.Tests.Laws.{every-at, some-cong, of-not-false}
 use Rattle.bitset.specs.Sets.{has}
-use Rattle.guard.specs.Level.{entityCount, sessionLevel, roleLevel, entityLevel, isRoot, keeperOf}
+use Rattle.guard.specs.Level.{roleCount, entityCount, sessionLevel, roleLevel, entityLevel, isRoot, keeperOf}
 use Rattle.guard.specs.Label.{dominates, sameLabel}
 use Rattle.guard.specs.Tables.{edition1, inEdition1, sessionAt, entityAt, hasRight, execute, read, write, own, object, container, sharedMark, lists, isShared, isChild}
 use Rattle.guard.specs.Sound.{sound}
-use Rattle.guard.specs.Refusals.{_when_}
-use Rattle.guard.specs.Conditions.{labelAsked, seatLive, userTooLow, seatDead, entityBelowSeat, createOutOfLevel, grantBelow, userUnlisted, keeperNotHeld, cannotOpen, cannotChangeIn, cannotChange, notOwned, roleHeld, openForReading, openForWriting, notOpen, entityDead, roleDead, roleLive, nameTaken, hasChildren, recordedParent}
-use Rattle.guard.specs.Requests.{Rule, fieldInRangeIn, login, logout, take, drop, openr, openw, close, create, delete, rename, grant, revoke, list, unlist, make, unmake, share, unknown, rules, ruleOf}
+use Rattle.guard.specs.Refusals.{Refusal, _when_}
+use Rattle.guard.specs.Conditions.{labelAsked, seatLive, userTooLow, seatDead, entityBelowSeat, createOutOfLevel, grantBelow, tieOutOfLevel, userUnlisted, keeperNotHeld, closesCycle, cannotOpen, cannotChangeIn, cannotChange, notOwned, roleHeld, openForReading, openForWriting, tied, notOpen, notTied, entityDead, roleDead, juniorDead, roleLive, nameTaken, hasChildren, roleTied, recordedParent}
+use Rattle.guard.specs.Requests.{Rule, fieldInRangeIn, login, logout, take, drop, openr, openw, close, create, delete, rename, grant, revoke, list, unlist, make, unmake, share, join, unjoin, unknown, rules, ruleOf}
 use Rattle.guard.specs.Private.InForce.{fieldInRange}
 use Rattle.isolation.specs.Upper.{firstEntity, fieldUpper}
 use Rattle.guard.specs.declared.Label.{Label}
@@ -27,9 +28,10 @@ use Rattle.guard.specs.declared.Tables.{Tables}
 use Rattle.guard.specs.declared.Request.{Request}
 use Rattle.guard.proofs.Laws.Refusals.{Alike}
 use Rattle.guard.proofs.Laws.Step.{each-rule}
-use Rattle.guard.proofs.Laws.Sound.{parent-level}
+use Rattle.guard.proofs.Laws.Sound.Facts.{TiesOk}
+use Rattle.guard.proofs.Laws.Sound.{formed-e, parent-level}
 use Rattle.isolation.specs.Proof.{_and_}
-use Rattle.isolation.specs.Proof.Views.{upper-seat, upper-role, upper-entity, Same, live-same, user-same, label-same, holds-same, reading-same, writing-same, roleLive-same, listed-same, entity-same, hasRight-same, reaches-same, none-below, child-same}
+use Rattle.isolation.specs.Proof.Views.{upper-seat, upper-role, upper-entity, Same, live-same, user-same, label-same, holds-same, reading-same, writing-same, roleLive-same, listed-same, junior-same, entity-same, tie-same, below-same, hasRight-same, reaches-same, none-below, child-same}
 
 -- one condition after another, each the same in both; a later one may use that the one before is unmet
 infixr 10 _also_
@@ -48,8 +50,18 @@ module _ (L : ℕ) (q : Request) (t u : Tables) (same : Same L t u) (st : sound 
   abbrev Held : Type 0
   Held = leb L (roleLevel (q .role)) ≡ true
 
+  abbrev Junior : Type 0
+  Junior = leb L (roleLevel (q .junior)) ≡ true
+
   abbrev Inside : ℕ → Type 0
   Inside e = leb L (entityLevel e) ≡ true
+
+  -- ties stay in their level
+  ties : TiesOk (t .roles)
+  ties = formed-e t st .ties
+
+  ties′ : TiesOk (u .roles)
+  ties′ = formed-e u su .ties
 
   -- ---- the conditions
   seatLive-same : Seat → seatLive t q ≡ seatLive u q
@@ -74,6 +86,9 @@ module _ (L : ℕ) (q : Request) (t u : Tables) (same : Same L t u) (st : sound 
   roleDead-same : Held → roleDead t q ≡ roleDead u q
   roleDead-same r = ap not (role-live-same r)
 
+  juniorDead-same : Junior → juniorDead t q ≡ juniorDead u q
+  juniorDead-same j = ap not (roleLive-same L t u same (q .junior) (upper-role L (q .junior) j))
+
   roleHeld-same : Seat → Held → roleHeld t q ≡ roleHeld u q
   roleHeld-same s r = holds-same L t u same (q .seat) (q .role) (upper-seat L (q .seat) s) (upper-role L (q .role) r)
 
@@ -87,6 +102,24 @@ module _ (L : ℕ) (q : Request) (t u : Tables) (same : Same L t u) (st : sound 
 
   userUnlisted-same : Seat → Held → userUnlisted t q ≡ userUnlisted u q
   userUnlisted-same s r = rw (user-same L t u same (q .seat) (upper-seat L (q .seat) s)) (ap not (userListed-same (sessionAt u (q .seat) .user) r))
+
+  tied-same : Held → Junior → tied t q ≡ tied u q
+  tied-same r j = junior-same L t u same (q .role) (q .junior) (upper-role L (q .role) r) (upper-role L (q .junior) j)
+
+  -- what is below the junior
+  closesCycle-same : Junior → ltb (q .role) roleCount ≡ true → ltb (q .junior) roleCount ≡ true → closesCycle t q ≡ closesCycle u q
+  unfolding closesCycle
+  closesCycle-same j l k =
+      ap (either (eqb (q .role) (q .junior)))
+      (below-same L t u same ties ties′ (q .junior) (q .role) (ltb-true _ _ k) (ltb-true _ _ l) (upper-role L (q .junior) j))
+
+  roleTied-same : Held → ltb (q .role) roleCount ≡ true → roleTied t q ≡ roleTied u q
+  unfolding roleTied
+  roleTied-same r l =
+      let up = upper-role L (q .role) r in
+      let low = ltb-true (q .role) roleCount l in
+      some-cong roleCount _ _ (λ k h.
+      ap₂ either (tie-same L t u same ties ties′ (q .role) k low h (inl up)) (tie-same L t u same ties ties′ k (q .role) h low (inr up)))
 
   labels-same : (f : Label → Label → Bool) → Seat → Inside (q .entity)
       → not (f (sessionAt t (q .seat) .label) (entityAt t (q .entity) .label)) ≡ not (f (sessionAt u (q .seat) .label) (entityAt u (q .entity) .label))
@@ -107,7 +140,7 @@ module _ (L : ℕ) (q : Request) (t u : Tables) (same : Same L t u) (st : sound 
   tooLow-same = ap (λ n. every (eqb n edition1 ∷ entityBelowSeat t q ∷ [])) (same .edition)
 
   right-same : (right e : ℕ) → Seat → firstEntity L ≤ e → hasRight t (q .seat) right e ≡ hasRight u (q .seat) right e
-  right-same right e s = hasRight-same L t u same (q .seat) right e (upper-seat L (q .seat) s)
+  right-same right e s = hasRight-same L t u same ties ties′ (q .seat) right e (upper-seat L (q .seat) s)
 
   notOwned-same : Seat → Inside (q .entity) → notOwned t q ≡ notOwned u q
   notOwned-same s e = ap not (right-same own (q .entity) s (upper-entity L (q .entity) e))
@@ -116,7 +149,7 @@ module _ (L : ℕ) (q : Request) (t u : Tables) (same : Same L t u) (st : sound 
   unfolding cannotOpen
   cannotOpen-same right s e l live =
       let up = upper-entity L (q .entity) e in
-      rw (right-same right (q .entity) s up, reaches-same L t u same (q .seat) (q .entity) st (upper-seat L (q .seat) s) up (ltb-true (q .entity) entityCount l) (of-not-false _ live))
+      rw (right-same right (q .entity) s up, reaches-same L t u same st su (q .seat) (q .entity) (upper-seat L (q .seat) s) up (ltb-true (q .entity) entityCount l) (of-not-false _ live))
 
   cannotChangeIn-same : (p : ℕ) → Seat → firstEntity L ≤ p → cannotChangeIn t q p ≡ cannotChangeIn u q p
   unfolding cannotChangeIn
@@ -137,12 +170,12 @@ module _ (L : ℕ) (q : Request) (t u : Tables) (same : Same L t u) (st : sound 
     where
       go : (f : ℕ) → f < entityCount → Dec (f < firstEntity L)
           → every (isChild t p f ∷ eqb (entityAt t f .name) (q .name) ∷ []) ≡ every (isChild u p f ∷ eqb (entityAt u f .name) (q .name) ∷ [])
-      go f l (yes h) = rw (none-below L t u same t st p f h l up, none-below L t u same u su p f h l up)
-      go f l (no h) = rw (child-same L t u same p st su up f l, entity-same L t u same f (omega arith))
+      go f l (yes h) = rw (none-below L t st p f h l up, none-below L u su p f h l up)
+      go f l (no h) = rw (child-same L t u same st su p up f l, entity-same L t u same f (omega arith))
 
   hasChildren-same : Inside (q .entity) → hasChildren t q ≡ hasChildren u q
   unfolding hasChildren
-  hasChildren-same e = some-cong entityCount _ _ (child-same L t u same (q .entity) st su (upper-entity L (q .entity) e))
+  hasChildren-same e = some-cong entityCount _ _ (child-same L t u same st su (q .entity) (upper-entity L (q .entity) e))
 
   -- ---- the rules
   abbrev Agrees : Rule → Type 0
@@ -221,6 +254,28 @@ module _ (L : ℕ) (q : Request) (t u : Tables) (same : Same L t u) (st : sound 
       also ap (λ (f : Entity). eqb (f .shared) (q .shared)) here
       also tt
 
+  -- join and unjoin, by what comes after the conditions that they share
+  tie-agrees : (last : Tables → List Refusal) → Seat → Held → Junior → Alike (last t) (last u)
+      → Alike (5 when seatDead t q ∷ 7 when either (roleDead t q) (juniorDead t q) ∷ 10 when tieOutOfLevel t q ∷ 12 when keeperNotHeld t q ∷ last t)
+      (5 when seatDead u q ∷ 7 when either (roleDead u q) (juniorDead u q) ∷ 10 when tieOutOfLevel u q ∷ 12 when keeperNotHeld u q ∷ last u)
+  unfolding tieOutOfLevel
+  tie-agrees last s o j more = seatDead-same s also ap₂ either (roleDead-same o) (juniorDead-same j) also refl also keeperNotHeld-same s o also more
+
+  join-agrees : Agrees join
+  unfolding join fieldInRangeIn fieldUpper
+  join-agrees r n =
+      let o = every-at _ n 1 in
+      let j = every-at _ n 2 in
+      tie-agrees (λ v. 22 when closesCycle v q ∷ 16 when tied v q ∷ []) (every-at _ n 0) o j
+      (closesCycle-same j (every-at _ r 1) (every-at _ r 2) also tied-same o j also tt)
+
+  unjoin-agrees : Agrees unjoin
+  unfolding join unjoin fieldUpper
+  unjoin-agrees r n =
+      let o = every-at _ n 1 in
+      let j = every-at _ n 2 in
+      tie-agrees (λ v. 16 when notTied v q ∷ []) (every-at _ n 0) o j (ap not (tied-same o j) also tt)
+
   -- the rules, in their order
   pub agrees : Agrees (ruleOf q)
   unfolding rules login logout take drop openr openw close delete rename revoke list unlist make unmake unknown fieldInRangeIn fieldUpper
@@ -241,7 +296,9 @@ module _ (L : ℕ) (q : Request) (t u : Tables) (same : Same L t u) (st : sound 
       and (λ r n. let s = every-at _ n 0 in let o = every-at _ n 1 in seatDead-same s also roleDead-same o also refl also keeperNotHeld-same s o also userListed-same (q .user) o also tt)  -- list
       and (λ r n. let s = every-at _ n 0 in let o = every-at _ n 1 in seatDead-same s also roleDead-same o also refl also keeperNotHeld-same s o also ap not (userListed-same (q .user) o) also tt)  -- unlist
       and (λ r n. seatDead-same (every-at _ n 0) also role-live-same (every-at _ n 1) also refl also keeperNotHeld-same (every-at _ n 0) (every-at _ n 1) also tt)  -- make
-      and (λ r n. seatDead-same (every-at _ n 0) also refl also roleDead-same (every-at _ n 1) also refl also keeperNotHeld-same (every-at _ n 0) (every-at _ n 1) also tt)  -- unmake
+      and (λ r n. let s = every-at _ n 0 in let o = every-at _ n 1 in seatDead-same s also refl also roleDead-same o also refl also keeperNotHeld-same s o also roleTied-same o (every-at _ r 1) also tt)  -- unmake
       and share-agrees  -- share
+      and join-agrees  -- join
+      and unjoin-agrees  -- unjoin
       and tt)
       (λ r n. tt) q

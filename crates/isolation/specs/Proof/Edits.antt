@@ -4,7 +4,7 @@
 --     put-below, put-above                               one member of a set: lower, or upper
 --     row-low, row-hidden, row-alike                     one record changed: lower, not seen, or upper
 --     rows-hidden, rows-alike                            each record changed
---     taking .. unlisting-image                          the small functions by which records change
+--     taking .. untying-image                            the small functions by which records change
 -- Assumes nothing.
 use Prim.Native.Nat.{ℕ, _-_, _≤_, _<_}
 use mathlib.Core.Path.{_≡_, refl, subst, _∙_}
@@ -14,7 +14,7 @@ use lib.ListN.{getD, set}
 use Rattle.bitset.specs.Sets.{from}
 use Rattle.bitset.specs.Sets.Shift.{with-below, with-above, without-below, without-above}
 use Rattle.guard.specs.Tables.{noSession, noRole, noEntity}
-use Rattle.guard.specs.Edits.{withSessions, withRoles, withEntities, takeRole, dropRole, openReading, openWriting, closeBoth, putIn, setRights, listUser, unlistUser}
+use Rattle.guard.specs.Edits.{withSessions, withRoles, withEntities, takeRole, dropRole, openReading, openWriting, closeBoth, putIn, setRights, listUser, unlistUser, tieJunior, untieJunior}
 use Rattle.isolation.specs.Upper.{firstSession, firstRole, firstEntity, upperSession, upperRole}
 use Rattle.guard.specs.declared.Session.{Session}
 use Rattle.guard.specs.declared.Role.{Role}
@@ -167,3 +167,12 @@ module _ (L : ℕ) where
   pub unlisting-image : (u : ℕ) → Image (upperRole L) (unlistUser u)
   unfolding unlistUser upperRole
   unlisting-image u = (unlistUser u, λ r. refl)
+
+  -- a tie of an upper role is to an upper one
+  pub tying-image : (j : ℕ) → firstRole L ≤ j → Image (upperRole L) (tieJunior j)
+  unfolding tieJunior upperRole
+  tying-image j h = (tieJunior (j - firstRole L), λ r. rw (with-above (firstRole L) (r .juniors) j h))
+
+  pub untying-image : (j : ℕ) → firstRole L ≤ j → Image (upperRole L) (untieJunior j)
+  unfolding untieJunior upperRole
+  untying-image j h = (untieJunior (j - firstRole L), λ r. rw (without-above (firstRole L) (r .juniors) j h))

@@ -1,8 +1,9 @@
 -- The end of opens that are no longer backed, and the upper part for L. An upper session's opens of upper entities rest on upper roles
--- alone: "x has a right on e" asks for a role held of at least e's level, and a role of at least an upper level is upper. Which of these
--- an upper session holds, and their rights on upper entities, are in the upper part, so that equal upper parts lose the same opens,
--- whatever lower roles and lower entities there are. And what leaves the upper part of sound tables alone still does with the end of
--- opens after it: sound tables lose none.
+-- alone: "x has a right on e" asks for a role held of at least e's level; a role of at least an upper level is upper, and so is what is
+-- below it, since ties stay in their level: the tables after the end have the same roles, and are sound. Which of these an upper session
+-- holds, their ties, and their rights on upper entities, are in the upper part, so that equal upper parts lose the same opens, whatever
+-- lower roles and lower entities there are. And what leaves the upper part of sound tables alone still does with the end of opens after
+-- it: sound tables lose none.
 --     ending-alike      equal upper parts stay equal
 --     ending-hidden     an edit that leaves the upper part of sound tables alone, and the end of opens after it
 -- Assumes nothing.
@@ -38,11 +39,12 @@ keeping-alike p q a b k same tests e h = go (decLt e entityCount)
     go (yes l) = has-keeping p a entityCount e l ∙ ap₂ _&&_ (same e h) (tests e h) ∙ sym (has-keeping q b entityCount e l)
     go (no l) = has-past-keeping p a entityCount e (omega arith) ∙ same e h ∙ sym (has-past-keeping q b entityCount e (omega arith))
 
-module _ (L : ℕ) (t u : Tables) (same : Same L t u) where
+module _ (L : ℕ) (t u : Tables) (st : sound (endUnbacked t) ≡ true) (su : sound (endUnbacked u) ≡ true) (same : Same L t u) where
   backed-alike : (x : ℕ) → firstSession L ≤ x → upperSession L (backed t x) ≡ upperSession L (backed u x)
-  unfolding upperSession backed
+  unfolding upperSession backed endUnbacked
   backed-alike x up =
-      let right : (r e : ℕ) → firstEntity L ≤ e → hasRight t x r e ≡ hasRight u x r e = λ r e. hasRight-same L t u same x r e up in
+      let right : (r e : ℕ) → firstEntity L ≤ e → hasRight t x r e ≡ hasRight u x r e = λ r e.
+      hasRight-same L t u same (formed-e (endUnbacked t) st .ties) (formed-e (endUnbacked u) su .ties) x r e up in
       let reading = from-ext (firstEntity L) _ _ (keeping-alike (hasRight t x read) (hasRight u x read) (sessionAt t x .reading) (sessionAt u x .reading) (firstEntity L) (λ e. reading-same L t u same x e up) (right read)) in
       let writing = from-ext (firstEntity L) _ _ (keeping-alike (hasRight t x write) (hasRight u x write) (sessionAt t x .writing) (sessionAt u x .writing) (firstEntity L) (λ e. writing-same L t u same x e up) (right write)) in
       let held = ap (λ (s : Session). s .roles) (session-same L t u same x up) in
@@ -75,6 +77,7 @@ module _ (L : ℕ) (t u : Tables) (same : Same L t u) where
       go x up (yes l) = rw (getD-tabulate (backed t) sessionCount x noSession l, getD-tabulate (backed u) sessionCount x noSession l) (backed-alike x up)
       go x up (no l) = rw (past t x (omega arith), past u x (omega arith))
 
-pub ending-hidden : (L : ℕ) (t v : Tables) → sound t ≡ true → Same L v t → Same L (endUnbacked v) t
-ending-hidden L t v st same =
-    subst (Same L (endUnbacked v)) (ends-nothing t (formed-e t st .manySessions) (backed-e _ t st)) (ending-alike L v t same)
+pub ending-hidden : (L : ℕ) (t v : Tables) → sound t ≡ true → sound (endUnbacked v) ≡ true → Same L v t → Same L (endUnbacked v) t
+ending-hidden L t v st sv same =
+    let none = ends-nothing t (formed-e t st .manySessions) (backed-e _ t st) in
+    subst (Same L (endUnbacked v)) none (ending-alike L v t sv (rw none st) same)

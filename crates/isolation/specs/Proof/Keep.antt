@@ -15,8 +15,8 @@ use Rattle.bitset.specs.Tests.Laws.{Each, every-i, every-at, either-no-l, eithe
 use Rattle.guard.specs.Level.{sessionCount, entityCount, sessionLevel, roleLevel, entityLevel, isRoot}
 use Rattle.guard.specs.Sound.{sound}
 use Rattle.guard.specs.Edits.{atSession, atRole, atEntity, eachSession, eachRole, dropRole, closeBoth, addRights, removeRights, clearRights, setRights}
-use Rattle.guard.specs.Conditions.{entityDead, createOutOfLevel, grantBelow, cannotChangeIn, cannotChange, seatBelowRole, recordedParent}
-use Rattle.guard.specs.Requests.{Rule, fieldInRangeIn, login, logout, take, drop, openr, openw, close, create, delete, rename, grant, revoke, list, unlist, make, unmake, share, unknown, rules, ruleOf}
+use Rattle.guard.specs.Conditions.{entityDead, createOutOfLevel, grantBelow, cannotChangeIn, cannotChange, seatBelowRole, tieOutOfLevel, recordedParent}
+use Rattle.guard.specs.Requests.{Rule, fieldInRangeIn, login, logout, take, drop, openr, openw, close, create, delete, rename, grant, revoke, list, unlist, make, unmake, share, join, unjoin, unknown, rules, ruleOf}
 use Rattle.isolation.specs.Upper.{firstRole, firstEntity, upperSession, fieldUpper}
 use Rattle.guard.specs.declared.Session.{Session}
 use Rattle.guard.specs.declared.Role.{Role}
@@ -138,11 +138,19 @@ module _ (L : ℕ) (t : Tables) (q : Request) where
       lower-if (q .entity) (firstEntity L) _ low (λ up. seat-up (omega arith) and entity-up (q .entity) (omega arith) and refl and tt)
 
   -- ---- a role: the seat is not below it, so the role is lower
-  role-lower : (rest : List Bool) → Each rest → seatBelowRole t q ≡ false
+  role-lower : (rest : List Bool) → (L ≤ roleLevel (q .role) → Each rest) → seatBelowRole t q ≡ false
       → every (leb L (sessionLevel (q .seat)) ∷ leb L (roleLevel (q .role)) ∷ rest) ≡ false → q .role < firstRole L
   role-lower rest others integrity low =
       let seat-over = ltb-false (sessionLevel (q .seat)) (roleLevel (q .role)) integrity in
-      lower-if (q .role) (firstRole L) _ low (λ up. seat-up (omega arith) and role-up (omega arith) and others)
+      lower-if (q .role) (firstRole L) _ low (λ up. seat-up (omega arith) and role-up (omega arith) and others (omega arith))
+
+  -- join and unjoin: the junior is of the senior's level
+  tie-lower : tieOutOfLevel t q ≡ false → every (leb L (sessionLevel (q .seat)) ∷ leb L (roleLevel (q .role)) ∷ leb L (roleLevel (q .junior)) ∷ []) ≡ false
+      → q .role < firstRole L
+  unfolding tieOutOfLevel
+  tie-lower integrity =
+      let level = eqb-true (roleLevel (q .junior)) (roleLevel (q .role)) (of-not-false _ (either-no-r _ _ integrity)) in
+      role-lower (leb L (roleLevel (q .junior)) ∷ []) (λ up. le-leb L (roleLevel (q .junior)) (omega arith) and tt) (either-no-l _ _ integrity)
 
   at-role : (f : Role → Role) → q .role < firstRole L → Same L (atRole (q .role) f t) t
   unfolding atRole
@@ -150,43 +158,45 @@ module _ (L : ℕ) (t : Tables) (q : Request) where
 
   -- ---- the rules, in their order
   abbrev Keeps : Rule → Type 0
-  Keeps rule = Done rule t q → every (map (fieldUpper L q) (rule .uses)) ≡ false → Same L (rule .effect q t) t
+  Keeps rule = Done rule t q → sound (rule .effect q t) ≡ true → every (map (fieldUpper L q) (rule .uses)) ≡ false → Same L (rule .effect q t) t
 
   pub keeps : Keeps (ruleOf q)
-  unfolding rules login logout take drop openr openw close create delete rename grant revoke list unlist make unmake share unknown fieldUpper eachSession eachRole addRights removeRights clearRights
+  unfolding rules login logout take drop openr openw close create delete rename grant revoke list unlist make unmake share join unjoin unknown fieldUpper eachSession eachRole addRights removeRights clearRights
   keeps =
       each-rule Keeps
-      ((λ d. seat-alone _ (true ∷ true ∷ []) (refl, (refl, tt)))  -- login
-      and (λ d. seat-alone _ [] tt)  -- logout
-      and (λ d low. at-seat _ _ low (λ h. taking L (q .role) .0 (lower-role L (q .role) (one-false _ h))))  -- take
-      and (λ d low. ending-hidden L t _ (d .isSound) (at-seat _ _ low (λ h. dropping L (q .role) .0 (lower-role L (q .role) (one-false _ h)))))  -- drop
-      and (λ d low. at-seat _ _ low (λ h. opening-r L (q .entity) .0 (lower-entity L (q .entity) (one-false _ h))))  -- openr
-      and (λ d low. at-seat _ _ low (λ h. opening-w L (q .entity) .0 (lower-entity L (q .entity) (one-false _ h))))  -- openw
-      and (λ d low. at-seat _ _ low (λ h. closing L (q .entity) .0 (lower-entity L (q .entity) (one-false _ h))))  -- close
+      ((λ d s. seat-alone _ (true ∷ true ∷ []) (refl, (refl, tt)))  -- login
+      and (λ d s. seat-alone _ [] tt)  -- logout
+      and (λ d s low. at-seat _ _ low (λ h. taking L (q .role) .0 (lower-role L (q .role) (one-false _ h))))  -- take
+      and (λ d s low. ending-hidden L t _ (d .isSound) s (at-seat _ _ low (λ h. dropping L (q .role) .0 (lower-role L (q .role) (one-false _ h)))))  -- drop
+      and (λ d s low. at-seat _ _ low (λ h. opening-r L (q .entity) .0 (lower-entity L (q .entity) (one-false _ h))))  -- openr
+      and (λ d s low. at-seat _ _ low (λ h. opening-w L (q .entity) .0 (lower-entity L (q .entity) (one-false _ h))))  -- openw
+      and (λ d s low. at-seat _ _ low (λ h. closing L (q .entity) .0 (lower-entity L (q .entity) (one-false _ h))))  -- close
       and create-keeps  -- create
       and delete-keeps  -- delete
-      and (λ d low. at-entity _ (rename-lower d low))  -- rename
-      and (λ d low. at-rights _ t (grant-lower (unmet (grant .refusals t q) refl (d .none) 10) low))  -- grant
-      and (λ d low. ending-hidden L t _ (d .isSound) (at-rights _ t (grant-lower (unmet (revoke .refusals t q) refl (d .none) 10) low)))  -- revoke
-      and (λ d low. at-role _ (role-lower (true ∷ []) (refl, tt) (unmet (list .refusals t q) refl (d .none) 10) low))  -- list
-      and (λ d low. at-role _ (role-lower (true ∷ []) (refl, tt) (unmet (unlist .refusals t q) refl (d .none) 10) low))  -- unlist
-      and (λ d low. at-role _ (role-lower [] tt (unmet (make .refusals t q) refl (d .none) 10) low))  -- make
+      and (λ d s low. at-entity _ (rename-lower d low))  -- rename
+      and (λ d s low. at-rights _ t (grant-lower (unmet (grant .refusals t q) refl (d .none) 10) low))  -- grant
+      and (λ d s low. ending-hidden L t _ (d .isSound) s (at-rights _ t (grant-lower (unmet (revoke .refusals t q) refl (d .none) 10) low)))  -- revoke
+      and (λ d s low. at-role _ (role-lower (true ∷ []) (λ up. (refl, tt)) (unmet (list .refusals t q) refl (d .none) 10) low))  -- list
+      and (λ d s low. at-role _ (role-lower (true ∷ []) (λ up. (refl, tt)) (unmet (unlist .refusals t q) refl (d .none) 10) low))  -- unlist
+      and (λ d s low. at-role _ (role-lower [] (λ up. tt) (unmet (make .refusals t q) refl (d .none) 10) low))  -- make
       and unmake-keeps  -- unmake
-      and (λ d low. at-entity _ (share-lower d low))  -- share
+      and (λ d s low. at-entity _ (share-lower d low))  -- share
+      and (λ d s low. at-role _ (tie-lower (unmet (join .refusals t q) refl (d .none) 10) low))  -- join
+      and (λ d s low. ending-hidden L t _ (d .isSound) s (at-role _ (tie-lower (unmet (unjoin .refusals t q) refl (d .none) 10) low)))  -- unjoin
       and tt)
-      (λ d low. same-refl L t) q
+      (λ d s low. same-refl L t) q
     where
       create-keeps : Keeps create
-      create-keeps d low = same-trans L _ _ _ (at-rights _ _ (create-lower d low)) (at-entity _ (create-lower d low))
+      create-keeps d s low = same-trans L _ _ _ (at-rights _ _ (create-lower d low)) (at-entity _ (create-lower d low))
 
       delete-keeps : Keeps delete
-      delete-keeps d low =
+      delete-keeps d s low =
           let lower = delete-lower d low in
           same-trans L _ _ _ (rows-hidden L (sessionTable L) (closeBoth (q .entity)) _ (closing L (q .entity) .0 lower))
           (same-trans L _ _ _ (rows-hidden L (roleTable L) (clearRights (q .entity)) _ (setting L (q .entity) _ .0 lower)) (at-entity _ lower))
 
       unmake-keeps : Keeps unmake
-      unmake-keeps d low =
-          let lower = role-lower [] tt (unmet (unmake .refusals t q) refl (d .none) 10) low in
-          ending-hidden L t _ (d .isSound)
+      unmake-keeps d s low =
+          let lower = role-lower [] (λ up. tt) (unmet (unmake .refusals t q) refl (d .none) 10) low in
+          ending-hidden L t _ (d .isSound) s
           (same-trans L _ _ _ (rows-hidden L (sessionTable L) (dropRole (q .role)) _ (dropping L (q .role) .0 lower)) (at-role _ lower))

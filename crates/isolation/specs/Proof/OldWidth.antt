@@ -4,7 +4,7 @@
 --     same-sound                    sound in the old width or in force
 --     same-ranges, same-answer, same-next      one request
 --     same-log                      a log
---     givenBack, old-ones           tables without marks, of edition 1, as old ones, every number the same
+--     givenBack, old-ones           tables without marks and ties, of edition 1, as old ones, every number the same
 -- Assumes nothing.
 use Prim.Native.Nat.{ℕ, suc, _≤_, _<_}
 use mathlib.Core.Path.{_≡_, refl, sym, ap, ap₂}
@@ -16,16 +16,17 @@ use borrow.Author.Tests.{leb-true, le-leb}
 use Rattle.bitset.specs.Tests.{every}
 use Rattle.bitset.specs.Tests.Laws.{both, every-i, every-e, every-at, all-i, all-e}
 use Rattle.guard.specs.Label.{allCategories, oldWidth, labelInRangeIn}
-use Rattle.guard.specs.Level.{entityCount}
-use Rattle.guard.specs.Tables.{noUser, noSession, noEntity, sessionAt, entityAt}
+use Rattle.guard.specs.Level.{roleCount, entityCount}
+use Rattle.guard.specs.Tables.{noUser, noSession, noRole, noEntity, sessionAt, entityAt}
 use Rattle.guard.specs.Sound.{userInRangeIn, entityInRangeIn, usersInRangeIn, soundIn, sound}
-use Rattle.guard.specs.Requests.{Field, call, seat, user, role, entity, parent, kind, name, label, rights, shared, fieldInRangeIn, ruleOf}
+use Rattle.guard.specs.Requests.{Field, call, seat, user, role, entity, parent, kind, name, label, rights, shared, junior, fieldInRangeIn, ruleOf}
 use Rattle.guard.specs.Step.{inRangesIn, answerIn, nextIn, roleToldIn, runIn, eachIn, answersIn, rolesToldIn, answer, next, roleTold, run, answers, rolesTold}
-use Rattle.guard.specs.Old.{userTaken, sessionTaken, entityTaken, takenOver}
+use Rattle.guard.specs.Old.{userTaken, sessionTaken, roleTaken, entityTaken, takenOver}
 use Rattle.guard.specs.Private.InForce.{fieldInRange, inRanges}
 use Rattle.guard.specs.declared.Label.{Label}
 use Rattle.guard.specs.declared.User.{User}
 use Rattle.guard.specs.declared.Session.{Session}
+use Rattle.guard.specs.declared.Role.{Role}
 use Rattle.guard.specs.declared.Entity.{Entity}
 use Rattle.guard.specs.declared.Tables.{Tables}
 use Rattle.guard.specs.declared.Request.{Request}
@@ -33,6 +34,7 @@ use Rattle.guard.specs.declared.Told.{Told}
 use Rattle.guard.specs.declared.old.OldLabel.{OldLabel}
 use Rattle.guard.specs.declared.old.OldUser.{OldUser}
 use Rattle.guard.specs.declared.old.OldSession.{OldSession}
+use Rattle.guard.specs.declared.old.OldRole.{OldRole}
 use Rattle.guard.specs.declared.old.OldEntity.{OldEntity}
 use Rattle.guard.specs.declared.old.OldTables.{OldTables}
 use Rattle.guard.proofs.Laws.Label.{grade-in, cats-in, in-range}
@@ -68,6 +70,7 @@ fits-sound v w t h fits =
       manyEntities = ok .manyEntities;
       session = session;
       role = ok .role;
+      ties = ok .ties;
       entity = entity;
     })
     (backed-e _ t h)
@@ -141,6 +144,7 @@ same-field q label h =
     rw (h, now)
 same-field q rights h = refl
 same-field q shared h = refl
+same-field q junior h = refl
 
 same-fields : (q : Request) (fs : List Field) → every (map (fieldWithin oldWidth q) fs) ≡ true
     → every (map (fieldInRangeIn oldWidth q) fs) ≡ every (map (fieldInRange q) fs)
@@ -185,7 +189,7 @@ same-log t ok (q ∷ log) within =
       rw (sym next-is) sound,
     )
 
--- ---- tables as old ones, every number the same; old ones have no marks and no edition
+-- ---- tables as old ones, every number the same; old ones have no marks, no ties and no edition
 abbrev labelGiven : Label → OldLabel
 labelGiven a = record { cats = a .cats; grade = a .grade }
 
@@ -196,6 +200,9 @@ abbrev sessionGiven : Session → OldSession
 sessionGiven s =
     record { live = s .live; user = s .user; label = labelGiven (s .label); roles = s .roles; reading = s .reading; writing = s .writing }
 
+abbrev roleGiven : Role → OldRole
+roleGiven r = record { live = r .live; users = r .users; reads = r .reads; writes = r .writes; executes = r .executes; owns = r .owns }
+
 abbrev entityGiven : Entity → OldEntity
 entityGiven e = record { live = e .live; kind = e .kind; parent = e .parent; name = e .name; label = labelGiven (e .label) }
 
@@ -204,7 +211,7 @@ givenBack t =
     record {
       users = map userGiven (t .users);
       sessions = map sessionGiven (t .sessions);
-      roles = t .roles;
+      roles = map roleGiven (t .roles);
       entities = map entityGiven (t .entities);
     }
 
@@ -213,19 +220,28 @@ there-and-back : {A B : Type 0} (f : B → A) (g : A → B) (l : List A) (d : A)
 there-and-back f g [] d same = refl
 there-and-back f g (a ∷ l) d same = ap₂ _∷_ (same 0 (omega arith)) (there-and-back f g l d (λ i h. same (suc i) (omega arith)))
 
+-- a role without juniors
+role-back : (p : Role) → p .juniors ≡ 0 → roleTaken (roleGiven p) ≡ p
+role-back p none =
+    λ i. record { live = p .live; users = p .users; juniors = sym none i; reads = p .reads; writes = p .writes; executes = p .executes; owns = p .owns }
+
 -- an entity that is not marked
 entity-back : (n : Entity) → n .shared ≡ 0 → entityTaken (entityGiven n) ≡ n
 entity-back n none = λ i. record { live = n .live; kind = n .kind; parent = n .parent; name = n .name; label = n .label; shared = sym none i }
 
-taken-given : (t : Tables) → length (t .entities) ≡ entityCount → AsOld t → takenOver (givenBack t) ≡ t
+taken-given : (t : Tables) → length (t .roles) ≡ roleCount → length (t .entities) ≡ entityCount → AsOld t → takenOver (givenBack t) ≡ t
 unfolding takenOver givenBack
-taken-given t long old =
+taken-given t many long old =
     rw (
       there-and-back userTaken userGiven (t .users) noUser (λ i h. refl),
       there-and-back sessionTaken sessionGiven (t .sessions) noSession (λ i h. refl),
+      there-and-back roleTaken roleGiven (t .roles) noRole (λ i h. role-back _ (old .untied i (omega (arith, many)))),
       there-and-back entityTaken entityGiven (t .entities) noEntity (λ i h. entity-back _ (old .unshared i (omega (arith, long)))),
       sym (old .edition),
     )
 
 pub old-ones : (t : Tables) → soundIn oldWidth t ≡ true → AsOld t → (old : OldTables) × (takenOver old ≡ t) × Fits oldWidth (takenOver old)
-old-ones t ok none = let same = taken-given t (formed-e t ok .manyEntities) none in (givenBack t, same, rw same (sound-fits oldWidth t ok))
+old-ones t ok none =
+    let formed = formed-e t ok in
+    let same = taken-given t (formed .manyRoles) (formed .manyEntities) none in
+    (givenBack t, same, rw same (sound-fits oldWidth t ok))

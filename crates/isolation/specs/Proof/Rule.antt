@@ -12,7 +12,7 @@ use Rattle.bitset.specs.Tests.{every}
 use Rattle.bitset.specs.Tests.Laws.{every-i, every-e, every-at, is-false, clash, of-not-false}
 use Rattle.guard.specs.Tables.{read, write}
 use Rattle.guard.specs.Sound.{sound}
-use Rattle.guard.specs.Requests.{Rule, Field, seat, fieldInRangeIn, login, logout, take, drop, openr, openw, close, create, delete, rename, grant, revoke, list, unlist, make, unmake, share, unknown, rules, ruleOf}
+use Rattle.guard.specs.Requests.{Rule, Field, seat, fieldInRangeIn, login, logout, take, drop, openr, openw, close, create, delete, rename, grant, revoke, list, unlist, make, unmake, share, join, unjoin, unknown, rules, ruleOf}
 use Rattle.guard.specs.Step.{inRangesIn, answer, answerIn, next, nextIn, roleOpening, roleToldIn, run, runIn}
 use Rattle.guard.specs.Kind as kinds
 use Rattle.guard.specs.Private.InForce.{fieldInRange, inRanges}
@@ -22,6 +22,7 @@ use Rattle.guard.specs.declared.Request.{Request}
 use Rattle.guard.proofs.Laws.Refusals.{alike-first}
 use Rattle.guard.proofs.Laws.Told.{opening-same}
 use Rattle.guard.proofs.Laws.Step.{Done, next-by, each-rule}
+use Rattle.guard.proofs.Laws.Sound.{formed-e}
 use Rattle.guard.proofs.Kept.{sound-next}
 use Rattle.isolation.specs.Log.{runLog, upperOf, answersOf, logs}
 use Rattle.isolation.specs.Proof.{_and_}
@@ -36,10 +37,10 @@ SeatFirst [] = ⊥
 SeatFirst (f ∷ fs) = f ≡ seat
 
 seat-first : (q : Request) → SeatFirst (ruleOf q .uses)
-unfolding rules login logout take drop openr openw close create delete rename grant revoke list unlist make unmake share unknown
+unfolding rules login logout take drop openr openw close create delete rename grant revoke list unlist make unmake share join unjoin unknown
 seat-first =
     each-rule (λ (r : Rule). SeatFirst (r .uses))
-    (refl and refl and refl and refl and refl and refl and refl and refl and refl and refl and refl and refl and refl and refl and refl and refl and refl and tt) refl
+    (refl and refl and refl and refl and refl and refl and refl and refl and refl and refl and refl and refl and refl and refl and refl and refl and refl and refl and refl and tt) refl
 
 module _ (L : ℕ) where
   -- a request in range that names only upper things is upper
@@ -51,16 +52,15 @@ module _ (L : ℕ) where
       go [] first r n = absurd first
       go (f ∷ fs) first r n = every-i _ (rw first at (every-at _ r 0), (rw first at (every-at _ n 0), tt))
 
-  low-names : (t : Tables) (q : Request) → namesUpper L q ≡ false → upper L (next t q) ≡ upper L t
+  -- a request that names something lower, if it is done
+  low-names : (t : Tables) (q : Request) → sound t ≡ true → (Done (ruleOf q) t q → namesUpper L q ≡ false) → upper L (next t q) ≡ upper L t
   unfolding namesUpper
-  low-names t q low = next-by (λ (v : Tables). upper L v ≡ upper L t) t q refl (λ d. of-same L _ t (keeps L t q d low))
+  low-names t q st low =
+      next-by (λ (v : Tables). sound v ≡ true → upper L v ≡ upper L t) t q (λ s. refl) (λ d s. of-same L _ t (keeps L t q d s (low d))) (sound-next t q st)
 
   lower-keeps : (t : Tables) (q : Request) → sound t ≡ true → isUpper L q ≡ false → upper L (next t q) ≡ upper L t
-  unfolding namesUpper inRangesIn
-  lower-keeps t q st low = next-by (λ (v : Tables). upper L v ≡ upper L t) t q refl (λ d. of-same L _ t (keeps L t q d (names-low d)))
-    where
-      names-low : Done (ruleOf q) t q → namesUpper L q ≡ false
-      names-low d = is-false _ (λ n. clash (isUpper L q) (names-upper q (d .ranges) n) low)
+  unfolding inRangesIn
+  lower-keeps t q st low = low-names t q st (λ d. is-false _ (λ n. clash (isUpper L q) (names-upper q (d .ranges) n) low))
 
   upper-tells : (t u : Tables) (q : Request) → sound t ≡ true → sound u ≡ true → upper L t ≡ upper L u → namesUpper L q ≡ true → answer t q ≡ answer u q
   unfolding answerIn inRangesIn namesUpper
@@ -77,29 +77,33 @@ module _ (L : ℕ) where
   unfolding namesUpper fieldUpper ruleOf rules openw
   openw-names q n is = let names = rw is at n in (upper-seat L (q .seat) (every-at _ names 0), upper-entity L (q .entity) (every-at _ names 1))
 
-  upper-opens : (t u : Tables) (q : Request) → upper L t ≡ upper L u → namesUpper L q ≡ true → roleOpening t q ≡ roleOpening u q
+  upper-opens : (t u : Tables) (q : Request) → sound t ≡ true → sound u ≡ true → upper L t ≡ upper L u → namesUpper L q ≡ true → roleOpening t q ≡ roleOpening u q
   unfolding roleOpening
-  upper-opens t u q e n =
+  upper-opens t u q st su e n =
+      let same = roleFor-same L t u (same-of L t u e) (formed-e t st .ties) (formed-e u su .ties) in
       opening-same t u (q .call) (q .seat) (q .seat) (q .entity) (q .entity)
-      (λ is. let (x, f) = openr-names q n is in roleFor-same L t u (same-of L t u e) (q .seat) read (q .entity) x f)
-      (λ is. let (x, f) = openw-names q n is in roleFor-same L t u (same-of L t u e) (q .seat) write (q .entity) x f)
+      (λ is. let (x, f) = openr-names q n is in same (q .seat) read (q .entity) x f)
+      (λ is. let (x, f) = openw-names q n is in same (q .seat) write (q .entity) x f)
 
   -- the number, and the role beside it
   upper-answers : (t u : Tables) (q : Request) → sound t ≡ true → sound u ≡ true → upper L t ≡ upper L u → namesUpper L q ≡ true → answered t q ≡ answered u q
   unfolding roleToldIn
-  upper-answers t u q st su e n = rw (upper-tells t u q st su e n, upper-opens t u q e n)
+  upper-answers t u q st su e n = rw (upper-tells t u q st su e n, upper-opens t u q st su e n)
 
   upper-agrees : (t u : Tables) (q : Request) → sound t ≡ true → sound u ≡ true → upper L t ≡ upper L u → upper L (next t q) ≡ upper L (next u q)
   unfolding nextIn namesUpper
   upper-agrees t u q st su e = go (namesUpper L q) refl
     where
-      both : namesUpper L q ≡ true → (b : Bool) → upper L (cond b (ruleOf q .effect q t) t) ≡ upper L (cond b (ruleOf q .effect q u) u)
-      both n true = of-same L _ _ (respects L q n t u (same-of L t u e))
-      both n false = e
+      both : namesUpper L q ≡ true → (b : Bool) → sound (cond b (ruleOf q .effect q t) t) ≡ true → sound (cond b (ruleOf q .effect q u) u) ≡ true
+          → upper L (cond b (ruleOf q .effect q t) t) ≡ upper L (cond b (ruleOf q .effect q u) u)
+      both n true st su = of-same L _ _ (respects L q n t u st su (same-of L t u e))
+      both n false st su = e
 
       go : (b : Bool) → namesUpper L q ≡ b → upper L (next t q) ≡ upper L (next u q)
-      go true n = rw (upper-tells t u q st su e n) (both n (eqb (answer u q) 0))
-      go false low = low-names t q low ∙ e ∙ sym (low-names u q low)
+      go true n =
+          let told = upper-tells t u q st su e n in
+          rw told (both n (eqb (answer u q) 0) (rw told at (sound-next t q st)) (sound-next u q su))
+      go false low = low-names t q st (λ d. low) ∙ e ∙ sym (low-names u q su (λ d. low))
 
   -- ---- all logs
   requests-are : (a : List Request) → upperRequests L a ≡ upperOf (isUpper L) a

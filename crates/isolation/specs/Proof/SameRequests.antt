@@ -14,7 +14,7 @@ use Rattle.guard.specs.SameRequest.{sameRequest, sameRequests}
 use Rattle.isolation.specs.Upper.{upper, isUpper, fieldUpper, namesUpper, upperRequests, upperAnswers}
 use Rattle.guard.specs.declared.Tables.{Tables}
 use Rattle.guard.specs.declared.Request.{Request}
-use Rattle.guard.specs.Requests.{Field, call, seat, user, role, entity, parent, kind, name, label, rights, shared, ruleOf}
+use Rattle.guard.specs.Requests.{Field, call, seat, user, role, entity, parent, kind, name, label, rights, shared, junior, ruleOf}
 use Rattle.guard.proofs.Laws.SameRequest.{SameField, map-same, same-rule, same-fields, same-seat, same-answer, same-next, same-role, same-refl}
 use Rattle.isolation.specs.Proof.Rule.{rule}
 
@@ -32,6 +32,7 @@ upper-same p q L name e = refl
 upper-same p q L label e = refl
 upper-same p q L rights e = refl
 upper-same p q L shared e = refl
+upper-same p q L junior e = rw e
 
 module _ (p q : Request) (same : sameRequest p q ≡ true) where
   same-upper : (L : ℕ) → isUpper L p ≡ isUpper L q

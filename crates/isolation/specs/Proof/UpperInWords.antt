@@ -21,7 +21,7 @@ use Rattle.guard.proofs.Laws.Rights.{contains-read, contains-write, contains-ex
 use Rattle.guard.proofs.Laws.Sound.{formed-e}
 use Rattle.isolation.specs.UpperInWords.{Sized, SameUpper}
 use Rattle.isolation.specs.Proof.Lists.{seen-ext}
-use Rattle.isolation.specs.Proof.Views.{Same, same-of, of-same, live-same, user-same, label-same, holds-same, reading-same, writing-same, roleLive-same, listed-same, rightsOn-same, entity-same}
+use Rattle.isolation.specs.Proof.Views.{Same, same-of, of-same, live-same, user-same, label-same, holds-same, reading-same, writing-same, roleLive-same, listed-same, rightsOn-same, junior-same, entity-same}
 
 module _ (L : ℕ) (t u : Tables) where
   words-of : Same L t u → SameUpper L t u
@@ -38,6 +38,7 @@ module _ (L : ℕ) (t u : Tables) where
         listed = λ r n hr. ap (λ (s : ℕ). has s n) (listed-same L t u same r (omega arith));
         rights = λ r e hr he. rightsOn-same L t u same r e (omega arith) (omega arith);
         entity = λ e he. entity-same L t u same e (omega arith);
+        tied = λ r j hr hj. junior-same L t u same r j (omega arith) (omega arith);
         edition = same .edition;
       }
 
@@ -71,9 +72,11 @@ module _ (L : ℕ) (t u : Tables) where
     role-alike r h =
         let up : L ≤ roleLevel r = omega arith in
         let listed = sets-ext (roleAt t r .users) (roleAt u r .users) (λ n. words .listed r n up) in
+        let tied = from-ext (firstRole L) (roleAt t r .juniors) (roleAt u r .juniors) (λ j hj. words .tied r j up (omega arith)) in
         λ i. record {
           live = words .roleLive r up i;
           users = listed i;
+          juniors = tied i;
           reads = set-alike (λ p. p .reads) 1 contains-read r up i;
           writes = set-alike (λ p. p .writes) 2 contains-write r up i;
           executes = set-alike (λ p. p .executes) 4 contains-execute r up i;

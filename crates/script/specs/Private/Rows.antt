@@ -2,7 +2,7 @@
 -- and how it is taken apart. The report does not cite them, so a reader of the paper need not read them.
 use Prim.Native.Nat.{ℕ, zero, suc, _+_, _%_}
 use mathlib.Core.Path.{_≡_}
-use mathlib.Core.Bool.{Bool, true, false, cond, _&&_}
+use mathlib.Core.Bool.{Bool, true, false, not, cond, _&&_}
 use mathlib.Core.List.{List, [], _∷_}
 use lib.Dec.{eqb, leb, ltb}
 use lib.ListN.{length, getD, set, drop, replicate}
@@ -52,7 +52,7 @@ codeIn at vs j = codeAt (nameAt at j) (getD vs j [])
 
 -- what is no word has the place behind the last: how many words there are
 abbrev pub noWord : ℕ
-noWord = 18
+noWord = 20
 
 -- the row of no values: no word, and 0 under each other name
 unfoldable pub blank : List ℕ
@@ -73,15 +73,15 @@ fine at vs (suc j) = fine at vs j && leb (codeIn at vs j) 100000
 
 -- what is none of the names has the place behind the last: how many names there are, and how many behind `call`
 abbrev pub nameCount : ℕ
-nameCount = 13
+nameCount = 14
 
 abbrev pub fieldCount : ℕ
-fieldCount = 12
+fieldCount = 13
 
 -- so many values are as many as there are names: a name stands at the last place, and none at the next
 unfoldable pub fills : List ℕ → ℕ → Bool
 fills at zero = false
-fills at (suc j) = ltb (suc j) placeCount && (ltb (nameAt at j) nameCount && eqb (nameAt at (suc j)) nameCount)
+fills at (suc j) = ltb (suc j) placeCount && (not (eqb (nameAt at j) nameCount) && eqb (nameAt at (suc j)) nameCount)
 
 -- the row of a line l: good where it has as many values as there are names, each of a form
 pub record IsRow (at l vals : List ℕ) (r : Row) : Type 0 where

@@ -5,10 +5,10 @@ use Rattle.cases.proofs.edges.each.Statement.{statement}
 use Rattle.cases.proofs.edges.each.Tie as tie
 
 abbrev Inv-loop : tie.InvT-loop
-Inv-loop t q most field₀ field = field ≤ 12
+Inv-loop t q most field₀ field = field ≤ 13
 
 abbrev μ-loop : tie.MeasureT-loop
-μ-loop t q most field₀ field = 12 - field
+μ-loop t q most field₀ field = 13 - field
 
 loop-holds : tie.Need-loop-holds Inv-loop μ-loop
 loop-holds c = search needs

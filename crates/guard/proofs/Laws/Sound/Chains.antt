@@ -1,4 +1,4 @@
--- Soundness with the paper's own chain in it, of any number of steps, and "x reaches e" in sound tables.
+-- Soundness with the paper's own chains in it, of any number of parents and of ties, and "x reaches e" in sound tables.
 --     PlacedInWords, SoundInWords     soundness, sentence by sentence, with "a chain of parents that ends at the root" unbounded
 --     sound-iff                       the test `sound` says this, and no more
 --     reaches-above                   "x reaches e": x has execute on every container above e, up to and with the root
@@ -11,15 +11,16 @@ use native.Mathlib.Decide.{decLt}
 use native.Mathlib.Omega.{arith}
 use lib.ListN.{length, List·getD-eq-default}
 use borrow.Author.Tests.{leb-true, le-leb, eqb-true, eq-eqb}
-use Rattle.bitset.specs.Tests.Laws.{decide, clash, not-of-false, of-not-true, every-i, every-at, implies-i, implies-e, all-i, all-e}
-use Rattle.guard.specs.Level.{entityCount, entityLevel, isRoot}
+use Rattle.bitset.specs.Tests.Laws.{decide, clash, is-false, not-of-false, of-not-true, every-i, every-at, implies-i, implies-e, all-i, all-e}
+use Rattle.guard.specs.Level.{roleCount, entityCount, entityLevel, isRoot}
 use Rattle.guard.specs.Label.{dominates}
-use Rattle.guard.specs.Tables.{noEntity, entityAt, container, execute, hasRight}
+use Rattle.guard.specs.Tables.{noEntity, entityAt, container, execute, isJunior, hasRight}
 use Rattle.guard.specs.Chain.{parentOf, endsAtRoot, reaches}
-use Rattle.guard.specs.Sound.{fieldsInRangeIn, isRootRecord, rootsAsSaid, keepersAsSaid, hasOwnName, isPlaced, entitiesPlaced, objectsUnshared, deadAreEmpty, deadAreUnused, rightsWithin, readingWithin, writingWithin, opensBacked, sound, soundIn}
+use Rattle.guard.specs.Sound.{fieldsInRangeIn, isRootRecord, rootsAsSaid, keepersAsSaid, hasOwnName, isPlaced, entitiesPlaced, objectsUnshared, deadAreEmpty, deadAreUnused, rightsWithin, readingWithin, writingWithin, opensBacked, tiesJoin, noneBelowItself, sound, soundIn}
 use Rattle.guard.specs.Private.InForce.{fieldsInRange}
 use Rattle.guard.specs.declared.Entity.{Entity}
 use Rattle.guard.specs.declared.Tables.{Tables}
+use Rattle.guard.proofs.Laws.Below.{Below, below-e, below-i}
 use Rattle.guard.proofs.Laws.Chain.{ancestor, climbs-root, ends-somewhere, ends-iff, Above, reaches-iff}
 use Rattle.guard.proofs.Laws.Sound.{_also_, no-more, every-of}
 
@@ -51,6 +52,9 @@ pub record SoundInWords (t : Tables) : Type 0 where
   pub reading : readingWithin t ≡ true
   pub writing : writingWithin t ≡ true
   pub backed : opensBacked t ≡ true
+  -- Ties join live roles of one level, and no role is below itself, by however many ties.
+  pub ties : tiesJoin t ≡ true
+  pub noCycle : (r : ℕ) → r < roleCount → Below (isJunior t) r r → ⊥
 
 -- a live entity that is no root is placed
 placed-of : (t : Tables) → sound t ≡ true → (e : ℕ) → e < 64 → entityAt t e .live ≡ true → isRoot e ≡ false → isPlaced t e ≡ true
@@ -102,7 +106,7 @@ module _ (t : Tables) (words : SoundInWords t) where
       also no-more)
 
   sound-of : sound t ≡ true
-  unfolding soundIn entitiesPlaced
+  unfolding soundIn entitiesPlaced noneBelowItself
   sound-of =
       every-of _
       (words .fields
@@ -116,10 +120,12 @@ module _ (t : Tables) (words : SoundInWords t) where
       also words .reading
       also words .writing
       also words .backed
+      also words .ties
+      also all-i 16 _ (λ r l. not-of-false _ (is-false _ (λ b. words .noCycle r l (below-e _ r r b))))
       also no-more)
 
 pub sound-iff : (t : Tables) → (sound t ≡ true ↔ SoundInWords t)
-unfolding soundIn
+unfolding soundIn noneBelowItself
 sound-iff t = (forth, sound-of t)
   where
     forth : sound t ≡ true → SoundInWords t
@@ -136,6 +142,8 @@ sound-iff t = (forth, sound-of t)
           reading = every-at _ h 8;
           writing = every-at _ h 9;
           backed = every-at _ h 10;
+          ties = every-at _ h 11;
+          noCycle = λ r l b. clash _ (below-i _ r r l b) (of-not-true _ (all-e 16 _ (every-at _ h 12) r l));
         }
 
 -- ---- "x reaches e" means that x has execute on every container above e, up to and with the root; for a root there is none

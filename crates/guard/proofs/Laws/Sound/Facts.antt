@@ -3,6 +3,7 @@
 -- edition that of the tables.
 --     SetOk                                             a set that a session or a role has
 --     SessionOk, RoleOk, Inside, Placed, EntityOk       one record of each list
+--     TiesOk                                            the ties between roles
 --     Formed                                            the tables, but for what backs the opens
 --     rightBy, BackedBy, Backed                         .. and that: each open has the right behind it, of a role held
 -- Assumes nothing.
@@ -13,10 +14,10 @@ use mathlib.Core.List.{List, [], _∷_}
 use lib.Dec.{leb, eqb}
 use lib.ListN.{length, getD}
 use Rattle.bitset.specs.Tests.{every, implies, some}
-use Rattle.bitset.specs.Sets.{has, contains}
+use Rattle.bitset.specs.Sets.{has}
 use Rattle.guard.specs.Level.{sessionLevel, roleLevel, entityLevel, isRoot, isKeeper}
 use Rattle.guard.specs.Label.{labelInRangeIn, dominates, sameLabel, noLabel}
-use Rattle.guard.specs.Tables.{edition1, noRole, noEntity, sessionAt, roleAt, entityAt, container, read, write, rightsOf}
+use Rattle.guard.specs.Tables.{edition1, noEntity, sessionAt, roleAt, entityAt, container, read, write}
 use Rattle.guard.specs.Chain.{climbs}
 use Rattle.guard.specs.Sound.{entityInRangeIn, usersInRangeIn, editionInRange, isRootRecord, isMarkAllowed, isEmptyEntity}
 use Rattle.guard.specs.declared.Label.{Label}
@@ -24,11 +25,10 @@ use Rattle.guard.specs.declared.Session.{Session}
 use Rattle.guard.specs.declared.Role.{Role}
 use Rattle.guard.specs.declared.Entity.{Entity}
 use Rattle.guard.specs.declared.Tables.{Tables}
+use Rattle.guard.proofs.Laws.Below.{Below}
+pub use Rattle.guard.proofs.Laws.Juniors.{roleIn, juniorIn, givesIn, hasIn}
 
 -- ---- the records of a list
-abbrev pub roleIn : List Role → ℕ → Role
-roleIn roles r = getD roles r noRole
-
 abbrev pub entityIn : List Entity → ℕ → Entity
 entityIn entities e = getD entities e noEntity
 
@@ -76,6 +76,7 @@ pub record SessionOk (width edition : ℕ) (roles : List Role) (entities : List 
 pub record RoleOk (entities : List Entity) (r : ℕ) (p : Role) : Type 0 where
   pub keeper : isKeeper r ≡ true → p .live ≡ true
   pub users : SetOk 16 (p .live) (λ u. true) (p .users)
+  pub juniors : SetOk 16 (p .live) (λ j. true) (p .juniors)
   pub reads : SetOk 64 (p .live) (λ e. grantable r e (entityIn entities e)) (p .reads)
   pub writes : SetOk 64 (p .live) (λ e. grantable r e (entityIn entities e)) (p .writes)
   pub executes : SetOk 64 (p .live) (λ e. grantable r e (entityIn entities e)) (p .executes)
@@ -101,6 +102,12 @@ pub record EntityOk (width : ℕ) (entities : List Entity) (e : ℕ) (n : Entity
   pub mark : isMarkAllowed n ≡ true
   pub empty : n .live ≡ false → isEmptyEntity n ≡ true
 
+-- the ties between roles
+pub record TiesOk (roles : List Role) : Type 0 where
+  pub joined : (r j : ℕ) → r < 16 → j < 16 → juniorIn roles r j ≡ true
+      → every (roleIn roles r .live ∷ roleIn roles j .live ∷ eqb (roleLevel j) (roleLevel r) ∷ []) ≡ true
+  pub noCycle : (r : ℕ) → r < 16 → Below (juniorIn roles) r r → ⊥
+
 pub record Formed (width : ℕ) (t : Tables) : Type 0 where
   pub edition : editionInRange (t .edition) ≡ true
   pub users : usersInRangeIn width (t .users) ≡ true
@@ -109,12 +116,13 @@ pub record Formed (width : ℕ) (t : Tables) : Type 0 where
   pub manyEntities : length (t .entities) ≡ 64
   pub session : (s : ℕ) → s < 16 → SessionOk width (t .edition) (t .roles) (t .entities) s (sessionAt t s)
   pub role : (r : ℕ) → r < 16 → RoleOk (t .entities) r (roleAt t r)
+  pub ties : TiesOk (t .roles)
   pub entity : (e : ℕ) → e < 64 → EntityOk width (t .entities) e (entityAt t e)
 
 -- ---- what backs the opens
 -- one of the roles held, of at least e's level, has the right
 abbrev pub rightBy : List Role → ℕ → ℕ → ℕ → Bool
-rightBy roles held right e = some 16 (λ r. every (leb (entityLevel e) (roleLevel r) ∷ has held r ∷ contains (rightsOf (roleIn roles r) e) right ∷ []))
+rightBy roles held right e = some 16 (λ r. every (leb (entityLevel e) (roleLevel r) ∷ has held r ∷ hasIn roles right e r ∷ []))
 
 pub record BackedBy (roles : List Role) (s : Session) : Type 0 where
   pub reading : (e : ℕ) → e < 64 → has (s .reading) e ≡ true → rightBy roles (s .roles) read e ≡ true

@@ -68,7 +68,7 @@ sound-at : (c : At tie.Else2) → sound (entered (counted (c .before)) .args .t1
 sound-at c = sym (c .before .sound-by .ensures) ∙ not-false _ (c .if2 .left)
 
 abbrev looked : At tie.After-parent-of → At tie.After-look-up
-looked c = c .before .before .before .before .before
+looked c = c .before .before .before .before .before .before
 
 abbrev turn-at : At tie.After-look-up → At tie.In-loop
 turn-at c = c .before .before
@@ -259,11 +259,17 @@ mul-role c = omega (arith, c .before .before .look-up .ensures .role .small)
 element-copy-out-role : tie.Need-element-copy-out-role Inv-loop μ-loop
 element-copy-out-role c = c .before .before .look-up .ensures .role .small
 
+mul-junior : tie.Need-mul-junior Inv-loop μ-loop
+mul-junior c = omega (arith, c .before .before .before .look-up .ensures .junior .small)
+
+element-copy-out-junior : tie.Need-element-copy-out-junior Inv-loop μ-loop
+element-copy-out-junior c = c .before .before .before .look-up .ensures .junior .small
+
 mul-entity : tie.Need-mul-entity Inv-loop μ-loop
-mul-entity c = omega (arith, c .before .before .before .look-up .ensures .entity .small)
+mul-entity c = omega (arith, c .before .before .before .before .look-up .ensures .entity .small)
 
 element-copy-out-entity : tie.Need-element-copy-out-entity Inv-loop μ-loop
-element-copy-out-entity c = c .before .before .before .look-up .ensures .entity .small
+element-copy-out-entity c = c .before .before .before .before .look-up .ensures .entity .small
 
 parent-of-requires : tie.Need-parent-of-requires Inv-loop μ-loop
 parent-of-requires c κs = search needs
@@ -275,7 +281,10 @@ element-copy-out-parent : tie.Need-element-copy-out-parent Inv-loop μ-loop
 element-copy-out-parent c = parent-place c
 
 find-requires : tie.Need-find-requires Inv-loop μ-loop
-find-requires c κs = let up = c .before .before .before in (looked up .look-up .ensures .entity .small, parent-place up)
+find-requires c κs =
+    let up = c .before .before .before in
+    let at = looked up .look-up .ensures in
+    (at .entity .small, parent-place up, at .role .small, at .junior .small)
 
 seen-requires : tie.Need-seen-requires Inv-loop μ-loop
 seen-requires c κs = search needs
@@ -301,8 +310,8 @@ enum-told c = search needs
 after-requires : tie.Need-after-requires Inv-loop μ-loop
 after-requires c κs = fits (c .before .before .before .before)
 
-mul-t71 : tie.Need-mul-t71 Inv-loop μ-loop
-mul-t71 c = omega (arith, near (c .before .before .before .before .before) .seat .small)
+mul-t75 : tie.Need-mul-t75 Inv-loop μ-loop
+mul-t75 c = omega (arith, near (c .before .before .before .before .before) .seat .small)
 
 element-set-from-self : tie.Need-element-set-from-self Inv-loop μ-loop
 element-set-from-self c = near (c .before .before .before .before .before) .seat .small
@@ -434,6 +443,9 @@ element-set-from-p2-2 c = near (c .before .before .before .before) .role .small
 put-requires-2 : tie.Need-put-requires-2 Inv-loop μ-loop
 put-requires-2 c κs = let d = c .before .before .before .before .before in (near d .role .small, grants-at (d .before .before) .long)
 
+ends-opens-requires : tie.Need-ends-opens-requires Inv-loop μ-loop
+ends-opens-requires c κs = search needs
+
 lost-requires : tie.Need-lost-requires Inv-loop μ-loop
 lost-requires c κs = search needs
 
@@ -442,10 +454,10 @@ swept-requires c κs = search needs
 
 -- the places where a role has lost rights: the test, and before it where the role's sets are stored
 abbrev lossy : At tie.After-swept → At tie.Then6
-lossy c = c .before .before .before .before .before
+lossy c = c .before .before .before .before .before .before
 
 abbrev stored : At tie.Then6 → At tie.After-put2
-stored c = c .before .before .before
+stored c = c .before .before
 
 loop-less-5 : tie.Need-loop-less-5 Inv-loop μ-loop
 loop-less-5 c = let d = role-done (stored (lossy c)) in omega (arith, turn (d .before) .loop-test .taken)
@@ -460,19 +472,19 @@ loop-again-5 c =
     let sets = grants-role _ _ (grants-at (d .before .before)) _ (many d .manyRoles) _ (near d .role .small) _ _ (put .put2 .ensures) refl in
     rw (c .swept .ensures)
     (turned (d .before) _ _
-    (does-so d _ (loss-stored _ _ (zero d) _ (near d) (sure (d .before .before)) _ (p .after3 .ensures) _ sets _ (lost .lost .ensures) (loses _ (is .if6 .taken)) _ refl) _ (role-silent d (told-role (p .before) .0)))
+    (does-so d _ (loss-stored _ _ (zero d) _ (near d) (sure (d .before .before)) _ (p .after3 .ensures) _ sets _ (lost .lost .ensures) (loses _ (sym (is .before .ends-opens .ensures) ∙ is .if6 .taken)) _ refl) _ (role-silent d (told-role (p .before) .0)))
     _ refl _ _ (keys-other _ _ (keys-at (d .before .before)) _ refl) sets)
 
 loop-less-6 : tie.Need-loop-less-6 Inv-loop μ-loop
-loop-less-6 c = let d = role-done (c .before .before .before) in omega (arith, turn (d .before) .loop-test .taken)
+loop-less-6 c = let d = role-done (c .before .before) in omega (arith, turn (d .before) .loop-test .taken)
 
 loop-again-6 : tie.Need-loop-again-6 Inv-loop μ-loop
 loop-again-6 c =
-    let put = c .before .before .before in
+    let put = c .before .before in
     let p = put .before .before in
     let d = role-done put in
-    let other = no-loss _ (c .if6 .left) in
-    turned (d .before) _ _ (does-so d _ (role-stored _ _ (zero d) _ (near d) (sure (d .before .before)) (told-role (p .before)) (other .0) (other .1) _ (p .after3 .ensures)) _ (role-silent d (told-role (p .before) .0))) _ refl _ _
+    let other = no-loss _ (sym (c .before .ends-opens .ensures) ∙ c .if6 .left) in
+    turned (d .before) _ _ (does-so d _ (role-stored _ _ (zero d) _ (near d) (sure (d .before .before)) (told-role (p .before)) other _ (p .after3 .ensures)) _ (role-silent d (told-role (p .before) .0))) _ refl _ _
     (keys-other _ _ (keys-at (d .before .before)) _ refl)
     (grants-role _ _ (grants-at (d .before .before)) _ (many d .manyRoles) _ (near d .role .small) _ _ (put .put2 .ensures) refl)
 
@@ -516,6 +528,8 @@ run-spec =
     element-copy-out-user
     mul-role
     element-copy-out-role
+    mul-junior
+    element-copy-out-junior
     mul-entity
     element-copy-out-entity
     parent-of-requires
@@ -530,7 +544,7 @@ run-spec =
     change-of-requires
     enum-told
     after-requires
-    mul-t71
+    mul-t75
     element-set-from-self
     role-told-requires
     sub-roles
@@ -562,6 +576,7 @@ run-spec =
     mul-p2-2
     element-set-from-p2-2
     put-requires-2
+    ends-opens-requires
     lost-requires
     swept-requires
     loop-less-5

@@ -8,7 +8,7 @@ use Rattle.bitset.specs.Tests.Laws.{of-not-false, every-i, every-at}
 use Rattle.guard.specs.Sound.{editionInRange}
 use Rattle.guard.proofs.Soundness.Tests.{and-two}
 use Rattle.guard.proofs.Soundness.Loops.{long}
-use Rattle.guard.proofs.Soundness.Whole.{Sized, refuted, met, decided, usersTest, keys-small, edition-pass, users-pass, entities-pass, chains-pass, names-pass, roles-pass}
+use Rattle.guard.proofs.Soundness.Whole.{Sized, refuted, met, decided, usersTest, keys-small, edition-pass, users-pass, entities-pass, chains-pass, names-pass, roles-pass, ties-pass}
 use Rattle.guard.proofs.Tables.sound_by.Statement.{statement}
 use Rattle.guard.proofs.Tables.sound_by.Tie as tie
 
@@ -72,16 +72,28 @@ returns-5 c =
     (λ h. roles-pass _ h _ (live .live-set .result) (start (live .before .before .before .before .before .before) .pre .0) (live .live-set .ensures))
     (c .if5 .taken)
 
+ties-ok-requires : tie.Need-ties-ok-requires
+ties-ok-requires c κs = search needs
+
+returns-6 : tie.Need-returns-6
+returns-6 c =
+    let five = c .before .before in
+    let roles = five .before .before in
+    let at = start (roles .before .before .before .before .before .before .before .before) in
+    let passed = of-not-false (roles .roles-ok .result .ok) (five .if5 .left) in
+    refuted _ _ _ (c .before .ties-ok .ensures) (λ h. ties-pass _ h _ (roles .roles-ok .result .live) (at .pre .1) (roles .roles-ok .ensures .1 passed)) (c .if6 .taken)
+
 labels-requires : tie.Need-labels-requires
 labels-requires c κs = search needs
 
 sessions-ok-requires : tie.Need-sessions-ok-requires
 sessions-ok-requires c κs = search needs
 
-returns-6 : tie.Need-returns-6
-returns-6 c =
+returns-7 : tie.Need-returns-7
+returns-7 c =
     let labels = c .before .before .before in
-    let five = labels .before in
+    let six = labels .before in
+    let five = six .before .before in
     let roles = five .before .before in
     let live = roles .before .before in
     let four = live .before in
@@ -102,6 +114,7 @@ returns-6 c =
     (met _ _ (chains .end-at-root .ensures) (three .if3 .left))
     (met _ _ (names .have-own-keys .ensures) (four .if4 .left))
     (sym (roles .roles-ok .ensures .0) ∙ passed)
+    (met _ _ (six .before .ties-ok .ensures) (six .if6 .left))
     _ (c .sessions-ok .ensures)
 
 pub sound-by-spec : {M : Type 1} → statement M
@@ -120,6 +133,8 @@ sound-by-spec =
     live-set-requires
     roles-ok-requires
     returns-5
+    ties-ok-requires
+    returns-6
     labels-requires
     sessions-ok-requires
-    returns-6)
+    returns-7)

@@ -1,12 +1,13 @@
 -- `change_refusal` answers the first condition that is met: 5, 6, 7, 13 or the last. Assumes nothing.
 use borrow.Author.Needs.{needs}
+use native.Mathlib.Omega.{arith}
 use Rattle.bitset.specs.Tests.{either}
 use Rattle.guard.proofs.RefusalSearch.{refusing}
 use Rattle.guard.proofs.entities.change_refusal.Statement.{statement}
 use Rattle.guard.proofs.entities.change_refusal.Tie as tie
 
 cast-o : tie.Need-cast-o
-cast-o c = search needs
+cast-o c = omega (arith, c .struct-known .given)
 
 returns : tie.Need-returns
 returns c = search refusing depth 14 fits 4000

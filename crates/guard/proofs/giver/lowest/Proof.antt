@@ -21,47 +21,32 @@ first-requires c κs = omega arith
 loop-holds : tie.Need-loop-holds Inv-loop μ-loop
 loop-holds c = (omega arith, refl)
 
-cast-is-in : tie.Need-cast-is-in Inv-loop μ-loop
-cast-is-in c = omega (arith, c .first .ensures .small)
-
-mul-is-in : tie.Need-mul-is-in Inv-loop μ-loop
-mul-is-in c = omega (arith, c .first .ensures .small)
-
-add-is-in : tie.Need-add-is-in Inv-loop μ-loop
-add-is-in c = omega (arith, c .first .ensures .small)
-
-mul-is-in-2 : tie.Need-mul-is-in-2 Inv-loop μ-loop
-mul-is-in-2 c = omega (arith, c .first .ensures .small)
-
-element-copy-out-is-in : tie.Need-element-copy-out-is-in Inv-loop μ-loop
-element-copy-out-is-in c = omega (arith, c .first .ensures .small)
-
-is-in-requires : tie.Need-is-in-requires Inv-loop μ-loop
-is-in-requires c κs = c .before .before .before .before .pre .1
+gives-requires : tie.Need-gives-requires Inv-loop μ-loop
+gives-requires c κs = let pre = c .before .before .before .pre in (c .first .ensures .small, pre .0, pre .1)
 
 cast-result : tie.Need-cast-result Inv-loop μ-loop
-cast-result c = omega (arith, c .before .before .before .first .ensures .small)
+cast-result c = omega (arith, c .before .before .first .ensures .small)
 
 returns : tie.Need-returns Inv-loop μ-loop
 unfolding roleByte
 returns c =
-    let first = c .before .before .before in
+    let first = c .before .before in
     let is = first .first .ensures in
-    rw (← first .before .before .loop .inv .1, giver-found _ _ _ _ _ (is .small) (is .member) (is .none) (sym (c .before .is-in .ensures) ∙ c .if1 .taken))
+    rw (← first .before .before .loop .inv .1, giver-found _ _ _ _ _ (is .small) (is .member) (is .none) (sym (c .before .gives .ensures) ∙ c .if1 .taken))
 
 without16-requires : tie.Need-without16-requires Inv-loop μ-loop
 without16-requires c κs = tt
 
 loop-less : tie.Need-loop-less Inv-loop μ-loop
-loop-less c = rw (c .without16 .ensures) (without-less _ _ (c .before .before .before .before .first .ensures .member))
+loop-less c = rw (c .without16 .ensures) (without-less _ _ (c .before .before .before .first .ensures .member))
 
 loop-again : tie.Need-loop-again Inv-loop μ-loop
 loop-again c =
-    let first = c .before .before .before .before in
+    let first = c .before .before .before in
     let at = first .before .before in
     rw (c .without16 .ensures) (
       omega (arith, without-le (at .loop .left) (first .first .result), at .loop .inv .0),
-      giver-next (at .before .args .grants .now) (at .before .args .k) (at .before .args .e) (at .loop .left) (first .first .result) (sym (c .before .before .is-in .ensures) ∙ c .before .if1 .left)
+      giver-next (at .before .args .grants .now) (at .before .args .k) (at .before .args .e) (at .loop .left) (first .first .result) (sym (c .before .before .gives .ensures) ∙ c .before .if1 .left)
           ∙ at .loop .inv .1,
     )
 
@@ -77,12 +62,7 @@ lowest-spec =
     μ-loop
     loop-holds
     first-requires
-    cast-is-in
-    mul-is-in
-    add-is-in
-    mul-is-in-2
-    element-copy-out-is-in
-    is-in-requires
+    gives-requires
     cast-result
     returns
     without16-requires

@@ -1,20 +1,29 @@
 -- `judge` answers every request by the rule of its number: each arm of the match by what its function ensures, the closing one
--- since the number is none of the seventeen. Assumes nothing.
+-- since the number is none of the nineteen. Assumes nothing.
 use borrow.Author.Needs.{needs}
-use Prim.Native.Nat.{ℕ}
+use Prim.Native.Nat.{ℕ, _≤_, _<_}
 use mathlib.Core.Path.{_≡_, refl, sym, ap, _∙_}
-use mathlib.Core.Bool.{true}
-use lib.Dec.{eqb}
-use borrow.Author.Tests.{not-true, not-false}
+use mathlib.Core.Bool.{true, not, cond}
+use mathlib.Core.List.{List, [], _∷_}
+use native.Mathlib.Decide.{ℕ-discrete}
+use native.Mathlib.Omega.{arith}
+use lib.Dec.{eqb, ltb}
+use borrow.Author.Tests.{not-true, not-false, eq-eqb, ne-eqb}
 use Rattle.bitset.specs.Tests.{either}
-use Rattle.guard.specs.Conditions.{userTooLow, createOutOfLevel, grantBelow, cannotOpen, cannotChangeIn, cannotChange, notOpen}
-use Rattle.guard.specs.Requests.{rules, login, logout, take, drop, openr, openw, close, create, delete, rename, grant, revoke, list, unlist, make, unmake, share}
+use Rattle.bitset.specs.Sets.{has}
+use Rattle.guard.specs.Level.{sessionLevel, roleLevel, keeperOf}
+use Rattle.guard.specs.Refusals.{Refusal, _when_, first}
+use Rattle.guard.specs.Conditions.{userTooLow, createOutOfLevel, grantBelow, tieOutOfLevel, cannotOpen, cannotChangeIn, cannotChange, notOpen}
+use Rattle.guard.specs.Requests.{rules, login, logout, take, drop, openr, openw, close, create, delete, rename, grant, revoke, list, unlist, make, unmake, share, join, unjoin, ruleOf}
 use Rattle.guard.specs.Kind as kind
-use Rattle.guard.specs.Private.Inside.{asksWay, asksName, asksRights}
+use Rattle.guard.specs.Private.Inside.{asksWay, asksName, asksRights, number, Seen}
 use Rattle.guard.specs.Private.InForce.{inRanges}
+use Rattle.guard.specs.declared.Tables.{Tables}
+use Rattle.guard.specs.declared.Request.{Request}
+use Rattle.guard.specs.declared.view.View.{View}
 use Rattle.guard.proofs.Laws.Refusals.{alike-first}
-use Rattle.guard.proofs.Ranges.{in-login, in-logout, in-take, in-drop, in-openr, in-openw, in-close, in-create, in-delete, in-rename, in-grant, in-revoke, in-list, in-unlist, in-make, in-unmake, in-share}
-use Rattle.guard.proofs.Answers.{out-of-range, by-rule, unknown-number}
+use Rattle.guard.proofs.Ranges.{in-login, in-logout, in-take, in-drop, in-openr, in-openw, in-close, in-create, in-delete, in-rename, in-grant, in-revoke, in-list, in-unlist, in-make, in-unmake, in-share, in-tie}
+use Rattle.guard.proofs.Answers.{out-of-range, by-rule, none-of, past-kinds}
 use Rattle.guard.proofs.judge.judge.Statement.{statement}
 use Rattle.guard.proofs.judge.judge.Tie as tie
 
@@ -24,6 +33,34 @@ fits c = sym (c .before .before .pre) ∙ not-false _ (c .if1 .left)
 
 returns : tie.Need-returns
 returns c = λ t seen. out-of-range t _ (sym (c .before .before .pre) ∙ not-true _ (c .if1 .taken))
+
+-- join and unjoin are refused alike, but for 22
+abbrev tieList : Request → View → List Refusal
+tieList q v =
+    5 when not (v .session .live)
+    ∷ 7 when either (not (v .live)) (not (v .alive))
+    ∷ 10 when either (ltb (sessionLevel (q .seat)) (roleLevel (q .role))) (not (eqb (roleLevel (q .junior)) (roleLevel (q .role))))
+    ∷ 12 when not (has (v .session .roles) (keeperOf (roleLevel (q .role))))
+    ∷ 22 when v .found .kin
+    ∷ 16 when cond (eqb (q .call) kind.join) (has (v .juniors) (q .junior)) (not (has (v .juniors) (q .junior)))
+    ∷ []
+
+ties-answered : (q : Request) (v : View) (t : Tables) → Seen t q v → inRanges q ≡ true → 17 ≤ q .call → q .call < 19
+    → (n : ℕ) → n ≡ first (tieList q v) → n ≡ number (ruleOf q) t q
+unfolding rules join unjoin tieOutOfLevel first
+ties-answered q v t seen inside low high n h = go (ℕ-discrete (q .call) 17)
+  where
+    r : (q .seat < 16) × (q .role < 16) × (q .junior < 16)
+    r = in-tie q inside low high
+
+    go : Dec (q .call ≡ 17) → n ≡ number (ruleOf q) t q
+    go (yes c) =
+        by-rule t q n 17 c inside
+        (h ∙ rw (seen .session (r .0), seen .live (r .1), seen .alive (r .2), seen .juniors (r .1), seen .joined c (r .1) (r .2), eq-eqb _ _ c))
+    go (no ne) =
+        let c : q .call ≡ 18 = omega (arith, ne) in
+        by-rule t q n 18 c inside
+        (h ∙ rw (seen .session (r .0), seen .live (r .1), seen .alive (r .2), seen .juniors (r .1), seen .untied c, ne-eqb _ _ ne))
 
 login-refusal-requires : tie.Need-login-refusal-requires
 login-refusal-requires c κs = let r = in-login _ (fits (c .before)) (c .match .keys1) in (r .2, r .3)
@@ -81,6 +118,9 @@ unmake-refusal-requires c κs = search needs
 
 share-refusal-requires : tie.Need-share-refusal-requires
 share-refusal-requires c κs = search needs
+
+tie-refusal-requires : tie.Need-tie-refusal-requires
+tie-refusal-requires c κs = search needs
 
 returns-2 : tie.Need-returns-2
 unfolding rules login userTooLow
@@ -177,7 +217,7 @@ returns-17 : tie.Need-returns-17
 unfolding rules unmake
 returns-17 c = λ t seen.
     let r = in-unmake _ (fits (c .before .before)) (c .before .match .keys16) in
-    by-rule t _ _ 15 (c .before .match .keys16) (fits (c .before .before)) (c .unmake-refusal .ensures ∙ rw (seen .session (r .0), seen .live (r .1)))
+    by-rule t _ _ 15 (c .before .match .keys16) (fits (c .before .before)) (c .unmake-refusal .ensures ∙ rw (seen .session (r .0), seen .live (r .1), seen .unmade (c .before .match .keys16) (r .1)))
 
 returns-18 : tie.Need-returns-18
 unfolding rules share asksRights asksWay asksName either
@@ -186,7 +226,11 @@ returns-18 c = λ t seen.
     by-rule t _ _ 16 (c .before .match .keys17) (fits (c .before .before)) (c .share-refusal .ensures ∙ rw (seen .session (r .0), seen .entity (r .1), seen .rights (ap asksRights (c .before .match .keys17)) (r .0) .owns _ (r .1)))
 
 returns-19 : tie.Need-returns-19
-returns-19 c = λ t seen. unknown-number t _ (c .match .rest)
+returns-19 c = λ t seen.
+    ties-answered _ _ t seen (fits (c .before .before .before)) (none-of _ 17 (c .before .before .match .rest)) (c .before .if2 .taken) _ (c .tie-refusal .ensures)
+
+returns-20 : tie.Need-returns-20
+returns-20 c = λ t seen. past-kinds t _ (c .if2 .left)
 
 pub judge-spec : {M : Type 1} → statement M
 judge-spec =
@@ -212,6 +256,7 @@ judge-spec =
     make-refusal-requires
     unmake-refusal-requires
     share-refusal-requires
+    tie-refusal-requires
     returns-2
     returns-3
     returns-4
@@ -229,4 +274,5 @@ judge-spec =
     returns-16
     returns-17
     returns-18
-    returns-19)
+    returns-19
+    returns-20)

@@ -5,7 +5,7 @@ use native.Mathlib.Omega.{arith}
 use Rattle.bitset.specs.Tests.{every}
 use Rattle.guard.specs.Label.{labelInRangeIn}
 use Rattle.guard.specs.Requests.{fieldInRangeIn, rules, login, logout, create, delete, rename}
-use Rattle.guard.proofs.Ranges.{past-nine, ranges-at, fits-take, fits-open, fits-grant, fits-list, fits-make, fits-share, fits-none}
+use Rattle.guard.proofs.Ranges.{past-nine, ranges-at, fits-take, fits-open, fits-grant, fits-list, fits-make, fits-share, fits-tie, fits-none}
 use Rattle.guard.proofs.look.fits.Statement.{statement}
 use Rattle.guard.proofs.look.fits.Tie as tie
 
@@ -51,7 +51,12 @@ returns-11 : tie.Need-returns-11
 returns-11 c = fits-make _ (c .before .if4 .left) (c .if5 .taken)
 
 returns-12 : tie.Need-returns-12
-returns-12 c = fits-none _ (omega (arith, c .if5 .left, c .before .before .before .before .before .match .rest .1))
+returns-12 c =
+    let past = c .before .before in
+    fits-tie _ (omega (arith, past .if5 .left, past .before .before .before .before .before .match .rest .1)) (c .before .if6 .taken)
+
+returns-13 : tie.Need-returns-13
+returns-13 c = fits-none _ (c .if6 .left)
 
 pub fits-spec : {M : Type 1} → statement M
 fits-spec =
@@ -68,4 +73,5 @@ fits-spec =
     returns-9
     returns-10
     returns-11
-    returns-12)
+    returns-12
+    returns-13)

@@ -30,11 +30,22 @@ returns-3 c = rw (ne-eqb _ _ (c .before .before .before .before .before .if1 .le
 users-after-requires : tie.Need-users-after-requires
 users-after-requires c κs = search needs
 
+juniors-after-requires : tie.Need-juniors-after-requires
+juniors-after-requires c κs = search needs
+
 returns-4 : tie.Need-returns-4
 unfolding roleAfter
-returns-4 c = rw (ne-eqb _ _ (c .before .before .before .before .before .if1 .left), ne-eqb _ _ (c .before .before .before .if2 .left), ne-eqb _ _ (c .before .if3 .left), c .users-after .ensures)
+returns-4 c =
+    let users = c .before in
+    rw (
+      ne-eqb _ _ (users .before .before .before .before .before .if1 .left),
+      ne-eqb _ _ (users .before .before .before .if2 .left),
+      ne-eqb _ _ (users .before .if3 .left),
+      users .users-after .ensures,
+      c .juniors-after .ensures,
+    )
 
 pub after-spec : {M : Type 1} → statement M
 after-spec =
     tie.close
-    (tie.spec granted-requires returns granted-requires-2 returns-2 empty-requires returns-3 users-after-requires returns-4)
+    (tie.spec granted-requires returns granted-requires-2 returns-2 empty-requires returns-3 users-after-requires juniors-after-requires returns-4)

@@ -113,6 +113,15 @@ mul-t48 c = search needs
 shared-slice-read-t50 : tie.Need-shared-slice-read-t50
 shared-slice-read-t50 c = search needs
 
+add-t51 : tie.Need-add-t51
+add-t51 c = search needs
+
+mul-t52 : tie.Need-mul-t52
+mul-t52 c = search needs
+
+shared-slice-read-t54 : tie.Need-shared-slice-read-t54
+shared-slice-read-t54 c = search needs
+
 returns : tie.Need-returns
 unfolding requestAt
 returns c = simp add-zero
@@ -157,4 +166,7 @@ request-spec =
     add-t47
     mul-t48
     shared-slice-read-t50
+    add-t51
+    mul-t52
+    shared-slice-read-t54
     returns)

@@ -12,7 +12,7 @@ use Rattle.guard.proofs.scan.clear.Statement.{statement}
 use Rattle.guard.proofs.scan.clear.Tie as tie
 
 abbrev Inv-loop : tie.InvT-loop
-Inv-loop grants₀ e j₀ grants j = (j ≤ 64) × (length grants₀ ≡ 64) × (grants ≡ mapped (λ (s : ℕ). without s e) j grants₀)
+Inv-loop grants₀ e j₀ grants j = (j ≤ 64) × (length grants₀ ≡ 80) × (grants ≡ mapped (λ (s : ℕ). without s e) j grants₀)
 
 abbrev μ-loop : tie.MeasureT-loop
 μ-loop grants₀ e j₀ grants j = 64 - j

@@ -2,42 +2,42 @@
 use borrow.Author.Needs.{needs}
 use Prim.Native.Nat.{ℕ}
 use mathlib.Core.Path.{_≡_, sym, _∙_}
-use mathlib.Core.Bool.{false}
+use mathlib.Core.Bool.{Bool, false}
 use mathlib.Core.List.{List}
-use lib.Dec.{eqb}
-use borrow.Author.Tests.{not-true}
-use Rattle.bitset.specs.Tests.Laws.{clash, either-no-l, either-no-r}
-use Rattle.guard.specs.Private.Inside.{asksWay, asksName, asksRights}
-use Rattle.guard.specs.Private.Scan.{reachedBy, kinBy, foundNothing, FoundBy}
+use borrow.Author.Tests.{not-true, not-false}
+use Rattle.bitset.specs.Tests.Laws.{clash, either-no-l}
+use Rattle.guard.specs.Private.Inside.{asksWay, asksRights}
+use Rattle.guard.specs.Private.Scan.{tiedBy, reachedBy, foundOnly, FoundBy}
 use Rattle.guard.specs.declared.Request.{Request}
 use Rattle.guard.proofs.scan.find.Statement.{statement}
 use Rattle.guard.proofs.scan.find.Tie as tie
 
 -- a kind that asks for no right asks neither for the way nor for a child
-found-nothing : (keys grants : List ℕ) (q : Request) (held e o : ℕ) → asksRights (q .call) ≡ false → FoundBy keys grants q held e o foundNothing
-unfolding asksRights reachedBy kinBy
-found-nothing keys grants q held e o none =
-    let past-way = either-no-r (asksWay (q .call)) _ none in
-    let past-name = either-no-r (asksName (q .call)) _ past-way in
+found-ties : (keys grants : List ℕ) (q : Request) (held e o r j : ℕ) (kin : Bool) → asksRights (q .call) ≡ false → kin ≡ tiedBy grants (q .call) r j
+    → FoundBy keys grants q held e o r j (foundOnly kin)
+unfolding asksRights reachedBy
+found-ties keys grants q held e o r j kin none tied =
     let way : asksWay (q .call) ≡ false = either-no-l _ _ none in
-    let name : asksName (q .call) ≡ false = either-no-l _ _ past-way in
-    let delete : eqb (q .call) 8 ≡ false = either-no-l _ _ past-name in
     record {
       rights = λ a. absurd (clash (asksRights (q .call)) a none);
       reached = rw way;
-      child = rw (delete, name);
+      kin = λ a. absurd (clash (asksRights (q .call)) a none);
+      tied = λ a. tied;
     }
 
 asks-rights-requires : tie.Need-asks-rights-requires
 asks-rights-requires c κs = search needs
 
-nothing-requires : tie.Need-nothing-requires
-nothing-requires c κs = search needs
+tied-requires : tie.Need-tied-requires
+tied-requires c κs = search needs
+
+only-requires : tie.Need-only-requires
+only-requires c κs = search needs
 
 returns : tie.Need-returns
 returns c =
-    let test = c .before in
-    rw (c .nothing .ensures) (found-nothing _ _ _ _ _ _ (sym (test .before .asks-rights .ensures) ∙ not-true _ (test .if1 .taken)))
+    let test = c .before .before in
+    rw (c .only .ensures) (found-ties _ _ _ _ _ _ _ _ _ (sym (test .before .asks-rights .ensures) ∙ not-true _ (test .if1 .taken)) (c .before .tied .ensures))
 
 gather-requires : tie.Need-gather-requires
 gather-requires c κs = search needs
@@ -52,13 +52,15 @@ returns-2 : tie.Need-returns-2
 returns-2 c =
     let way = c .before in
     let gathered = way .before in
+    let test = gathered .before in
     record {
       rights = λ a. gathered .gather .ensures;
       reached = way .reached .ensures;
-      child = c .kin .ensures;
+      kin = λ a. c .kin .ensures;
+      tied = λ none. absurd (clash _ (sym (test .before .asks-rights .ensures) ∙ not-false _ (test .if1 .left)) none);
     }
 
 pub find-spec : {M : Type 1} → statement M
 find-spec =
     tie.close
-    (tie.spec asks-rights-requires nothing-requires returns gather-requires reached-requires kin-requires returns-2)
+    (tie.spec asks-rights-requires tied-requires only-requires returns gather-requires reached-requires kin-requires returns-2)

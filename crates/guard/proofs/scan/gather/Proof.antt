@@ -1,28 +1,31 @@
--- `gather` joins what each role held gives. Assumes nothing.
-use Prim.Native.Nat.{_*_, _^_, _<_}
+-- `gather` goes through the roles held and those below them, and joins what each of them gives. Assumes nothing.
+use Prim.Native.Nat.{_*_, _-_, _^_, _<_}
 use mathlib.Core.Bool.{true}
 use mathlib.Core.Path.{_≡_}
-use native.Mathlib.Nat.{add-zero}
+use native.Mathlib.Nat.{add-zero, mod-eq-of-lt}
 use native.Mathlib.Omega.{arith}
 use lib.Count.{trailingZeros}
 use Rattle.bitset.specs.Sets.{has, join}
-use Rattle.bitset.specs.Sets.Laws.{without-le}
-use Rattle.guard.proofs.Soundness.Members.{lowest, without-less}
-use Rattle.guard.proofs.Columns.{Gathering, gathering-none, gathering-next, gathering-all}
+use Rattle.bitset.specs.Sets.Laws.{with-lt}
+use Rattle.guard.proofs.Soundness.Members.{lowest}
+use Rattle.guard.proofs.Ties.{Walked, walk-start, walk-step, walk-less, walk-roles, Union, union-none, union-more, union-all}
 use Rattle.guard.proofs.scan.gather.Statement.{statement}
 use Rattle.guard.proofs.scan.gather.Tie as tie
 
 abbrev Inv-loop : tie.InvT-loop
-Inv-loop grants held reads₀ writes₀ executes₀ owns₀ left₀ reads writes executes owns left = (left < 2 ^ 16) × Gathering grants held 0 left reads × Gathering grants held 1 left writes × Gathering grants held 2 left executes × Gathering grants held 3 left owns
+Inv-loop grants held reads₀ writes₀ executes₀ owns₀ roles₀ left₀ reads writes executes owns roles left =
+    Walked grants held roles left × Union grants 0 roles reads × Union grants 1 roles writes × Union grants 2 roles executes × Union grants 3 roles owns
 
 abbrev μ-loop : tie.MeasureT-loop
-μ-loop grants held reads₀ writes₀ executes₀ owns₀ left₀ reads writes executes owns left = left
+μ-loop grants held reads₀ writes₀ executes₀ owns₀ roles₀ left₀ reads writes executes owns roles left = 65536 - roles
 
 low : (c : tie.In-loop Inv-loop μ-loop) → (trailingZeros 16 (c .before .loop .left) < 16) × (has (c .before .loop .left) (trailingZeros 16 (c .before .loop .left)) ≡ true)
-low c = lowest 16 (c .before .loop .left) (omega arith) (c .before .loop .inv .0)
+low c = lowest 16 (c .before .loop .left) (omega arith) (c .before .loop .inv .0 .small)
 
 loop-holds : tie.Need-loop-holds Inv-loop μ-loop
-loop-holds c = (omega arith, gathering-none _ _ 0, gathering-none _ _ 1, gathering-none _ _ 2, gathering-none _ _ 3)
+loop-holds c =
+    let grants = c .args .grants .now in
+    (walk-start grants _ (omega arith), union-none grants 0, union-none grants 1, union-none grants 2, union-none grants 3)
 
 cast-b : tie.Need-cast-b Inv-loop μ-loop
 cast-b c = omega (arith, low c .0)
@@ -63,28 +66,53 @@ mul-owns c = omega (arith, low (c .before .before .before) .0)
 element-copy-out-owns : tie.Need-element-copy-out-owns Inv-loop μ-loop
 element-copy-out-owns c = omega (arith, low (c .before .before .before) .0)
 
-without16-requires : tie.Need-without16-requires Inv-loop μ-loop
-without16-requires c κs = tt
+with16-requires : tie.Need-with16-requires Inv-loop μ-loop
+with16-requires c κs = tt
+
+cast-juniors : tie.Need-cast-juniors Inv-loop μ-loop
+cast-juniors c = omega (arith, low (c .before .before .before .before .before) .0)
+
+juniors-requires : tie.Need-juniors-requires Inv-loop μ-loop
+juniors-requires c κs = low (c .before .before .before .before .before) .0
+
+minus16-requires : tie.Need-minus16-requires Inv-loop μ-loop
+minus16-requires c κs = tt
 
 loop-less : tie.Need-loop-less Inv-loop μ-loop
-loop-less c = rw (c .without16 .ensures) (without-less _ _ (low (c .before .before .before .before .before) .1))
+loop-less c =
+    let d = c .before .before .before .before .before .before .before in
+    let (l, on) = low d in
+    let at = d .before .loop in
+    rw (c .before .before .with16 .ensures, mod-eq-of-lt l)
+    (omega (arith, walk-less (d .before .before .args .grants .now) _ (at .roles) (at .left) _ (at .inv .0) l on, at .inv .0 .little, with-lt 16 (at .roles) _ (at .inv .0 .little) l))
 
 loop-again : tie.Need-loop-again Inv-loop μ-loop
 unfolding join
 loop-again c =
-    let d = c .before .before .before .before .before in
+    let d = c .before .before .before .before .before .before .before in
     let (l, on) = low d in
-    let inv = d .before .loop .inv in
-    rw (c .without16 .ensures) (
-      omega (arith, without-le (d .before .loop .left) (trailingZeros 16 (d .before .loop .left)), inv .0),
-      rw (add-zero (4 * trailingZeros 16 (d .before .loop .left))) at (gathering-next _ _ 0 _ _ _ l on (inv .1)),
-      gathering-next _ _ 1 _ _ _ l on (inv .2),
-      gathering-next _ _ 2 _ _ _ l on (inv .3),
-      gathering-next _ _ 3 _ _ _ l on (inv .4),
+    let at = d .before .loop in
+    let inv = at .inv in
+    let grants = d .before .before .args .grants .now in
+    rw (c .minus16 .ensures, c .before .juniors .ensures, c .before .before .with16 .ensures, mod-eq-of-lt l) (
+      walk-step grants _ (at .roles) (at .left) _ (inv .0) l on,
+      rw (add-zero (4 * trailingZeros 16 (at .left))) at (union-more grants 0 (at .roles) (at .reads) (trailingZeros 16 (at .left)) l (inv .1)),
+      union-more grants 1 (at .roles) (at .writes) _ l (inv .2),
+      union-more grants 2 (at .roles) (at .executes) _ l (inv .3),
+      union-more grants 3 (at .roles) (at .owns) _ l (inv .4),
     )
 
 returns : tie.Need-returns Inv-loop μ-loop
-returns c = record { reads = gathering-all _ _ 0 _ _ (c .loop-test .left) (c .before .loop .inv .1); writes = gathering-all _ _ 1 _ _ (c .loop-test .left) (c .before .loop .inv .2); executes = gathering-all _ _ 2 _ _ (c .loop-test .left) (c .before .loop .inv .3); owns = gathering-all _ _ 3 _ _ (c .loop-test .left) (c .before .loop .inv .4) }
+returns c =
+    let at = c .before .loop in
+    let none = c .loop-test .left in
+    record {
+      reads = union-all _ 0 _ _ _ _ (at .inv .0) none (at .inv .1);
+      writes = union-all _ 1 _ _ _ _ (at .inv .0) none (at .inv .2);
+      executes = union-all _ 2 _ _ _ _ (at .inv .0) none (at .inv .3);
+      owns = union-all _ 3 _ _ _ _ (at .inv .0) none (at .inv .4);
+      roles = λ j l. walk-roles _ _ _ _ (at .inv .0) none j;
+    }
 
 pub gather-spec : {M : Type 1} → statement M
 gather-spec =
@@ -106,7 +134,10 @@ gather-spec =
     add-owns
     mul-owns
     element-copy-out-owns
-    without16-requires
+    with16-requires
+    cast-juniors
+    juniors-requires
+    minus16-requires
     loop-less
     loop-again
     returns)

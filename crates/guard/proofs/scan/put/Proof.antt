@@ -1,6 +1,6 @@
--- `put` stores the four sets of a role. Assumes nothing.
+-- `put` stores the four sets of a role and its juniors. Assumes nothing.
 use borrow.Author.Needs.{needs}
-use Rattle.guard.proofs.Columns.{put-four}
+use Rattle.guard.proofs.Columns.{put-five}
 use Rattle.guard.proofs.scan.put.Statement.{statement}
 use Rattle.guard.proofs.scan.put.Tie as tie
 
@@ -40,8 +40,20 @@ mul-grants-4 c = search needs
 element-write-grants-4 : tie.Need-element-write-grants-4
 element-write-grants-4 c = search needs
 
+cast-grants : tie.Need-cast-grants
+cast-grants c = search needs
+
+add-grants-4 : tie.Need-add-grants-4
+add-grants-4 c = search needs
+
+mul-grants-5 : tie.Need-mul-grants-5
+mul-grants-5 c = search needs
+
+element-write-grants-5 : tie.Need-element-write-grants-5
+element-write-grants-5 c = search needs
+
 returns : tie.Need-returns
-returns c = put-four _ _ _ (c .pre .1) (c .pre .0)
+returns c = let pre = c .before .pre in put-five _ _ _ (pre .1) (pre .0)
 
 pub put-spec : {M : Type 1} → statement M
 put-spec =
@@ -59,4 +71,8 @@ put-spec =
     add-grants-3
     mul-grants-4
     element-write-grants-4
+    cast-grants
+    add-grants-4
+    mul-grants-5
+    element-write-grants-5
     returns)

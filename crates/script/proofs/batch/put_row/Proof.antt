@@ -1,4 +1,4 @@
--- `put_row` stores twelve numbers one behind the other. Assumes nothing.
+-- `put_row` stores the numbers of a row one behind the other. Assumes nothing.
 use native.Mathlib.Omega.{arith}
 use lib.ListN.{length-set}
 use mathlib.Core.Path.{refl}
@@ -112,6 +112,15 @@ mul-rows-12 c = search needs
 slice-write-rows-12 : tie.Need-slice-write-rows-12
 slice-write-rows-12 c = simp length-set (omega arith)
 
+add-rows-12 : tie.Need-add-rows-12
+add-rows-12 c = search needs
+
+mul-rows-13 : tie.Need-mul-rows-13
+mul-rows-13 c = search needs
+
+slice-write-rows-13 : tie.Need-slice-write-rows-13
+slice-write-rows-13 c = simp length-set (omega arith)
+
 add-result : tie.Need-add-result
 add-result c = search needs
 
@@ -119,7 +128,7 @@ same-length : tie.Need-same-length
 same-length c = simp length-set
 
 returns : tie.Need-returns
-returns c = put-cons refl (put-cons (omega arith) (put-cons (omega arith) (put-cons (omega arith) (put-cons (omega arith) (put-cons (omega arith) (put-cons (omega arith) (put-cons (omega arith) (put-cons (omega arith) (put-cons (omega arith) (put-cons (omega arith) (put-cons (omega arith) put-nil)))))))))))
+returns c = put-cons refl (put-cons (omega arith) (put-cons (omega arith) (put-cons (omega arith) (put-cons (omega arith) (put-cons (omega arith) (put-cons (omega arith) (put-cons (omega arith) (put-cons (omega arith) (put-cons (omega arith) (put-cons (omega arith) (put-cons (omega arith) (put-cons (omega arith) put-nil))))))))))))
 
 pub put-row-spec : {M : Type 1} → statement M
 put-row-spec =
@@ -160,6 +169,9 @@ put-row-spec =
     add-rows-11
     mul-rows-12
     slice-write-rows-12
+    add-rows-12
+    mul-rows-13
+    slice-write-rows-13
     add-result
     same-length
     returns)

@@ -64,6 +64,15 @@ nums6 c = nums5 (c .before .before .before .before .before) ++ (c .before .share
 got6 : (c : tie.After-known-told6) → Took (start6 c .args .uses) (start6 c .args .given) (now (start6 c .args .vals)) 7 6 (nums6 c)
 got6 c = took (got5 (c .before .before .before .before .before)) (c .before .before .before .field6 .ensures) (c .before .shared .given .1)
 
+abbrev start7 : tie.After-known-told7 → tie.Start
+start7 c = start6 (c .before .before .before .before .before)
+
+abbrev nums7 : tie.After-known-told7 → List ℕ
+nums7 c = nums6 (c .before .before .before .before .before) ++ (c .before .junior .given .0 .0 ∷ [])
+
+got7 : (c : tie.After-known-told7) → Took (start7 c .args .uses) (start7 c .args .given) (now (start7 c .args .vals)) 7 7 (nums7 c)
+got7 c = took (got6 (c .before .before .before .before .before)) (c .before .before .before .field7 .ensures) (c .before .junior .given .1)
+
 element-copy-out-field : tie.Need-element-copy-out-field
 element-copy-out-field c = search needs
 
@@ -77,7 +86,7 @@ enum-told : tie.Need-enum-told
 enum-told c = search needs
 
 returns : tie.Need-returns
-returns c = asks-bad _ _ _ (faulty took-none (c .before .before .field .ensures) (c .enum-told .given .1) 5 _)
+returns c = asks-bad _ _ _ (faulty took-none (c .before .before .field .ensures) (c .enum-told .given .1) 6 _)
 
 element-copy-out-field-2 : tie.Need-element-copy-out-field-2
 element-copy-out-field-2 c = search needs
@@ -92,7 +101,7 @@ enum-told-2 : tie.Need-enum-told-2
 enum-told-2 c = search needs
 
 returns-2 : tie.Need-returns-2
-returns-2 c = asks-bad _ _ _ (faulty (got (c .before .before .before .before)) (c .before .before .field2 .ensures) (c .enum-told2 .given .1) 4 _)
+returns-2 c = asks-bad _ _ _ (faulty (got (c .before .before .before .before)) (c .before .before .field2 .ensures) (c .enum-told2 .given .1) 5 _)
 
 element-copy-out-field-3 : tie.Need-element-copy-out-field-3
 element-copy-out-field-3 c = search needs
@@ -107,7 +116,7 @@ enum-told-3 : tie.Need-enum-told-3
 enum-told-3 c = search needs
 
 returns-3 : tie.Need-returns-3
-returns-3 c = asks-bad _ _ _ (faulty (got2 (c .before .before .before .before)) (c .before .before .field3 .ensures) (c .enum-told3 .given .1) 3 _)
+returns-3 c = asks-bad _ _ _ (faulty (got2 (c .before .before .before .before)) (c .before .before .field3 .ensures) (c .enum-told3 .given .1) 4 _)
 
 element-copy-out-field-4 : tie.Need-element-copy-out-field-4
 element-copy-out-field-4 c = search needs
@@ -122,7 +131,7 @@ enum-told-4 : tie.Need-enum-told-4
 enum-told-4 c = search needs
 
 returns-4 : tie.Need-returns-4
-returns-4 c = asks-bad _ _ _ (faulty (got3 (c .before .before .before .before)) (c .before .before .field4 .ensures) (c .enum-told4 .given .1) 2 _)
+returns-4 c = asks-bad _ _ _ (faulty (got3 (c .before .before .before .before)) (c .before .before .field4 .ensures) (c .enum-told4 .given .1) 3 _)
 
 element-copy-out-field-5 : tie.Need-element-copy-out-field-5
 element-copy-out-field-5 c = search needs
@@ -137,7 +146,7 @@ enum-told-5 : tie.Need-enum-told-5
 enum-told-5 c = search needs
 
 returns-5 : tie.Need-returns-5
-returns-5 c = asks-bad _ _ _ (faulty (got4 (c .before .before .before .before)) (c .before .before .field5 .ensures) (c .enum-told5 .given .1) 1 _)
+returns-5 c = asks-bad _ _ _ (faulty (got4 (c .before .before .before .before)) (c .before .before .field5 .ensures) (c .enum-told5 .given .1) 2 _)
 
 element-copy-out-field-6 : tie.Need-element-copy-out-field-6
 element-copy-out-field-6 c = search needs
@@ -152,18 +161,33 @@ enum-told-6 : tie.Need-enum-told-6
 enum-told-6 c = search needs
 
 returns-6 : tie.Need-returns-6
-returns-6 c = asks-bad _ _ _ (faulty (got5 (c .before .before .before .before)) (c .before .before .field6 .ensures) (c .enum-told6 .given .1) 0 _)
+returns-6 c = asks-bad _ _ _ (faulty (got5 (c .before .before .before .before)) (c .before .before .field6 .ensures) (c .enum-told6 .given .1) 1 _)
+
+element-copy-out-field-7 : tie.Need-element-copy-out-field-7
+element-copy-out-field-7 c = search needs
+
+field-requires-7 : tie.Need-field-requires-7
+field-requires-7 c κs = search needs
+
+enum-known-junior : tie.Need-enum-known-junior
+enum-known-junior c = search needs
+
+enum-told-7 : tie.Need-enum-told-7
+enum-told-7 c = search needs
 
 returns-7 : tie.Need-returns-7
-unfolding front joined
-returns-7 c = asks-user _ _ _ _ _ _ _ _ _ (got6 (c .before) .so (these [])) (c .if1 .taken)
-
-sub-t15 : tie.Need-sub-t15
-sub-t15 c = search needs
+returns-7 c = asks-bad _ _ _ (faulty (got6 (c .before .before .before .before)) (c .before .before .field7 .ensures) (c .enum-told7 .given .1) 0 _)
 
 returns-8 : tie.Need-returns-8
 unfolding front joined
-returns-8 c = asks-request _ _ _ _ _ _ _ _ _ (got6 (c .before) .so (these [])) (c .if1 .left)
+returns-8 c = asks-user _ _ _ _ _ _ _ _ _ _ (got7 (c .before) .so (these [])) (c .if1 .taken)
+
+sub-t16 : tie.Need-sub-t16
+sub-t16 c = search needs
+
+returns-9 : tie.Need-returns-9
+unfolding front joined
+returns-9 c = asks-request _ _ _ _ _ _ _ _ _ _ (got7 (c .before) .so (these [])) (c .if1 .left)
 
 pub second-spec : {M : Type 1} → statement M
 second-spec =
@@ -199,6 +223,11 @@ second-spec =
     enum-known-shared
     enum-told-6
     returns-6
+    element-copy-out-field-7
+    field-requires-7
+    enum-known-junior
+    enum-told-7
     returns-7
-    sub-t15
-    returns-8)
+    returns-8
+    sub-t16
+    returns-9)

@@ -9,25 +9,21 @@ use Rattle.script.proofs.row.code_at.Tie as tie
 add-if2 : tie.Need-add-if2
 add-if2 c = search needs
 
-word-key-requires : tie.Need-word-key-requires
-word-key-requires c κs = search needs
+word-from-requires : tie.Need-word-from-requires
+word-from-requires c κs = search needs
 
-word-of-requires : tie.Need-word-of-requires
-word-of-requires c κs = search needs
-
-add-t15 : tie.Need-add-t15
-add-t15 c = search needs
+add-t14 : tie.Need-add-t14
+add-t14 c = search needs
 
 returns : tie.Need-returns
 returns c =
     let at-if3 = c .before in
-    let at-word-of = at-if3 .before in
-    let at-word-key = at-word-of .before in
-    let at-if2 = at-word-key .before in
+    let at-word-from = at-if3 .before .before in
+    let at-if2 = at-word-from .before in
     let at-if1 = at-if2 .before in
     let at-shared-slice-known = at-if1 .before in
     let start = at-shared-slice-known .before in
-    found-word (start .args .i) (start .args .from) _ _ _ (now (start .args .s)) (at-if1 .if1 .taken) (at-if2 .if2 .taken) (λ k. at-shared-slice-known .shared-slice-known .given k .fits) (at-word-key .word-key .ensures) (at-word-of .word-of .ensures) (at-if3 .if3 .taken)
+    found-word (start .args .i) (start .args .from) _ _ (now (start .args .s)) (at-if1 .if1 .taken) (at-if2 .if2 .taken) (λ k. at-shared-slice-known .shared-slice-known .given k .fits) (at-word-from .word-from .ensures) (at-if3 .if3 .taken)
 
 add-if4 : tie.Need-add-if4
 add-if4 c = search needs
@@ -53,8 +49,8 @@ add-byte c = search needs
 byte-requires-2 : tie.Need-byte-requires-2
 byte-requires-2 c κs = search needs
 
-add-t24 : tie.Need-add-t24
-add-t24 c = search needs
+add-t23 : tie.Need-add-t23
+add-t23 c = search needs
 
 returns-2 : tie.Need-returns-2
 returns-2 c =
@@ -92,8 +88,8 @@ append-requires-2 c κs =
     let at-if5 = at-append .before in
     (omega (arith, at-append .append .ensures, at-if5 .before .is-digit .ensures (at-if5 .if5 .taken)), omega (arith, at-if7 .before .is-digit2 .ensures (at-if7 .if7 .taken)))
 
-add-t32 : tie.Need-add-t32
-add-t32 c = search needs
+add-t31 : tie.Need-add-t31
+add-t31 c = search needs
 
 returns-3 : tie.Need-returns-3
 returns-3 c =
@@ -113,8 +109,8 @@ returns-3 c =
 pair-requires : tie.Need-pair-requires
 pair-requires c κs = search needs
 
-add-t35 : tie.Need-add-t35
-add-t35 c = search needs
+add-t34 : tie.Need-add-t34
+add-t34 c = search needs
 
 returns-4 : tie.Need-returns-4
 returns-4 c =
@@ -134,9 +130,8 @@ code-at-spec =
     tie.close
     (tie.spec
     add-if2
-    word-key-requires
-    word-of-requires
-    add-t15
+    word-from-requires
+    add-t14
     returns
     add-if4
     byte-requires
@@ -146,7 +141,7 @@ code-at-spec =
     append-requires
     add-byte
     byte-requires-2
-    add-t24
+    add-t23
     returns-2
     is-digit-requires-2
     add-if8
@@ -154,10 +149,10 @@ code-at-spec =
     sub-append-2
     cast-append-2
     append-requires-2
-    add-t32
+    add-t31
     returns-3
     pair-requires
-    add-t35
+    add-t34
     returns-4
     any-at-requires
     returns-5)

@@ -52,7 +52,7 @@ returns c =
     let at-byte2 = at-byte3 .before in
     let at-byte = at-byte2 .before in
     let start = at-byte .before .before in
-    (key-four _ _ _ _ _ _ (start .pre) (at-byte .byte .ensures .0) (at-byte2 .byte2 .ensures .0) (at-byte3 .byte3 .ensures .0) (c .byte4 .ensures .0), search needs)
+    (key-four _ _ _ _ _ _ (start .pre) (at-byte .byte .ensures .0) (at-byte2 .byte2 .ensures .0) (at-byte3 .byte3 .ensures .0) (c .byte4 .ensures .0), search needs, search needs)
 
 pub key4-spec : {M : Type 1} → statement M
 key4-spec =

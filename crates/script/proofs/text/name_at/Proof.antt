@@ -47,7 +47,10 @@ returns-13 : tie.Need-returns-13
 returns-13 c = at-key name-keys _ (c .before .before .shared-slice-known .given) (c .before .key .ensures) (c .match .keys13)
 
 returns-14 : tie.Need-returns-14
-returns-14 c = at-none name-keys _ (c .before .before .shared-slice-known .given) (c .before .key .ensures) (c .match .rest)
+returns-14 c = at-key name-keys _ (c .before .before .shared-slice-known .given) (c .before .key .ensures) (c .match .keys14)
+
+returns-15 : tie.Need-returns-15
+returns-15 c = at-none name-keys _ (c .before .before .shared-slice-known .given) (c .before .key .ensures) (c .match .rest)
 
 pub name-at-spec : {M : Type 1} → statement M
 name-at-spec =
@@ -67,4 +70,5 @@ name-at-spec =
     returns-11
     returns-12
     returns-13
-    returns-14)
+    returns-14
+    returns-15)
