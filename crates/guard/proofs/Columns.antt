@@ -8,7 +8,7 @@
 -- Assumes nothing.
 use Prim.Native.Nat.{ℕ, _+_, _*_, _/_, _%_, _≤_, _<_}
 use mathlib.Core.Path.{_≡_, refl, sym, ap, _∙_}
-use mathlib.Core.Bool.{Bool, true, false, not, _||_, or-false, or-assoc}
+use mathlib.Core.Bool.{Bool, true, false, not}
 use mathlib.Core.List.{List, [], _∷_, map}
 use native.Mathlib.Decide.{ℕ-discrete}
 use native.Mathlib.Nat.{add-zero}
@@ -18,9 +18,9 @@ use lib.ListN.{length, getD, set, length-set, List·getD-map}
 use lib.Seq.{getD-set-same, getD-set-other}
 use borrow.Author.Tests.{eqb-true, eq-eqb}
 use Rattle.bitset.specs.Tests.{every, some}
-use Rattle.bitset.specs.Tests.Laws.{both, clash, is-false, not-of-false, of-not-true, every-i, every-at, some-i, some-e, some-no-i, or-l, or-r, none-below}
-use Rattle.bitset.specs.Sets.{has, contains, without, join}
-use Rattle.bitset.specs.Sets.Laws.{has-none, has-join, has-without, has-without-other, without-none}
+use Rattle.bitset.specs.Tests.Laws.{both, clash, is-false, not-of-false, of-not-true, every-i, every-at, some-i, some-e, none-below}
+use Rattle.bitset.specs.Sets.{has, contains, without}
+use Rattle.bitset.specs.Sets.Laws.{has-none, has-without-other, without-none}
 use Rattle.guard.specs.Level.{isRoot}
 use Rattle.guard.specs.Told.{lowest}
 use Rattle.guard.specs.Tables.{noRole, noEntity, entityAt, execute, hasRight, isChild}

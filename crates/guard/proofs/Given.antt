@@ -31,7 +31,7 @@ use Rattle.guard.proofs.Laws.Juniors.{Has}
 use Rattle.guard.proofs.Laws.Rights.{contains-read, contains-write, contains-execute, contains-own}
 use Rattle.guard.proofs.Laws.Told.{lowest-cong, right-by, Opening}
 use Rattle.guard.proofs.Laws.Sound.{juniorIn, hasIn, RoleOk, TiesOk, BackedBy}
-use Rattle.guard.proofs.Ties.{tie-of}
+use Rattle.guard.proofs.Descent.{tie-of}
 
 -- what a role has by the column it has by the records
 module _ (t : Tables) (role : (r : ℕ) → r < 16 → RoleOk (t .entities) r (roleAt t r)) (grants : List ℕ) (G : Grants (t .roles) grants)

@@ -11,7 +11,7 @@ pub mod BackedOpens
 pub mod Taking
 pub mod Filling
 pub mod Granting
-pub mod Ties
+pub mod Descent
 pub mod TiesAsked
 pub mod Given
 pub mod Swept

@@ -2,9 +2,9 @@
 --     tied-of         unmake: the role has a junior or a senior
 --     cycle-of        join: the senior is the junior, or below it
 -- Assumes nothing.
-use Prim.Native.Nat.{ℕ, _+_, _^_, _<_}
+use Prim.Native.Nat.{ℕ, _+_, _<_}
 use mathlib.Core.Path.{_≡_, refl, sym, ap, _∙_}
-use mathlib.Core.Bool.{Bool, true, false, not}
+use mathlib.Core.Bool.{Bool, true, not}
 use mathlib.Core.List.{List, [], _∷_}
 use mathlib.Core.Logic.{⊎-elim}
 use native.Mathlib.Omega.{arith}
@@ -25,7 +25,7 @@ use Rattle.guard.specs.declared.Request.{Request}
 use Rattle.guard.proofs.Laws.Below.{meets-same}
 use Rattle.guard.proofs.Laws.Sound.{juniorIn, RoleOk}
 use Rattle.guard.proofs.Soundness.Members.{lowest}
-use Rattle.guard.proofs.Ties.{juniors-of, tie-of}
+use Rattle.guard.proofs.Descent.{juniors-of, tie-of}
 
 -- a test asked of one number alone
 one-of : (f : ℕ → Bool) (r : ℕ) → r < 16 → some 16 (λ b. every (f b ∷ eqb r b ∷ [])) ≡ f r

@@ -6,9 +6,9 @@
 --     untied-has                           a role without juniors has what its record says
 -- Assumes nothing.
 use Prim.Native.Nat.{ℕ, _<_}
-use mathlib.Core.Path.{_≡_, refl, sym, _∙_}
-use mathlib.Core.Bool.{Bool, true, false}
-use mathlib.Core.List.{List, [], _∷_}
+use mathlib.Core.Path.{_≡_, refl, _∙_}
+use mathlib.Core.Bool.{Bool, true}
+use mathlib.Core.List.{List}
 use lib.ListN.{getD}
 use Rattle.bitset.specs.Tests.Laws.{both, clash, either-l}
 use Rattle.bitset.specs.Sets.{has, contains}

@@ -3,10 +3,10 @@
 -- Assumes nothing.
 use Prim.Native.Nat.{ℕ, _<_}
 use mathlib.Core.Path.{_≡_, sym, ap, _∙_}
-use mathlib.Core.Bool.{Bool, true, false}
+use mathlib.Core.Bool.{true}
 use mathlib.Core.List.{List}
 use Rattle.bitset.specs.Tests.{all}
-use Rattle.bitset.specs.Tests.Laws.{decide, clash, is-false, not-of-false, of-not-true, of-not-false, every-i, every-at, implies-i, implies-e, all-i, all-e}
+use Rattle.bitset.specs.Tests.Laws.{clash, is-false, not-of-false, of-not-true, of-not-false, every-i, every-at, implies-i, implies-e, all-i, all-e}
 use Rattle.bitset.specs.Sets.{has}
 use Rattle.bitset.specs.Sets.Laws.{has-none}
 use Rattle.guard.specs.Tables.{roleAt}
@@ -14,7 +14,7 @@ use Rattle.guard.specs.Private.Scan.{Grants, tieBy, tieTest}
 use Rattle.guard.specs.declared.Tables.{Tables}
 use Rattle.guard.proofs.Laws.Below.{below-e, below-i, below-more}
 use Rattle.guard.proofs.Laws.Sound.Facts.{juniorIn, RoleOk, TiesOk}
-use Rattle.guard.proofs.Ties.{tie-of}
+use Rattle.guard.proofs.Descent.{tie-of}
 
 module _ (t : Tables) (role : (r : ℕ) → r < 16 → RoleOk (t .entities) r (roleAt t r)) (grants : List ℕ) (G : Grants (t .roles) grants)
     (live : ℕ) (L : (k : ℕ) → k < 16 → has live k ≡ roleAt t k .live) where

@@ -1,5 +1,4 @@
 -- `lost` joins what the two sets lost. Assumes nothing.
-use mathlib.Core.Path.{_≡_, sym, _∙_}
 use Rattle.bitset.specs.Sets.{join}
 use Rattle.guard.proofs.BackedOpens.{lost-as}
 use borrow.Author.Needs.{needs}

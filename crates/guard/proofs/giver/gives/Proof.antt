@@ -1,10 +1,9 @@
 -- `gives`: the role's own set has the entity, or one of a role below it. Assumes nothing.
-use mathlib.Core.Path.{_≡_, sym, _∙_}
+use mathlib.Core.Path.{sym, _∙_}
 use native.Mathlib.Nat.{mod-eq-of-lt}
-use borrow.Author.Tests.{eqb-true}
 use Rattle.bitset.specs.Tests.Laws.{either-l}
 use Rattle.guard.specs.Private.Scan.{juniorsBy, hasBy}
-use Rattle.guard.proofs.Ties.{given-one, untied-by, side-given}
+use Rattle.guard.proofs.Descent.{given-one, untied-by, side-given}
 use borrow.Author.Needs.{needs}
 use Rattle.guard.proofs.giver.gives.Statement.{statement}
 use Rattle.guard.proofs.giver.gives.Tie as tie

@@ -1,11 +1,10 @@
 -- `clear` takes the entity out of every set. Assumes nothing.
 use borrow.Author.Needs.{needs}
 use Prim.Native.Nat.{ℕ, _-_, _≤_}
-use mathlib.Core.Path.{_≡_, refl, sym, _∙_}
+use mathlib.Core.Path.{_≡_, refl}
 use native.Mathlib.Omega.{arith}
-use lib.ListN.{length, getD, List·getD-map}
+use lib.ListN.{length}
 use Rattle.bitset.specs.Sets.{without}
-use Rattle.bitset.specs.Sets.Laws.{without-none}
 use Rattle.guard.proofs.Sweeps.{mapped, mapped-step}
 use Rattle.guard.proofs.Columns.{cleared-all}
 use Rattle.guard.proofs.scan.clear.Statement.{statement}

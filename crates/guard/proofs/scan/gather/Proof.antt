@@ -1,5 +1,5 @@
 -- `gather` goes through the roles held and those below them, and joins what each of them gives. Assumes nothing.
-use Prim.Native.Nat.{_*_, _-_, _^_, _<_}
+use Prim.Native.Nat.{_*_, _-_, _<_}
 use mathlib.Core.Bool.{true}
 use mathlib.Core.Path.{_≡_}
 use native.Mathlib.Nat.{add-zero, mod-eq-of-lt}
@@ -8,7 +8,7 @@ use lib.Count.{trailingZeros}
 use Rattle.bitset.specs.Sets.{has, join}
 use Rattle.bitset.specs.Sets.Laws.{with-lt}
 use Rattle.guard.proofs.Soundness.Members.{lowest}
-use Rattle.guard.proofs.Ties.{Walked, walk-start, walk-step, walk-less, walk-roles, Union, union-none, union-more, union-all}
+use Rattle.guard.proofs.Descent.{Walked, walk-start, walk-step, walk-less, walk-roles, Union, union-none, union-more, union-all}
 use Rattle.guard.proofs.scan.gather.Statement.{statement}
 use Rattle.guard.proofs.scan.gather.Tie as tie
 

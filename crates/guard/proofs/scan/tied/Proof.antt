@@ -1,10 +1,10 @@
 -- `tied`: unmake looks for a junior or a senior, join for the senior at or below the junior. Assumes nothing.
-use mathlib.Core.Path.{_≡_, refl, sym, _∙_}
+use mathlib.Core.Path.{_∙_}
 use native.Mathlib.Nat.{mod-eq-of-lt}
 use borrow.Author.Tests.{eq-eqb, ne-eqb}
 use Rattle.bitset.specs.Tests.{either}
 use Rattle.guard.specs.Private.Scan.{tiedBy}
-use Rattle.guard.proofs.Ties.{met-one}
+use Rattle.guard.proofs.Descent.{met-one}
 use borrow.Author.Needs.{needs}
 use Rattle.guard.proofs.scan.tied.Statement.{statement}
 use Rattle.guard.proofs.scan.tied.Tie as tie

@@ -1,6 +1,6 @@
 -- `tie_ok` is the test of the ties of one role. Assumes nothing.
-use mathlib.Core.Path.{_≡_, sym, _∙_}
-use Rattle.guard.proofs.Ties.{tie-none, tie-away, tie-last}
+use mathlib.Core.Path.{sym, _∙_}
+use Rattle.guard.proofs.Descent.{tie-none, tie-away, tie-last}
 use borrow.Author.Needs.{needs}
 use Rattle.guard.proofs.sound.rights.tie_ok.Statement.{statement}
 use Rattle.guard.proofs.sound.rights.tie_ok.Tie as tie
