@@ -24,8 +24,8 @@ names =
     ∷ bytes "ceiling"
     ∷ []
 
--- .. and a thirteenth name `shared`; a names line without it is still read. Likewise a name `junior`; a names line without
--- `junior` is still read
+-- .. and a thirteenth name `shared`; a names line without it is still read. The program has the senior under `role` and gains
+-- a name `junior`; a names line without `junior` is still read
 unfoldable pub optionalNames : List (List ℕ)
 optionalNames = bytes "shared" ∷ bytes "junior" ∷ []
 
