@@ -145,7 +145,7 @@ module _ (junior : ℕ → ℕ → Bool) where
   -- "to any depth"
   pub below-e : (a b : ℕ) → below junior a b ≡ true → Below junior a b
   unfolding below
-  below-e = within-e 16
+  below-e a b h = within-e _ a b h
 
   pub below-i : (a b : ℕ) → a < 16 → Below junior a b → below junior a b ≡ true
   unfolding below
