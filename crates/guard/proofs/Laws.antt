@@ -17,5 +17,3 @@ pub mod Backed
 pub mod Ties
 pub mod SameRequest
 pub mod Edition
-pub mod Morning
-pub mod DeepTies

@@ -21,7 +21,7 @@ use Rattle.guard.specs.Methods.{request, loginRequest, roleRequest, entityReque
 use Rattle.guard.specs.declared.Request.{Request}
 use Rattle.guard.specs.declared.old.OldTables.{OldTables}
 use Rattle.guard.proofs.Compute.{computing}
-use Rattle.guard.proofs.Laws.Morning.{morningUsers}
+use Rattle.worked.proofs.Morning.{morningUsers}
 use Rattle.isolation.specs.Within.{fieldWithin, categoriesWithin}
 use Rattle.isolation.specs.Proof.OldWidth.{givenBack}
 

@@ -22,7 +22,7 @@ use Rattle.guard.specs.Label.{allCategories, noLabel}
 use Rattle.guard.specs.Tables.{edition1, edition2, noSession, noRole, noEntity, execute, hasRight}
 use Rattle.guard.specs.Sound.{sound}
 use Rattle.guard.specs.Fresh.{fresh}
-use Rattle.guard.proofs.Laws.Morning.{morningUsers}
+use Rattle.worked.proofs.Morning.{morningUsers}
 use Rattle.guard.proofs.Laws.Edition.{withEdition}
 use Rattle.guard.specs.Edits.{atSession, atRole, atEntity, eachRole, listing, tying, tieJunior, madeRole}
 use Rattle.guard.specs.Refusals.{Refusal, _when_, first}

@@ -8,17 +8,17 @@ use Prim.Native.Nat.{ℕ}
 use mathlib.Core.Path.{_≡_, refl}
 use mathlib.Core.Bool.{Bool, true, false}
 use Rattle.bitset.specs.Sets.{with}
 use Rattle.guard.specs.Tables.{edition1, holds, isReading, isWriting, isBelow, read, write, own, roleFor, hasRight}
 use Rattle.guard.specs.Edits.{atSession, atRole, holding, opening, tying, granting, madeRole}
 use Rattle.guard.specs.Fresh.{fresh}
 use Rattle.guard.specs.Conditions.{closesCycle}
 use Rattle.guard.specs.Requests.{unjoin, loggedIn}
 use Rattle.guard.specs.Methods.{loginRequest, tieRequest}
 use Rattle.guard.specs.Kind as kind
 use Rattle.guard.specs.declared.Tables.{Tables}
 use Rattle.guard.specs.declared.Told.the-variants.{By, None}
 use Rattle.guard.proofs.Compute.{computing}
-use Rattle.guard.proofs.Laws.Morning.{morningUsers}
+use Rattle.worked.proofs.Morning.{morningUsers}
 
 -- roles 13, 14 and 15 with such juniors, and role 12; 15 has read and write on entity 48. Session 12 holds role `held`, and has 48 open
 -- both ways
