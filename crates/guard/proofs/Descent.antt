@@ -29,7 +29,7 @@ use Rattle.guard.specs.Tables.{noRole}
 use Rattle.guard.specs.Private.Scan.{Grants, juniorsBy, tieBy, metBy, tieTest, hasBy, given, sideOf, Gathered}
 use Rattle.guard.specs.declared.Role.{Role}
 use Rattle.guard.specs.declared.scan.Rights.{Rights}
-use Rattle.guard.proofs.Laws.Below.{Below, direct, through, below-e, below-i, Meets, itself, by, meets-e, meets-i}
+use Rattle.guard.proofs.Laws.Below.{Below, direct, through, below-e, below-i, Meets, itself, by, meets-e, meets-i, meets-alone}
 use Rattle.guard.proofs.Soundness.Members.{without-less, within-mask}
 use Rattle.guard.proofs.Ranges.{span}
 
@@ -216,14 +216,10 @@ module _ (grants : List ℕ) (r : ℕ) (l : r < 16) where
   unfolding metBy
   met-one j = asked-one (orBelow (tieBy grants) (eqb j)) r l
 
-  -- without juniors it has what its own sets have, and nothing is below it
+  -- without juniors it has what its own sets have
   pub untied-by : juniorsBy grants r ≡ 0 → (k e : ℕ) → hasBy grants k e r ≡ has (getD grants (4 * r + k) 0) e
   unfolding hasBy
-  untied-by none k e = both _ _ (λ h. go (meets-e _ _ r h)) (either-l _ _)
-    where
-      go : Finds grants (λ j. has (getD grants (4 * j + k) 0) e) r → has (getD grants (4 * r + k) 0) e ≡ true
-      go (itself g) = g
-      go (by m b tie f) = absurd (clash _ (rw none at tie) (has-none m))
+  untied-by none k e = meets-alone (tieBy grants) (λ j. has (getD grants (4 * j + k) 0) e) r (λ m tie. clash _ (rw none at tie) (has-none m))
 
   -- what the juniors of r meet is what is below it
   pub met-below : (j : ℕ) → j < 16 → metBy grants (juniorsBy grants r) j ≡ below (tieBy grants) r j

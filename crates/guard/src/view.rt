@@ -9,9 +9,10 @@ use crate::scan::Found;
 ghost use mathlib.Core.Path.{_≡_};
 ghost use Rattle.guard.specs.Private.Inside.{viewOf};
 
-// The records that a request concerns: the acting session, the user, the marks of the role and its juniors, whether the junior named is
-// live, the entity, and the parent (create: the one named; else the entity's). A number past its range has some other record in its place, and `fits` says
-// whether one that the kind uses is. `found` is what the scans found, `edition` that of the tables.
+// The records that a request concerns: the acting session, the user, the marks of the role and its juniors, whether the junior
+// named is live (`alive`), the entity, and the parent (create: the one named; else the entity's). A number past its range has
+// some other record in its place, and `fits` says whether one that the kind uses is. `found` is what the scans found, `edition`
+// that of the tables.
 pub struct View {
     pub fits: bool,
     pub session: Session,

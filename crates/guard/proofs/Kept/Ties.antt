@@ -110,7 +110,7 @@ module _ (roles : List Role) (r j : ℕ) (long : length roles ≡ 16) (small : r
   unfolding tieJunior
   joined-ties ok live alive level two apart =
       record {
-        joined = λ a b l k tie. ⊎-elim (λ was. old a b l k was) (λ (here, there). rw (here, there) (new)) (tie-new a b l tie);
+        joined = λ a b l k tie. ⊎-elim (λ was. old a b l k was) (λ (here, there). rw (here, there) new) (tie-new a b l tie);
         noCycle = λ a l b. ⊎-elim (ok .noCycle a l) (cycle a l) (below-joined a a l b);
       }
     where

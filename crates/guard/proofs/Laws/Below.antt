@@ -3,7 +3,8 @@
 --     below-iff                       the walk is that
 --     below-more                      with no tie less
 --     Meets, meets-iff                a role that meets a test itself, or by one below it
---     meets-same                      .. by the same ties and tests
+--     meets-more, meets-same          .. with no tie less and no test less; by the same ties and tests
+--     meets-alone                     .. where it has no juniors
 -- Assumes nothing.
 use Prim.Native.Nat.{ℕ, zero, suc, _+_, _-_, _≤_, _<_}
 use mathlib.Core.Path.{_≡_, refl, sym, _∙_}
@@ -186,15 +187,26 @@ module _ (junior : ℕ → ℕ → Bool) (p : ℕ → Bool) where
   pub meets-iff : (a : ℕ) → a < 16 → orBelow junior p a ≡ true ↔ Meets junior p a
   meets-iff a l = (meets-e a, meets-i a l)
 
+-- with no tie less, and what met the first test meets the second
+pub meets-more : (old new : ℕ → ℕ → Bool) (p q : ℕ → Bool) → ((a b : ℕ) → a < 16 → b < 16 → old a b ≡ true → new a b ≡ true)
+    → ((a : ℕ) → a < 16 → p a ≡ true → q a ≡ true) → (a : ℕ) → a < 16 → orBelow old p a ≡ true → orBelow new q a ≡ true
+meets-more old new p q ties tests a l h = meets-i _ _ a l (go a l (meets-e _ _ a h))
+  where
+    go : (a : ℕ) → a < 16 → Meets old p a → Meets new q a
+    go a l (itself h) = itself (tests a l h)
+    go a l (by m k h f) = by m k (ties a m l k h) (go m k f)
+
 -- the same ties and the same tests
 pub meets-same : (old new : ℕ → ℕ → Bool) (p q : ℕ → Bool) → ((a b : ℕ) → a < 16 → b < 16 → old a b ≡ new a b) → ((a : ℕ) → a < 16 → p a ≡ q a)
     → (a : ℕ) → a < 16 → orBelow old p a ≡ orBelow new q a
 meets-same old new p q ties tests a l =
-    both _ _
-    (λ h. meets-i _ _ a l (go old new p q (λ a b c d e. sym (ties a b c d) ∙ e) (λ a c e. sym (tests a c) ∙ e) a l (meets-e _ _ a h)))
-    (λ h. meets-i _ _ a l (go new old q p (λ a b c d e. ties a b c d ∙ e) (λ a c e. tests a c ∙ e) a l (meets-e _ _ a h)))
+    both _ _ (meets-more old new p q (λ a b c d e. sym (ties a b c d) ∙ e) (λ a c e. sym (tests a c) ∙ e) a l)
+    (meets-more new old q p (λ a b c d e. ties a b c d ∙ e) (λ a c e. tests a c ∙ e) a l)
+
+-- without juniors it meets the test by itself
+pub meets-alone : (junior : ℕ → ℕ → Bool) (p : ℕ → Bool) (a : ℕ) → ((m : ℕ) → junior a m ≡ true → ⊥) → orBelow junior p a ≡ p a
+meets-alone junior p a none = both _ _ (λ h. go (meets-e _ _ a h)) (either-l _ _)
   where
-    go : (old new : ℕ → ℕ → Bool) (p q : ℕ → Bool) → ((a b : ℕ) → a < 16 → b < 16 → old a b ≡ true → new a b ≡ true) → ((a : ℕ) → a < 16 → p a ≡ true → q a ≡ true)
-        → (a : ℕ) → a < 16 → Meets old p a → Meets new q a
-    go old new p q ties tests a l (itself h) = itself (tests a l h)
-    go old new p q ties tests a l (by m k h f) = by m k (ties a m l k h) (go old new p q ties tests m k f)
+    go : Meets junior p a → p a ≡ true
+    go (itself h) = h
+    go (by m k tie f) = absurd (none m tie)

@@ -1,7 +1,7 @@
 -- The rights of a role, its own and those of the roles below it, over a list of roles.
 --     roleIn, juniorIn, givesIn, hasIn     a role of the list, its direct juniors, what its own record gives, and what it has
 --     has-in                               "a role then also has the rights of its juniors, and of theirs, to any depth": this is that
---     has-e, has-i                         it has a right exactly if its record gives it, or that of a role below it
+--     Has                                  the same with no bound on the number of ties
 --     has-more                             with no tie less and no right less in any record, no role has less
 --     untied-has                           a role without juniors has what its record says
 -- Assumes nothing.
@@ -10,14 +10,14 @@ use mathlib.Core.Path.{_≡_, refl, _∙_}
 use mathlib.Core.Bool.{Bool, true}
 use mathlib.Core.List.{List}
 use lib.ListN.{getD}
-use Rattle.bitset.specs.Tests.Laws.{both, clash, either-l}
+use Rattle.bitset.specs.Tests.Laws.{clash}
 use Rattle.bitset.specs.Sets.{has, contains}
 use Rattle.bitset.specs.Sets.Laws.{has-none}
 use Rattle.guard.specs.Tables.{noRole, roleAt, rightsOf, rightsOn, roleHas}
 use Rattle.guard.specs.declared.Role.{Role}
 use Rattle.guard.specs.declared.Tables.{Tables}
 use Rattle.guard.specs.Below.{orBelow}
-use Rattle.guard.proofs.Laws.Below.{Meets, itself, by, meets-e, meets-i}
+use Rattle.guard.proofs.Laws.Below.{Meets, meets-more, meets-alone}
 
 abbrev pub roleIn : List Role → ℕ → Role
 roleIn roles r = getD roles r noRole
@@ -43,16 +43,8 @@ pub has-more : (old new : List Role) (right e : ℕ)
     → ((r j : ℕ) → r < 16 → j < 16 → juniorIn old r j ≡ true → juniorIn new r j ≡ true)
     → ((r : ℕ) → r < 16 → givesIn old right e r ≡ true → givesIn new right e r ≡ true)
     → (r : ℕ) → r < 16 → hasIn old right e r ≡ true → hasIn new right e r ≡ true
-has-more old new right e ties gives r l h = meets-i _ _ r l (go r l (meets-e _ _ r h))
-  where
-    go : (r : ℕ) → r < 16 → Has old right e r → Has new right e r
-    go r l (itself g) = itself (gives r l g)
-    go r l (by m k tie f) = by m k (ties r m l k tie) (go m k f)
+has-more old new right e ties gives r l = meets-more _ _ _ _ ties gives r l
 
 -- a role without juniors has what its record says
 pub untied-has : (t : Tables) (r right e : ℕ) → r < 16 → roleAt t r .juniors ≡ 0 → roleHas t r right e ≡ contains (rightsOn t r e) right
-untied-has t r right e l none = has-in t r right e ∙ both _ _ (λ h. go (meets-e _ _ r h)) (either-l _ _)
-  where
-    go : Has (t .roles) right e r → givesIn (t .roles) right e r ≡ true
-    go (itself g) = g
-    go (by m k tie f) = absurd (clash _ (rw none at tie) (has-none m))
+untied-has t r right e l none = has-in t r right e ∙ meets-alone (juniorIn (t .roles)) (givesIn (t .roles) right e) r (λ m tie. clash _ (rw none at tie) (has-none m))
