@@ -1,5 +1,5 @@
 -- What the code computes on words of w bits is the operation of specs/Sets, at any w.
---     has_code, one_shifted, with_code, minus-code, without-code, without-past
+--     has_code, one_shifted, with_code, minus_code, without_code, without_past
 -- Assumes nothing.
 use Prim.Native.Nat.{ℕ, ◌-◌, ◌*◌, ◌/◌, ◌%◌, ◌^◌, ◌≤◌, ◌<◌}
 use mathlib.Core.Bool.{not, and_assoc}
@@ -10,7 +10,7 @@ use lib.Bits.{bit_and, bit_or, and_mask, and_comm, and_shifted}
 use lib.Dec.{eqb}
 use lib.Pow.{pow-lt, pow_mono}
 use Rattle.bitset.specs.Sets.{has, join, minus, with, without}
-use Rattle.bitset.specs.Sets.Laws.{sets-ext, has_meet, has-minus, minus-add-meet}
+use Rattle.bitset.specs.Sets.Laws.{sets_ext, has_meet, has_minus, minus_add_meet}
 
 pub has_code : (s i : ℕ) → eqb (bit_and (s / 2 ^ i) 1) 1 ≡ has s i
 unfolding has
@@ -24,26 +24,26 @@ unfolding with join
 with_code w s i h = ap (bit_or s) (one_shifted w i h)
 
 -- each member below w is one of the mask of w ones
-under-mask : (w s : ℕ) → s < 2 ^ w → bit_and s (2 ^ w - 1) ≡ s
-under-mask w s h = and_mask s w ∙ mod-eq_of_lt h
+under_mask : (w s : ℕ) → s < 2 ^ w → bit_and s (2 ^ w - 1) ≡ s
+under_mask w s h = and_mask s w ∙ mod-eq_of_lt h
 
 -- so the complement takes from the mask
 pub complement : (w m : ℕ) → m < 2 ^ w → 2 ^ w - 1 - m ≡ minus (2 ^ w - 1) m
-complement w m h = omega (arith, minus-add-meet (2 ^ w - 1) m, and_comm (2 ^ w - 1) m ∙ under-mask w m h)
+complement w m h = omega (arith, minus_add_meet (2 ^ w - 1) m, and_comm (2 ^ w - 1) m ∙ under_mask w m h)
 
-meet-minus : (s t m : ℕ) → bit_and s (minus t m) ≡ minus (bit_and s t) m
-meet-minus s t m = sets-ext _ _ (λ i. simp (has_meet, has-minus) (sym (and_assoc (has s i) (has t i) (not (has m i)))))
+meet_minus : (s t m : ℕ) → bit_and s (minus t m) ≡ minus (bit_and s t) m
+meet_minus s t m = sets_ext _ _ (λ i. simp (has_meet, has_minus) (sym (and_assoc (has s i) (has t i) (not (has m i)))))
 
-pub minus-code : (w s m : ℕ) → s < 2 ^ w → m < 2 ^ w → bit_and s (2 ^ w - 1 - m) ≡ minus s m
-minus-code w s m h l = rw (complement w m, meet-minus, under-mask w s)
+pub minus_code : (w s m : ℕ) → s < 2 ^ w → m < 2 ^ w → bit_and s (2 ^ w - 1 - m) ≡ minus s m
+minus_code w s m h l = rw (complement w m, meet_minus, under_mask w s)
 
-pub without-code : (w s i : ℕ) → s < 2 ^ w → i < w → bit_and s (2 ^ w - 1 - (1 * 2 ^ i) % 2 ^ w) ≡ without s i
+pub without_code : (w s i : ℕ) → s < 2 ^ w → i < w → bit_and s (2 ^ w - 1 - (1 * 2 ^ i) % 2 ^ w) ≡ without s i
 unfolding without
-without-code w s i h l = rw one_shifted (minus-code w s (2 ^ i) h (pow-lt l))
+without_code w s i h l = rw one_shifted (minus_code w s (2 ^ i) h (pow-lt l))
 
-pub without-past : (w s i : ℕ) → s < 2 ^ w → w ≤ i → without s i ≡ s
+pub without_past : (w s i : ℕ) → s < 2 ^ w → w ≤ i → without s i ≡ s
 unfolding without
-without-past w s i h l = omega (arith, minus-add-meet s (2 ^ i), and_comm s (2 ^ i) ∙ apart)
+without_past w s i h l = omega (arith, minus_add_meet s (2 ^ i), and_comm s (2 ^ i) ∙ apart)
   where
     apart : bit_and (2 ^ i) s ≡ 0
     apart = rw one-mul at (and_shifted 1 i s (lt_of_lt_of_le h (pow_mono l)))

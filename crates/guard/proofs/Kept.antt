@@ -1,20 +1,20 @@
 -- Soundness is kept: for all sound tables and every request, of unknown kind too, done or refused, the tables handed
 -- back are sound; so also after a log of any length. They stay formed, one file a kind of edit, and their opens backed (Backed).
---     sound-nextIn                in any width
---     sound-next, sound-run       in force
+--     sound_next_in                in any width
+--     sound_next, sound_run       in force
 -- Assumes nothing.
 use Prim.Native.Nat.{ℕ}
 use mathlib.Core.Path.{◌≡◌}
 use mathlib.Core.Bool.{true}
 use mathlib.Core.List.{List, [], ◌∷◌}
-use Rattle.guard.specs.Label.{allCategories}
-use Rattle.guard.specs.Sound.{soundIn, sound}
+use Rattle.guard.specs.Label.{all_categories}
+use Rattle.guard.specs.Sound.{sound_in, sound}
 use Rattle.guard.specs.Requests.{grant, revoke, list, unlist, make, unmake, share, join, unjoin, unknown, rules}
-use Rattle.guard.specs.Step.{nextIn, next, runIn, run}
+use Rattle.guard.specs.Step.{next_in, next, run_in, run}
 use Rattle.guard.specs.declared.Tables.{Tables}
 use Rattle.guard.specs.declared.Request.{Request}
-use Rattle.guard.proofs.Laws.Sound.{formed-e, backed-e, sound-i}
-use Rattle.guard.proofs.Laws.Step.{next-by, Each, each-rule}
+use Rattle.guard.proofs.Laws.Sound.{formed_e, backed_e, sound_i}
+use Rattle.guard.proofs.Laws.Step.{next_by_lem, Each, each_rule}
 use Sessions.{Keeps, keeps-login, keeps-logout, keeps-take, keeps-drop, keeps-openr, keeps-openw, keeps-close}
 use Backed.{KeepsBacked, backs-login, backs-logout, backs-take, backs-drop, backs-openr, backs-openw, backs-close, backs-create, backs-delete, backs-rename, backs-grant, backs-revoke, backs-list, backs-unlist, backs-make, backs-unmake, backs-share, backs-join, backs-unjoin}
 use Roles.{keeps-grant, keeps-revoke, keeps-list, keeps-unlist, keeps-make, keeps-unmake, keeps-join, keeps-unjoin}
@@ -40,31 +40,31 @@ each_keeps width = (keeps-login, (keeps-logout, (keeps-take, (keeps-drop, (keeps
     more : Each (Keeps width) (grant ∷ revoke ∷ list ∷ unlist ∷ make ∷ unmake ∷ share ∷ join ∷ unjoin ∷ [])
     more = (keeps-grant, (keeps-revoke, (keeps-list, (keeps-unlist, (keeps-make, (keeps-unmake, (keeps-share, (keeps-join, (keeps-unjoin, tt)))))))))
 
-keeps-unknown : (width : ℕ) → Keeps width unknown
+keeps_unknown : (width : ℕ) → Keeps width unknown
 unfolding unknown
-keeps-unknown width t q d = formed-e t d.isSound
+keeps_unknown width t q d = formed_e t d.is_sound
 
-each-backs : (width : ℕ) → Each (KeepsBacked width) rules
+each_backs : (width : ℕ) → Each (KeepsBacked width) rules
 unfolding rules
-each-backs width = (backs-login, (backs-logout, (backs-take, (backs-drop, (backs-openr, (backs-openw, (backs-close, (backs-create, (backs-delete, (backs-rename, more))))))))))
+each_backs width = (backs-login, (backs-logout, (backs-take, (backs-drop, (backs-openr, (backs-openw, (backs-close, (backs-create, (backs-delete, (backs-rename, more))))))))))
   where
     more : Each (KeepsBacked width) (grant ∷ revoke ∷ list ∷ unlist ∷ make ∷ unmake ∷ share ∷ join ∷ unjoin ∷ [])
     more = (backs-grant, (backs-revoke, (backs-list, (backs-unlist, (backs-make, (backs-unmake, (backs-share, (backs-join, (backs-unjoin, tt)))))))))
 
-backs-unknown : (width : ℕ) → KeepsBacked width unknown
+backs_unknown : (width : ℕ) → KeepsBacked width unknown
 unfolding unknown
-backs-unknown width t q d = backed-e _ t d.isSound
+backs_unknown width t q d = backed_e _ t d.is_sound
 
-pub sound-nextIn : (width : ℕ) (t : Tables) (q : Request) → soundIn width t ≡ true → soundIn width (nextIn width t q) ≡ true
-sound-nextIn width t q h =
-    next-by (λ u. soundIn width u ≡ true) t q h (λ d.
-    sound-i _ (each-rule (Keeps width) (each_keeps width) (keeps-unknown width) q t q d)
-    (each-rule (KeepsBacked width) (each-backs width) (backs-unknown width) q t q d))
+pub sound_next_in : (width : ℕ) (t : Tables) (q : Request) → sound_in width t ≡ true → sound_in width (next_in width t q) ≡ true
+sound_next_in width t q h =
+    next_by_lem (λ u. sound_in width u ≡ true) t q h (λ d.
+    sound_i _ (each_rule (Keeps width) (each_keeps width) (keeps_unknown width) q t q d)
+    (each_rule (KeepsBacked width) (each_backs width) (backs_unknown width) q t q d))
 
-pub sound-next : (t : Tables) (q : Request) → sound t ≡ true → sound (next t q) ≡ true
-sound-next = sound-nextIn allCategories
+pub sound_next : (t : Tables) (q : Request) → sound t ≡ true → sound (next t q) ≡ true
+sound_next = sound_next_in all_categories
 
-pub sound-run : (t : Tables) (log : List Request) → sound t ≡ true → sound (run t log) ≡ true
-unfolding runIn
-sound-run t [] h = h
-sound-run t (q ∷ log) h = sound-run (next t q) log (sound-next t q h)
+pub sound_run : (t : Tables) (log : List Request) → sound t ≡ true → sound (run t log) ≡ true
+unfolding run_in
+sound_run t [] h = h
+sound_run t (q ∷ log) h = sound_run (next t q) log (sound_next t q h)

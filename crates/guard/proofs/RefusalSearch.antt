@@ -8,7 +8,7 @@ use mathlib.Core.Path.{◌≡◌, refl, sym, ◌∙◌}
 use mathlib.Core.Bool.{Bool, true, false, not, ◌&&◌, ◌||◌}
 use mathlib.Core.List.{List, [], ◌∷◌}
 use borrow.Author.Tests.{le-leb, lt-leb, lt-ltb, le-ltb, eq-eqb, ne_eqb, not-true, not-false}
-use Rattle.bitset.specs.Tests.Laws.{not-of-true, not_of_false, either_l, either_r, either-none}
+use Rattle.bitset.specs.Tests.Laws.{not_of_true, not_of_false, either_l, either_r, either_none}
 use Rattle.guard.specs.Refusals.{Refusal, first, ◌when◌}
 
 pub hit : (n : ℕ) (b : Bool) (cs : List Refusal) → b ≡ true → n ≡ first (n when b ∷ cs)
@@ -23,16 +23,16 @@ pub none : 0 ≡ first []
 unfolding first
 none = refl
 
-pub by-true : (a b : Bool) → a ≡ b → a ≡ true → b ≡ true
-by-true a b e h = sym e ∙ h
+pub by_true : (a b : Bool) → a ≡ b → a ≡ true → b ≡ true
+by_true a b e h = sym e ∙ h
 
-pub by-false : (a b : Bool) → a ≡ b → a ≡ false → b ≡ false
-by-false a b e h = sym e ∙ h
+pub by_false : (a b : Bool) → a ≡ b → a ≡ false → b ≡ false
+by_false a b e h = sym e ∙ h
 
-pub by-not-true : (a b : Bool) → a ≡ b → not a ≡ true → b ≡ false
-by-not-true a b e h = sym e ∙ not-true a h
+pub by_not_true : (a b : Bool) → a ≡ b → not a ≡ true → b ≡ false
+by_not_true a b e h = sym e ∙ not-true a h
 
-pub by-not-false : (a b : Bool) → a ≡ b → not a ≡ false → b ≡ true
-by-not-false a b e h = sym e ∙ not-false a h
+pub by_not_false : (a b : Bool) → a ≡ b → not a ≡ false → b ≡ true
+by_not_false a b e h = sym e ∙ not-false a h
 
-pub ruleset refusing = (hit, miss, none, not-of-true, not_of_false, either_l, either_r, either-none, le-leb, lt-leb, lt-ltb, le-ltb, eq-eqb, ne_eqb, by-true, by-false, by-not-true, by-not-false)
+pub ruleset refusing = (hit, miss, none, not_of_true, not_of_false, either_l, either_r, either_none, le-leb, lt-leb, lt-ltb, le-ltb, eq-eqb, ne_eqb, by_true, by_false, by_not_true, by_not_false)

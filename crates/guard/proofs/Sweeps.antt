@@ -1,9 +1,9 @@
 -- Loops that take each record of a list by a function.
 --     mapped                        the first i records by f, the others as they are
---     mapped-more, mapped-step      one record more
---     mapped-all, mapped_end         all of them
---     mapped-length                 as many as before
---     mapped_at, mapped-past        a record of the first, and one past them
+--     mapped_more, mapped_step      one record more
+--     mapped_all, mapped_end         all of them
+--     mapped_length                 as many as before
+--     mapped_at, mapped_past        a record of the first, and one past them
 -- Assumes nothing.
 use Prim.Native.Nat.{ℕ, zero, suc, ◌+◌, ◌≤◌, ◌<◌}
 use mathlib.Core.Path.{◌≡◌, refl, ap, ◌∙◌}
@@ -24,17 +24,17 @@ module _ {A : Type 0} (f : A → A) where
   mapped_next (suc i) [] d = refl
   mapped_next (suc i) (x ∷ l) d = ap (λ (k : List A). f x ∷ k) (mapped_next i l d)
 
-  pub mapped-more : (i : ℕ) (l : List A) (d : A) → set (mapped i l) i (f (get_or (mapped i l) i d)) ≡ mapped (i + 1) l
-  mapped-more i l d = rw add-one (mapped_next i l d)
+  pub mapped_more : (i : ℕ) (l : List A) (d : A) → set (mapped i l) i (f (get_or (mapped i l) i d)) ≡ mapped (i + 1) l
+  mapped_more i l d = rw add-one (mapped_next i l d)
 
-  pub mapped-all : (l : List A) → mapped (length l) l ≡ map f l
-  mapped-all [] = refl
-  mapped-all (x ∷ l) = ap (λ (k : List A). f x ∷ k) (mapped-all l)
+  pub mapped_all : (l : List A) → mapped (length l) l ≡ map f l
+  mapped_all [] = refl
+  mapped_all (x ∷ l) = ap (λ (k : List A). f x ∷ k) (mapped_all l)
 
-  pub mapped-length : (i : ℕ) (l : List A) → length (mapped i l) ≡ length l
-  mapped-length zero l = refl
-  mapped-length (suc i) [] = refl
-  mapped-length (suc i) (x ∷ l) = ap suc (mapped-length i l)
+  pub mapped_length : (i : ℕ) (l : List A) → length (mapped i l) ≡ length l
+  mapped_length zero l = refl
+  mapped_length (suc i) [] = refl
+  mapped_length (suc i) (x ∷ l) = ap suc (mapped_length i l)
 
   pub mapped_at : (n : ℕ) (l : List A) (i : ℕ) (d : A) → i < n → i < length l → get_or (mapped n l) i d ≡ f (get_or l i d)
   mapped_at zero l i d h k = absurd (omega arith)
@@ -42,17 +42,17 @@ module _ {A : Type 0} (f : A → A) where
   mapped_at (suc n) (x ∷ l) zero d h k = refl
   mapped_at (suc n) (x ∷ l) (suc i) d h k = mapped_at n l i d (omega arith) (omega arith)
 
-  pub mapped-past : (n : ℕ) (l : List A) (i : ℕ) (d : A) → n ≤ i → get_or (mapped n l) i d ≡ get_or l i d
-  mapped-past zero l i d h = refl
-  mapped-past (suc n) [] i d h = refl
-  mapped-past (suc n) (x ∷ l) zero d h = absurd (omega arith)
-  mapped-past (suc n) (x ∷ l) (suc i) d h = mapped-past n l i d (omega arith)
+  pub mapped_past : (n : ℕ) (l : List A) (i : ℕ) (d : A) → n ≤ i → get_or (mapped n l) i d ≡ get_or l i d
+  mapped_past zero l i d h = refl
+  mapped_past (suc n) [] i d h = refl
+  mapped_past (suc n) (x ∷ l) zero d h = absurd (omega arith)
+  mapped_past (suc n) (x ∷ l) (suc i) d h = mapped_past n l i d (omega arith)
 
-  mapped-done : (l : List A) (n : ℕ) → length l ≡ n → mapped n l ≡ map f l
-  mapped-done l n h = rw (← h) (mapped-all l)
+  mapped_done : (l : List A) (n : ℕ) → length l ≡ n → mapped n l ≡ map f l
+  mapped_done l n h = rw (← h) (mapped_all l)
 
-  pub mapped-step : (i : ℕ) (l n : List A) (d x : A) → n ≡ mapped i l → x ≡ f (get_or n i d) → set n i x ≡ mapped (i + 1) l
-  mapped-step i l n d x h same = rw (same, h) (mapped-more i l d)
+  pub mapped_step : (i : ℕ) (l n : List A) (d x : A) → n ≡ mapped i l → x ≡ f (get_or n i d) → set n i x ≡ mapped (i + 1) l
+  mapped_step i l n d x h same = rw (same, h) (mapped_more i l d)
 
   pub mapped_end : (l n : List A) (i k : ℕ) → n ≡ mapped i l → i ≡ k → length l ≡ k → n ≡ map f l
-  mapped_end l n i k h e long = h ∙ rw e (mapped-done l k long)
+  mapped_end l n i k h e long = h ∙ rw e (mapped_done l k long)

@@ -1,178 +1,178 @@
 -- Numbers handed back, by who brings them on: the condition of each. 1 and 2 stand in Step, 17 is the request program's.
 use Rattle.std.specs.Prelude.{ℕ, Bool, not, [], ◌∷◌, ltb, eqb}
 use Rattle.bitset.specs.Tests.{every, either, some}
-use Rattle.guard.specs.Level.{roleCount, entityCount, sessionLevel, roleLevel, entityLevel, keeperOf}
-use Rattle.guard.specs.Label.{label, dominates, sameLabel}
-use Rattle.guard.specs.Tables.{userAt, sessionAt, role_at, entityAt, object, container, execute, own, holds, isReading, isWriting, lists, isJunior, isBelow, is_shared, hasRight, isChild}
+use Rattle.guard.specs.Level.{role_count, entity_count, session_level, role_level, entity_level, keeper_of}
+use Rattle.guard.specs.Label.{label, dominates, same_label}
+use Rattle.guard.specs.Tables.{user_at, session_at, role_at, entity_at, object, container, execute, own, holds, is_reading, is_writing, lists, is_junior, is_below, is_shared, has_right, is_child}
 use Rattle.guard.specs.Chain.{parent_of, reaches}
 use Rattle.guard.specs.declared.Label.{Label}
 use Rattle.guard.specs.declared.Tables.{Tables}
 use Rattle.guard.specs.declared.Request.{Request}
 
 -- the label asked for
-abbrev pub labelAsked : Request → Label
-labelAsked q = label q.grade q.cats
+abbrev pub label_asked : Request → Label
+label_asked q = label q.grade q.cats
 
 module _ (t : Tables) (q : Request) where
   -- ---- The host program
   -- 3 login: the seat is live.
-  abbrev pub seatLive : Bool
-  seatLive = (sessionAt t q.seat).live
+  abbrev pub seat_live : Bool
+  seat_live = (session_at t q.seat).live
 
   -- 4 login: the user's ceiling is below the seat's level, or the clearance does not dominate the label.
-  unfoldable pub userTooLow : Bool
-  userTooLow =
-      either (ltb (userAt t q.user).ceiling (sessionLevel q.seat))
-      (not (dominates (userAt t q.user).clearance (labelAsked q)))
+  unfoldable pub user_too_low : Bool
+  user_too_low =
+      either (ltb (user_at t q.user).ceiling (session_level q.seat))
+      (not (dominates (user_at t q.user).clearance (label_asked q)))
 
   -- ---- The acting seat
   -- 5 it is not live.
-  abbrev pub seatDead : Bool
-  seatDead = not (sessionAt t q.seat).live
+  abbrev pub seat_dead : Bool
+  seat_dead = not (session_at t q.seat).live
 
   -- 9 the parent is no container.
-  abbrev pub parentNoContainer : Bool
-  parentNoContainer = not (eqb (entityAt t q.parent).kind container)
+  abbrev pub parent_no_container : Bool
+  parent_no_container = not (eqb (entity_at t q.parent).kind container)
 
   -- share: the entity is an object.
-  abbrev pub entityIsObject : Bool
-  entityIsObject = eqb (entityAt t q.entity).kind object
+  abbrev pub entity_is_object : Bool
+  entity_is_object = eqb (entity_at t q.entity).kind object
 
   -- 10 integrity. openr: e's level is below x's.
-  abbrev pub entityBelowSeat : Bool
-  entityBelowSeat = ltb (entityLevel q.entity) (sessionLevel q.seat)
+  abbrev pub entity_below_seat : Bool
+  entity_below_seat = ltb (entity_level q.entity) (session_level q.seat)
 
   -- openw, share: x's is below e's.
-  abbrev pub seatBelowEntity : Bool
-  seatBelowEntity = ltb (sessionLevel q.seat) (entityLevel q.entity)
+  abbrev pub seat_below_entity : Bool
+  seat_below_entity = ltb (session_level q.seat) (entity_level q.entity)
 
-  abbrev pub roleBelowEntity : Bool
-  roleBelowEntity = ltb (roleLevel q.role) (entityLevel q.entity)
+  abbrev pub role_below_entity : Bool
+  role_below_entity = ltb (role_level q.role) (entity_level q.entity)
 
   -- create: e and parent differ in level, or the role is below e.
-  unfoldable pub createOutOfLevel : Bool
-  createOutOfLevel = either (not (eqb (entityLevel q.entity) (entityLevel q.parent))) roleBelowEntity
+  unfoldable pub create_out_of_level : Bool
+  create_out_of_level = either (not (eqb (entity_level q.entity) (entity_level q.parent))) role_below_entity
 
   -- grant, revoke: x or the role is below e.
-  unfoldable pub grantBelow : Bool
-  grantBelow = either seatBelowEntity roleBelowEntity
+  unfoldable pub grant_below : Bool
+  grant_below = either seat_below_entity role_below_entity
 
   -- list, unlist, make, unmake: x is below the role.
-  abbrev pub seatBelowRole : Bool
-  seatBelowRole = ltb (sessionLevel q.seat) (roleLevel q.role)
+  abbrev pub seat_below_role : Bool
+  seat_below_role = ltb (session_level q.seat) (role_level q.role)
 
   -- join, unjoin: x is below the senior, or the levels of the two differ.
-  unfoldable pub tieOutOfLevel : Bool
-  tieOutOfLevel = either seatBelowRole (not (eqb (roleLevel q.junior) (roleLevel q.role)))
+  unfoldable pub tie_out_of_level : Bool
+  tie_out_of_level = either seat_below_role (not (eqb (role_level q.junior) (role_level q.role)))
 
   -- 11 confidentiality. openr: x's label does not dominate e's.
-  abbrev pub labelBelowEntity : Bool
-  labelBelowEntity = not (dominates (sessionAt t q.seat).label (entityAt t q.entity).label)
+  abbrev pub label_below_entity : Bool
+  label_below_entity = not (dominates (session_at t q.seat).label (entity_at t q.entity).label)
 
   -- openw: the two differ.
-  abbrev pub labelsDiffer : Bool
-  labelsDiffer = not (sameLabel (sessionAt t q.seat).label (entityAt t q.entity).label)
+  abbrev pub labels_differ : Bool
+  labels_differ = not (same_label (session_at t q.seat).label (entity_at t q.entity).label)
 
   -- create: the new label does not dominate the parent's.
-  abbrev pub labelBelowParent : Bool
-  labelBelowParent = not (dominates (labelAsked q) (entityAt t q.parent).label)
+  abbrev pub label_below_parent : Bool
+  label_below_parent = not (dominates (label_asked q) (entity_at t q.parent).label)
 
   -- 12 take: x's user is not listed.
-  abbrev pub userUnlisted : Bool
-  userUnlisted = not (lists t q.role (sessionAt t q.seat).user)
+  abbrev pub user_unlisted : Bool
+  user_unlisted = not (lists t q.role (session_at t q.seat).user)
 
   -- create: x does not hold the role.
-  abbrev pub roleNotHeld : Bool
-  roleNotHeld = not (holds t q.seat q.role)
+  abbrev pub role_not_held : Bool
+  role_not_held = not (holds t q.seat q.role)
 
   -- list, unlist, make, unmake, join, unjoin: x does not hold the keeper of the role's level. Holding a keeper means the keeper itself.
-  abbrev pub keeperNotHeld : Bool
-  keeperNotHeld = not (holds t q.seat (keeperOf (roleLevel q.role)))
+  abbrev pub keeper_not_held : Bool
+  keeper_not_held = not (holds t q.seat (keeper_of (role_level q.role)))
 
   -- 22 for join, the two are one role or the senior is already below the junior.
-  unfoldable pub closesCycle : Bool
-  closesCycle = either (eqb q.role q.junior) (isBelow t q.junior q.role)
+  unfoldable pub closes_cycle : Bool
+  closes_cycle = either (eqb q.role q.junior) (is_below t q.junior q.role)
 
   -- 13 openr, openw: x lacks read or write on e, or does not reach e.
-  unfoldable pub cannotOpen : ℕ → Bool
-  cannotOpen right = either (not (hasRight t q.seat right q.entity)) (not (reaches t q.seat q.entity))
+  unfoldable pub cannot_open : ℕ → Bool
+  cannot_open right = either (not (has_right t q.seat right q.entity)) (not (reaches t q.seat q.entity))
 
   -- create, delete, rename: x has not the parent open for writing, or lacks execute on it.
-  unfoldable pub cannotChangeIn : ℕ → Bool
-  cannotChangeIn parent = either (not (isWriting t q.seat parent)) (not (hasRight t q.seat execute parent))
+  unfoldable pub cannot_change_in : ℕ → Bool
+  cannot_change_in parent = either (not (is_writing t q.seat parent)) (not (has_right t q.seat execute parent))
 
   -- grant, revoke, share: x lacks own on e.
-  abbrev pub notOwned : Bool
-  notOwned = not (hasRight t q.seat own q.entity)
+  abbrev pub not_owned : Bool
+  not_owned = not (has_right t q.seat own q.entity)
 
   -- the parent in the entity's record, for delete and rename
-  abbrev pub recordedParent : ℕ
-  recordedParent = parent_of t q.entity
+  abbrev pub recorded_parent : ℕ
+  recorded_parent = parent_of t q.entity
 
   -- delete, rename: the parent is the one in the record, and in a shared container delete and rename also need own on the entity.
-  unfoldable pub cannotChange : Bool
-  cannotChange = either (cannotChangeIn recordedParent) (every (is_shared t recordedParent ∷ notOwned ∷ []))
+  unfoldable pub cannot_change : Bool
+  cannot_change = either (cannot_change_in recorded_parent) (every (is_shared t recorded_parent ∷ not_owned ∷ []))
 
   -- 16 it is so already: held, open in the way asked for, listed.
-  abbrev pub roleHeld : Bool
-  roleHeld = holds t q.seat q.role
+  abbrev pub role_held : Bool
+  role_held = holds t q.seat q.role
 
-  abbrev pub openForReading : Bool
-  openForReading = isReading t q.seat q.entity
+  abbrev pub open_for_reading : Bool
+  open_for_reading = is_reading t q.seat q.entity
 
-  abbrev pub openForWriting : Bool
-  openForWriting = isWriting t q.seat q.entity
+  abbrev pub open_for_writing : Bool
+  open_for_writing = is_writing t q.seat q.entity
 
-  abbrev pub userListed : Bool
-  userListed = lists t q.role q.user
+  abbrev pub user_listed : Bool
+  user_listed = lists t q.role q.user
 
   -- join: the tie exists already.
   abbrev pub tied : Bool
-  tied = isJunior t q.role q.junior
+  tied = is_junior t q.role q.junior
 
   -- share: the mark is so.
-  abbrev pub markedSo : Bool
-  markedSo = eqb (entityAt t q.entity).shared q.shared
+  abbrev pub marked_so : Bool
+  marked_so = eqb (entity_at t q.entity).shared q.shared
 
-  -- For drop, close, unlist: there is nothing to end. (drop: roleNotHeld) For unjoin: the tie is missing.
-  unfoldable pub notOpen : Bool
-  notOpen = not (either (isReading t q.seat q.entity) (isWriting t q.seat q.entity))
+  -- For drop, close, unlist: there is nothing to end. (drop: role_not_held) For unjoin: the tie is missing.
+  unfoldable pub not_open : Bool
+  not_open = not (either (is_reading t q.seat q.entity) (is_writing t q.seat q.entity))
 
-  abbrev pub userNotListed : Bool
-  userNotListed = not (lists t q.role q.user)
+  abbrev pub user_not_listed : Bool
+  user_not_listed = not (lists t q.role q.user)
 
-  abbrev pub notTied : Bool
-  notTied = not (isJunior t q.role q.junior)
+  abbrev pub not_tied : Bool
+  not_tied = not (is_junior t q.role q.junior)
 
   -- ---- Anyone who acted earlier
   -- 7 the entity, parent or role named is not live (for create, the parent or the role).
-  abbrev pub entityDead : Bool
-  entityDead = not (entityAt t q.entity).live
+  abbrev pub entity_dead : Bool
+  entity_dead = not (entity_at t q.entity).live
 
-  abbrev pub parentDead : Bool
-  parentDead = not (entityAt t q.parent).live
+  abbrev pub parent_dead : Bool
+  parent_dead = not (entity_at t q.parent).live
 
-  abbrev pub roleDead : Bool
-  roleDead = not (role_at t q.role).live
+  abbrev pub role_dead : Bool
+  role_dead = not (role_at t q.role).live
 
-  abbrev pub juniorDead : Bool
-  juniorDead = not (role_at t q.junior).live
+  abbrev pub junior_dead : Bool
+  junior_dead = not (role_at t q.junior).live
 
   -- 8 the number to be made is live.
-  abbrev pub entityLive : Bool
-  entityLive = (entityAt t q.entity).live
+  abbrev pub entity_live : Bool
+  entity_live = (entity_at t q.entity).live
 
-  abbrev pub roleLive : Bool
-  roleLive = (role_at t q.role).live
+  abbrev pub role_live : Bool
+  role_live = (role_at t q.role).live
 
   -- 14 a child of that parent has the name, the entity itself included.
-  unfoldable pub nameTaken : ℕ → Bool
-  nameTaken parent = some entityCount (λ f. every (isChild t parent f ∷ eqb (entityAt t f).name q.name ∷ []))
+  unfoldable pub name_taken : ℕ → Bool
+  name_taken parent = some entity_count (λ f. every (is_child t parent f ∷ eqb (entity_at t f).name q.name ∷ []))
 
   -- 15 the entity has children.
-  unfoldable pub hasChildren : Bool
-  hasChildren = some entityCount (λ f. isChild t q.entity f)
+  unfoldable pub has_children : Bool
+  has_children = some entity_count (λ f. is_child t q.entity f)
 
   -- unmake: the role has a junior or a senior.
-  unfoldable pub roleTied : Bool
-  roleTied = some roleCount (λ k. either (isJunior t q.role k) (isJunior t k q.role))
+  unfoldable pub role_tied : Bool
+  role_tied = some role_count (λ k. either (is_junior t q.role k) (is_junior t k q.role))

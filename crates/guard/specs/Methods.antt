@@ -22,37 +22,37 @@ request call seat user role entity parent kind name grade cats rights shared jun
       junior = junior;
     }
 
-abbrev pub loginRequest : ℕ → ℕ → ℕ → ℕ → Request
-loginRequest seat user grade cats = request login seat user 0 0 0 0 0 grade cats 0 0 0
+abbrev pub login_request : ℕ → ℕ → ℕ → ℕ → Request
+login_request seat user grade cats = request login seat user 0 0 0 0 0 grade cats 0 0 0
 
-abbrev pub logoutRequest : ℕ → Request
-logoutRequest seat = request logout seat 0 0 0 0 0 0 0 0 0 0 0
+abbrev pub logout_request : ℕ → Request
+logout_request seat = request logout seat 0 0 0 0 0 0 0 0 0 0 0
 
 -- take, drop, make, unmake: a seat and a role
-abbrev pub roleRequest : ℕ → ℕ → ℕ → Request
-roleRequest call seat role = request call seat 0 role 0 0 0 0 0 0 0 0 0
+abbrev pub role_request : ℕ → ℕ → ℕ → Request
+role_request call seat role = request call seat 0 role 0 0 0 0 0 0 0 0 0
 
 -- openr, openw, close, delete: a seat and an entity
-abbrev pub entityRequest : ℕ → ℕ → ℕ → Request
-entityRequest call seat entity = request call seat 0 0 entity 0 0 0 0 0 0 0 0
+abbrev pub entity_request : ℕ → ℕ → ℕ → Request
+entity_request call seat entity = request call seat 0 0 entity 0 0 0 0 0 0 0 0
 
-abbrev pub createRequest : ℕ → ℕ → ℕ → ℕ → ℕ → ℕ → ℕ → ℕ → Request
-createRequest seat entity kind parent name grade cats role = request create seat 0 role entity parent kind name grade cats 0 0 0
+abbrev pub create_request : ℕ → ℕ → ℕ → ℕ → ℕ → ℕ → ℕ → ℕ → Request
+create_request seat entity kind parent name grade cats role = request create seat 0 role entity parent kind name grade cats 0 0 0
 
-abbrev pub renameRequest : ℕ → ℕ → ℕ → Request
-renameRequest seat entity name = request rename seat 0 0 entity 0 0 name 0 0 0 0 0
+abbrev pub rename_request : ℕ → ℕ → ℕ → Request
+rename_request seat entity name = request rename seat 0 0 entity 0 0 name 0 0 0 0 0
 
 -- grant, revoke: a seat, a role, an entity and rights
-abbrev pub rightsRequest : ℕ → ℕ → ℕ → ℕ → ℕ → Request
-rightsRequest call seat role entity rights = request call seat 0 role entity 0 0 0 0 0 rights 0 0
+abbrev pub rights_request : ℕ → ℕ → ℕ → ℕ → ℕ → Request
+rights_request call seat role entity rights = request call seat 0 role entity 0 0 0 0 0 rights 0 0
 
 -- list, unlist: a seat, a role and a user
-abbrev pub listRequest : ℕ → ℕ → ℕ → ℕ → Request
-listRequest call seat role user = request call seat user role 0 0 0 0 0 0 0 0 0
+abbrev pub list_request : ℕ → ℕ → ℕ → ℕ → Request
+list_request call seat role user = request call seat user role 0 0 0 0 0 0 0 0 0
 
-abbrev pub shareRequest : ℕ → ℕ → ℕ → Request
-shareRequest seat entity mark = request share seat 0 0 entity 0 0 0 0 0 0 mark 0
+abbrev pub share_request : ℕ → ℕ → ℕ → Request
+share_request seat entity mark = request share seat 0 0 entity 0 0 0 0 0 0 mark 0
 
 -- join, unjoin: a seat, the senior role and the junior
-abbrev pub tieRequest : ℕ → ℕ → ℕ → ℕ → Request
-tieRequest call seat senior junior = request call seat 0 senior 0 0 0 0 0 0 0 0 junior
+abbrev pub tie_request : ℕ → ℕ → ℕ → ℕ → Request
+tie_request call seat senior junior = request call seat 0 senior 0 0 0 0 0 0 0 0 junior

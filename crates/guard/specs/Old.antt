@@ -16,25 +16,25 @@ use Rattle.guard.specs.declared.old.OldTables.{OldTables}
 
 -- Tables in the old width are taken over with every number the same; they have no marks, which start with 0, no ties, and no edition:
 -- "Edition 1 is the rule so far."
-abbrev pub labelTaken : OldLabel → Label
-labelTaken a = record { cats = a.cats; grade = a.grade }
+abbrev pub label_taken : OldLabel → Label
+label_taken a = record { cats = a.cats; grade = a.grade }
 
-abbrev pub userTaken : OldUser → User
-userTaken u = record { ceiling = u.ceiling; clearance = labelTaken u.clearance }
+abbrev pub user_taken : OldUser → User
+user_taken u = record { ceiling = u.ceiling; clearance = label_taken u.clearance }
 
-abbrev pub sessionTaken : OldSession → Session
-sessionTaken s =
+abbrev pub session_taken : OldSession → Session
+session_taken s =
     record {
       live = s.live;
       user = s.user;
-      label = labelTaken s.label;
+      label = label_taken s.label;
       roles = s.roles;
       reading = s.reading;
       writing = s.writing;
     }
 
-abbrev pub roleTaken : OldRole → Role
-roleTaken r =
+abbrev pub role_taken : OldRole → Role
+role_taken r =
     record {
       live = r.live;
       users = r.users;
@@ -45,16 +45,16 @@ roleTaken r =
       owns = r.owns;
     }
 
-abbrev pub entityTaken : OldEntity → Entity
-entityTaken e =
-    record { live = e.live; kind = e.kind; parent = e.parent; name = e.name; label = labelTaken e.label; shared = 0 }
+abbrev pub entity_taken : OldEntity → Entity
+entity_taken e =
+    record { live = e.live; kind = e.kind; parent = e.parent; name = e.name; label = label_taken e.label; shared = 0 }
 
-unfoldable pub takenOver : OldTables → Tables
-takenOver o =
+unfoldable pub taken_over : OldTables → Tables
+taken_over o =
     record {
-      users = map userTaken o.users;
-      sessions = map sessionTaken o.sessions;
-      roles = map roleTaken o.roles;
-      entities = map entityTaken o.entities;
+      users = map user_taken o.users;
+      sessions = map session_taken o.sessions;
+      roles = map role_taken o.roles;
+      entities = map entity_taken o.entities;
       edition = edition1;
     }

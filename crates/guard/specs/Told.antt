@@ -3,9 +3,9 @@ use Rattle.std.specs.Prelude.{ℕ, zero, suc, Bool, true, false, cond}
 use Rattle.guard.specs.declared.Told.{Told}
 use Rattle.guard.specs.declared.Told.TheVariants.{By, None}
 
-unfoldable pub isTold : Told → Bool
-isTold (By r) = true
-isTold None = false
+unfoldable pub is_told : Told → Bool
+is_told (By r) = true
+is_told None = false
 
 -- the first, and where it tells none, the second
 unfoldable pub or_else : Told → Told → Told
@@ -18,6 +18,6 @@ lowest zero p = None
 lowest (suc n) p = or_else (lowest n p) (cond (p n) (By n) None)
 
 -- The number of each case, as a batch has it: a role's own, and for none 255, which is no role's.
-unfoldable pub roleByte : Told → ℕ
-roleByte (By r) = r
-roleByte None = 255
+unfoldable pub role_byte : Told → ℕ
+role_byte (By r) = r
+role_byte None = 255

@@ -1,6 +1,6 @@
 // What backs an open: a role held that has the right, read for an open for reading and write for one for writing.
 ghost use Rattle.std.specs.Prelude.{ℕ, ◌≡◌, List, map};
-ghost use Rattle.guard.specs.Private.Scan.{Gathered, opensGiven, backedBy, Lost, keptBy, leftBy};
+ghost use Rattle.guard.specs.Private.Scan.{Gathered, opens_given, backed_by, Lost, kept_by, left_by};
 
 use crate::scan::{GRANTS, Rights};
 use crate::sizes::SESSIONS;
@@ -8,14 +8,14 @@ use crate::{Role, Session, scan, sessions};
 
 // Whether each open of `s` is backed; `rights` are those of its roles.
 pub fn is_backed(rights: Rights, s: Session) -> bool
-    ensures { (grants : List ℕ) → Gathered grants s.roles rights → result ≡ opensGiven grants s }
+    ensures { (grants : List ℕ) → Gathered grants s.roles rights → result ≡ opens_given grants s }
 {
     bitset::contains64(rights.reads, s.reading) & bitset::contains64(rights.writes, s.writing)
 }
 
 // Session `s` with those of its opens that are backed.
 pub fn backed(grants: &[u64; GRANTS], s: Session) -> Session
-    ensures { result ≡ backedBy grants.now s }
+    ensures { result ≡ backed_by grants.now s }
 {
     let rights = scan::gather(grants, s.roles);
     let mut n = s;
@@ -36,7 +36,7 @@ pub fn lost(grants: &[u64; GRANTS], old: Role, new: Role) -> u64
 
 // Session `s` after a role lost rights on the entities of a set: nothing of it changes unless it has one of them open.
 fn kept(grants: &[u64; GRANTS], lost: u64, s: Session) -> Session
-    ensures { result ≡ keptBy grants.now lost s }
+    ensures { result ≡ kept_by grants.now lost s }
 {
     if (s.reading | s.writing) & lost != 0 {
         return backed(grants, s);
@@ -46,7 +46,7 @@ fn kept(grants: &[u64; GRANTS], lost: u64, s: Session) -> Session
 
 // .. and after role `r` is unmade, when nobody holds it.
 fn left(grants: &[u64; GRANTS], r: u32, lost: u64, unmade: bool, s: Session) -> Session
-    ensures { result ≡ leftBy grants.now r lost unmade s }
+    ensures { result ≡ left_by grants.now r lost unmade s }
 {
     let n = kept(grants, lost, s);
     if unmade {
@@ -63,7 +63,7 @@ pub fn swept(
     lost: u64,
     unmade: bool,
 ) -> [Session; SESSIONS]
-    ensures { result ≡ map (leftBy grants.now r lost unmade) sessions }
+    ensures { result ≡ map (left_by grants.now r lost unmade) sessions }
 {
     let mut n = sessions;
     let mut i = 0usize;

@@ -1,6 +1,6 @@
 // Which records a request changes.
 ghost use Rattle.std.specs.Prelude.{◌≡◌};
-ghost use Rattle.guard.specs.Private.Inside.{changeOf, endsOpens};
+ghost use Rattle.guard.specs.Private.Inside.{change_of, ends_opens};
 
 use crate::kinds;
 
@@ -14,7 +14,7 @@ pub enum Change {
 }
 
 pub fn change_of(call: u32) -> Change
-    ensures { result ≡ changeOf call }
+    ensures { result ≡ change_of call }
 {
     match call {
         kinds::LOGIN..=kinds::CLOSE => Change::Session,
@@ -26,7 +26,7 @@ pub fn change_of(call: u32) -> Change
 
 // The requests on a role after which opens end that are no longer backed.
 pub fn ends_opens(call: u32) -> bool
-    ensures { result ≡ endsOpens call }
+    ensures { result ≡ ends_opens call }
 {
     (call == kinds::REVOKE) | (call == kinds::UNMAKE) | (call == kinds::UNJOIN)
 }

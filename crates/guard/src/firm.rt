@@ -1,9 +1,9 @@
 // Whose users and roles are: the house's or the agents' (specs/Firm).
 ghost use Rattle.std.specs.Prelude.{ℕ, ◌≤◌, ◌<◌, ◌≡◌, eqb};
 ghost use Rattle.bitset.specs.Sets.{has};
-ghost use Rattle.guard.specs.Level.{userCount, roleCount};
-ghost use Rattle.guard.specs.Private.Firm.{agents, userFirm, roleFirm};
-ghost use Rattle.guard.specs.Private.Firm.{acrossFirms};
+ghost use Rattle.guard.specs.Level.{user_count, role_count};
+ghost use Rattle.guard.specs.Private.Firm.{agents, user_firm, role_firm};
+ghost use Rattle.guard.specs.Private.Firm.{across_firms};
 
 use crate::{Request, kinds, sizes};
 
@@ -12,7 +12,7 @@ const HOUSE: u32 = 0;
 const AGENTS: u32 = 1;
 
 pub fn of_user(user: u32) -> u32
-    ensures { result ≡ userFirm user }
+    ensures { result ≡ user_firm user }
 {
     if sizes::AGENTS_USERS <= user {
         AGENTS
@@ -22,7 +22,7 @@ pub fn of_user(user: u32) -> u32
 }
 
 pub fn of_role(role: u32) -> u32
-    ensures { result ≡ roleFirm role }
+    ensures { result ≡ role_firm role }
 {
     if sizes::AGENTS_ROLES <= role % sizes::LEVEL_ROLES {
         AGENTS
@@ -34,7 +34,7 @@ pub fn of_role(role: u32) -> u32
 // The users of a firm.
 pub fn users(firm: u32) -> u16
     requires { firm ≤ agents }
-    ensures { (u : ℕ) → u < userCount → has result u ≡ eqb (userFirm u) firm }
+    ensures { (u : ℕ) → u < user_count → has result u ≡ eqb (user_firm u) firm }
 {
     if firm == HOUSE { 0x00ff } else { 0xff00 }
 }
@@ -42,14 +42,14 @@ pub fn users(firm: u32) -> u16
 // The roles of a firm.
 pub fn roles(firm: u32) -> u16
     requires { firm ≤ agents }
-    ensures { (r : ℕ) → r < roleCount → has result r ≡ eqb (roleFirm r) firm }
+    ensures { (r : ℕ) → r < role_count → has result r ≡ eqb (role_firm r) firm }
 {
     if firm == HOUSE { 0x3333 } else { 0xcccc }
 }
 
 // What 25 asks: of list whether the user, of join whether the junior is of another firm than the role.
 pub fn across(q: Request) -> bool
-    ensures { result ≡ acrossFirms q }
+    ensures { result ≡ across_firms q }
 {
     if q.call == kinds::LIST {
         return of_user(q.user) != of_role(q.role);

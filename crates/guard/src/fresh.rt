@@ -1,7 +1,7 @@
 // Fresh tables, built from sixteen user records in an edition.
 ghost use Rattle.std.specs.Prelude.{◌≡◌, ◌<◌};
-ghost use Rattle.guard.specs.Level.{entityCount, roleCount};
-ghost use Rattle.guard.specs.Fresh.{freshRole, freshEntity, tabulate, fresh, build};
+ghost use Rattle.guard.specs.Level.{entity_count, role_count};
+ghost use Rattle.guard.specs.Fresh.{fresh_role, fresh_entity, tabulate, fresh, build};
 
 use crate::sizes::{BLOCK, CONTAINER, EDITION_1, ENTITIES, LEVEL_ROLES, ROLES, SESSIONS, USERS};
 use crate::sound::record;
@@ -11,8 +11,8 @@ use crate::{Entity, Label, Outcome, Role, Tables, Told, User, entities, roles, s
 const LEVEL: usize = LEVEL_ROLES as usize;
 
 fn fresh_role(r: usize) -> Role
-    requires { r < roleCount }
-    ensures { result ≡ freshRole r }
+    requires { r < role_count }
+    ensures { result ≡ fresh_role r }
 {
     if r % LEVEL == 0 {
         let root = bitset::with64(0, (r / LEVEL * BLOCK) as u32);
@@ -30,8 +30,8 @@ fn fresh_role(r: usize) -> Role
 }
 
 fn fresh_entity(e: usize) -> Entity
-    requires { e < entityCount }
-    ensures { result ≡ freshEntity e }
+    requires { e < entity_count }
+    ensures { result ≡ fresh_entity e }
 {
     if e % BLOCK == 0 {
         let none = Label { cats: 0, grade: 0 };
@@ -48,7 +48,7 @@ fn fresh_entity(e: usize) -> Entity
 }
 
 fn fresh_roles() -> [Role; ROLES]
-    ensures { result ≡ tabulate roleCount freshRole }
+    ensures { result ≡ tabulate role_count fresh_role }
 {
     let dead = roles::empty();
     let mut roles = [dead; ROLES];
@@ -62,7 +62,7 @@ fn fresh_roles() -> [Role; ROLES]
 }
 
 fn fresh_entities() -> [Entity; ENTITIES]
-    ensures { result ≡ tabulate entityCount freshEntity }
+    ensures { result ≡ tabulate entity_count fresh_entity }
 {
     let dead = entities::empty();
     let mut entities = [dead; ENTITIES];

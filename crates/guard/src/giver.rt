@@ -1,8 +1,8 @@
 // Which role let a session in: what accepted openr and openw tell. It is the one held, also where a role below it has the right.
 ghost use Rattle.std.specs.Prelude.{◌<◌, ◌≡◌};
-ghost use Rattle.guard.specs.Level.{roleCount, entityCount};
-ghost use Rattle.guard.specs.Told.{lowest, roleByte};
-ghost use Rattle.guard.specs.Private.Scan.{First, side_of, hasBy, gives, openedBy, readByte};
+ghost use Rattle.guard.specs.Level.{role_count, entity_count};
+ghost use Rattle.guard.specs.Told.{lowest, role_byte};
+ghost use Rattle.guard.specs.Private.Scan.{First, side_of, has_by, gives, opened_by, read_byte};
 
 use crate::scan::{GRANTS, Rights, SETS, TIES};
 use crate::sizes::NO_ROLE;
@@ -36,8 +36,8 @@ fn side(rights: Rights, k: usize) -> u64
 
 // Whether role `r` has the right of set `k` on the entity, itself or through a role below it.
 fn gives(grants: &[u64; GRANTS], r: u32, k: usize, e: usize) -> bool
-    requires { (r < roleCount) × (k < 4) × (e < entityCount) }
-    ensures { result ≡ hasBy grants.now k e r }
+    requires { (r < role_count) × (k < 4) × (e < entity_count) }
+    ensures { result ≡ has_by grants.now k e r }
 {
     if scan::is_in(grants[SETS * r as usize + k], e) {
         return true;
@@ -51,8 +51,8 @@ fn gives(grants: &[u64; GRANTS], r: u32, k: usize, e: usize) -> bool
 
 // The lowest-numbered of the roles held that has the right of set `k` on the entity.
 fn lowest(grants: &[u64; GRANTS], held: u16, k: usize, e: usize) -> u8
-    requires { (k < 4) × (e < entityCount) }
-    ensures { result ≡ roleByte (lowest roleCount (gives grants.now held k e)) }
+    requires { (k < 4) × (e < entity_count) }
+    ensures { result ≡ role_byte (lowest role_count (gives grants.now held k e)) }
 {
     let mut left = held;
     while left != 0 {
@@ -67,8 +67,8 @@ fn lowest(grants: &[u64; GRANTS], held: u16, k: usize, e: usize) -> u8
 
 // What an accepted request of that kind tells: openr and openw the role for read or write on the entity.
 pub fn role_told(grants: &[u64; GRANTS], call: u32, held: u16, e: usize) -> u8
-    requires { e < entityCount }
-    ensures { result ≡ roleByte (openedBy grants.now call held e) }
+    requires { e < entity_count }
+    ensures { result ≡ role_byte (opened_by grants.now call held e) }
 {
     match call {
         kinds::OPENR => lowest(grants, held, READS, e),
@@ -79,7 +79,7 @@ pub fn role_told(grants: &[u64; GRANTS], call: u32, held: u16, e: usize) -> u8
 
 // The role that a byte of `run` tells.
 pub fn read(byte: u8) -> Told
-    ensures { result ≡ readByte byte }
+    ensures { result ≡ read_byte byte }
 {
     if byte == NO_ROLE {
         return Told::None;

@@ -1,8 +1,8 @@
 // The number of one request, whatever its kind.
 ghost use Rattle.std.specs.Prelude.{◌≡◌};
-ghost use Rattle.guard.specs.Requests.{ruleOf};
+ghost use Rattle.guard.specs.Requests.{rule_of};
 ghost use Rattle.guard.specs.Private.Inside.{number, Seen};
-ghost use Rattle.guard.specs.Private.InForce.{inRanges};
+ghost use Rattle.guard.specs.Private.InForce.{in_ranges};
 ghost use Rattle.guard.specs.declared.Tables.{Tables as TablesOf};
 
 use crate::view::View;
@@ -10,8 +10,8 @@ use crate::{Request, entities, kinds, opens, roles, sessions};
 
 // A number that is none of the nineteen is out of range.
 pub fn judge(q: Request, v: View) -> u8
-    requires { v.fits ≡ inRanges q }
-    ensures { (t : TablesOf) → Seen t q v → result ≡ number (ruleOf q) t q }
+    requires { v.fits ≡ in_ranges q }
+    ensures { (t : TablesOf) → Seen t q v → result ≡ number (rule_of q) t q }
 {
     if !v.fits {
         return 2;

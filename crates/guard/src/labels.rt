@@ -1,6 +1,6 @@
 // Labels: a grade and a set of sixteen categories.
 ghost use Rattle.std.specs.Prelude.{◌≤◌, ◌≡◌};
-ghost use Rattle.guard.specs.Label.{labelInRange, dominates as dominatesOf, sameLabel, label, allCategories, topGrade};
+ghost use Rattle.guard.specs.Label.{label_in_range, dominates as dominatesOf, same_label, label, all_categories, top_grade};
 
 use crate::Label;
 use crate::sizes::TOP_GRADE;
@@ -14,22 +14,22 @@ pub fn dominates(a: Label, b: Label) -> bool
 
 // Whether the two have one grade and one set.
 pub fn same(a: Label, b: Label) -> bool
-    ensures { result ≡ sameLabel a b }
+    ensures { result ≡ same_label a b }
 {
     (a.grade == b.grade) & (a.cats == b.cats)
 }
 
 // Whether the grade is one of four; every `u16` is a set of categories.
 pub fn in_range(a: Label) -> bool
-    ensures { result ≡ labelInRange a }
+    ensures { result ≡ label_in_range a }
 {
     a.grade <= TOP_GRADE
 }
 
 // The label asked for, in a host's wider numbers.
 pub fn made(grade: u32, cats: u32) -> Label
-    requires grade_le_top_grade { grade ≤ topGrade }
-    requires cats_le_all_categories { cats ≤ allCategories }
+    requires grade_le_top_grade { grade ≤ top_grade }
+    requires cats_le_all_categories { cats ≤ all_categories }
     ensures { result ≡ label grade cats }
 {
     Label {

@@ -1,8 +1,8 @@
 // The numbers of a request, looked up once: where its records stand, and whether those that its kind uses are in range.
 ghost use Rattle.std.specs.Prelude.{◌<◌, ◌≡◌, cond, eqb};
 ghost use Rattle.guard.specs.Kind as kind;
-ghost use Rattle.guard.specs.Private.Inside.{Below, Placed, asksWay, asksName, asksRights};
-ghost use Rattle.guard.specs.Private.InForce.{inRanges};
+ghost use Rattle.guard.specs.Private.Inside.{Below, Placed, asks_way, asks_name, asks_rights};
+ghost use Rattle.guard.specs.Private.InForce.{in_ranges};
 
 use crate::{Request, kinds, sizes};
 
@@ -29,7 +29,7 @@ fn below(n: u32, end: u32) -> usize
 
 // Whether each number that the request uses is in its range: for each kind the fields that stand in brackets behind its word.
 fn fits(q: Request) -> bool
-    ensures { result ≡ inRanges q }
+    ensures { result ≡ in_ranges q }
 {
     let call = q.call;
     let seat = q.seat < sizes::SEAT_END;
@@ -87,21 +87,21 @@ pub fn parent_of(call: u32, named: usize, recorded: u8) -> usize
 
 // openr and openw ask for the way up.
 pub fn asks_way(call: u32) -> bool
-    ensures { result ≡ asksWay call }
+    ensures { result ≡ asks_way call }
 {
     (call == kinds::OPENR) | (call == kinds::OPENW)
 }
 
 // create and rename ask for a name among the children.
 pub fn asks_name(call: u32) -> bool
-    ensures { result ≡ asksName call }
+    ensures { result ≡ asks_name call }
 {
     (call == kinds::CREATE) | (call == kinds::RENAME)
 }
 
 // The kinds that ask for rights; the others ask nothing of the tables beside the records.
 pub fn asks_rights(call: u32) -> bool
-    ensures { result ≡ asksRights call }
+    ensures { result ≡ asks_rights call }
 {
     match call {
         kinds::OPENR | kinds::OPENW => true,

@@ -3,7 +3,7 @@
 ghost use Rattle.std.specs.Prelude.{◌≡◌};
 ghost use Rattle.guard.specs.Step.{step};
 ghost use Rattle.guard.specs.Kind.{take, drop, openr, openw, close, delete, grant, revoke, list, unlist, make, unmake, join, unjoin};
-ghost use Rattle.guard.specs.Methods.{loginRequest, logoutRequest, roleRequest, entityRequest, createRequest, renameRequest, rightsRequest, listRequest, shareRequest, tieRequest};
+ghost use Rattle.guard.specs.Methods.{login_request, logout_request, role_request, entity_request, create_request, rename_request, rights_request, list_request, share_request, tie_request};
 
 use crate::{Outcome, Request, Tables, kinds};
 
@@ -27,7 +27,7 @@ const BLANK: Request = Request {
 impl Tables {
     // The seat becomes live for the user, under the label `grade`/`cats`.
     pub fn login(self, seat: u32, user: u32, grade: u32, cats: u32) -> Outcome
-        ensures { result ≡ step self (loginRequest seat user grade cats) }
+        ensures { result ≡ step self (login_request seat user grade cats) }
     {
         let mut q = BLANK;
         q.call = kinds::LOGIN;
@@ -40,7 +40,7 @@ impl Tables {
 
     // The seat becomes empty.
     pub fn logout(self, seat: u32) -> Outcome
-        ensures { result ≡ step self (logoutRequest seat) }
+        ensures { result ≡ step self (logout_request seat) }
     {
         let mut q = BLANK;
         q.call = kinds::LOGOUT;
@@ -50,7 +50,7 @@ impl Tables {
 
     // The seat holds the role.
     pub fn take(self, seat: u32, role: u32) -> Outcome
-        ensures { result ≡ step self (roleRequest take seat role) }
+        ensures { result ≡ step self (role_request take seat role) }
     {
         let mut q = BLANK;
         q.call = kinds::TAKE;
@@ -61,7 +61,7 @@ impl Tables {
 
     // The seat no longer holds the role.
     pub fn drop(self, seat: u32, role: u32) -> Outcome
-        ensures { result ≡ step self (roleRequest drop seat role) }
+        ensures { result ≡ step self (role_request drop seat role) }
     {
         let mut q = BLANK;
         q.call = kinds::DROP;
@@ -72,7 +72,7 @@ impl Tables {
 
     // The seat has the entity open for reading.
     pub fn openr(self, seat: u32, entity: u32) -> Outcome
-        ensures { result ≡ step self (entityRequest openr seat entity) }
+        ensures { result ≡ step self (entity_request openr seat entity) }
     {
         let mut q = BLANK;
         q.call = kinds::OPENR;
@@ -83,7 +83,7 @@ impl Tables {
 
     // The seat has the entity open for writing.
     pub fn openw(self, seat: u32, entity: u32) -> Outcome
-        ensures { result ≡ step self (entityRequest openw seat entity) }
+        ensures { result ≡ step self (entity_request openw seat entity) }
     {
         let mut q = BLANK;
         q.call = kinds::OPENW;
@@ -94,7 +94,7 @@ impl Tables {
 
     // The seat has the entity open in no way.
     pub fn close(self, seat: u32, entity: u32) -> Outcome
-        ensures { result ≡ step self (entityRequest close seat entity) }
+        ensures { result ≡ step self (entity_request close seat entity) }
     {
         let mut q = BLANK;
         q.call = kinds::CLOSE;
@@ -115,7 +115,7 @@ impl Tables {
         cats: u32,
         role: u32,
     ) -> Outcome
-        ensures { result ≡ step self (createRequest seat entity kind parent name grade cats role) }
+        ensures { result ≡ step self (create_request seat entity kind parent name grade cats role) }
     {
         let mut q = BLANK;
         q.call = kinds::CREATE;
@@ -132,7 +132,7 @@ impl Tables {
 
     // The entity, all rights on it and all opens of it go.
     pub fn delete(self, seat: u32, entity: u32) -> Outcome
-        ensures { result ≡ step self (entityRequest delete seat entity) }
+        ensures { result ≡ step self (entity_request delete seat entity) }
     {
         let mut q = BLANK;
         q.call = kinds::DELETE;
@@ -143,7 +143,7 @@ impl Tables {
 
     // The entity has the name.
     pub fn rename(self, seat: u32, entity: u32, name: u32) -> Outcome
-        ensures { result ≡ step self (renameRequest seat entity name) }
+        ensures { result ≡ step self (rename_request seat entity name) }
     {
         let mut q = BLANK;
         q.call = kinds::RENAME;
@@ -155,7 +155,7 @@ impl Tables {
 
     // The role has the rights on the entity.
     pub fn grant(self, seat: u32, role: u32, entity: u32, rights: u32) -> Outcome
-        ensures { result ≡ step self (rightsRequest grant seat role entity rights) }
+        ensures { result ≡ step self (rights_request grant seat role entity rights) }
     {
         let mut q = BLANK;
         q.call = kinds::GRANT;
@@ -168,7 +168,7 @@ impl Tables {
 
     // The role has none of the rights on the entity.
     pub fn revoke(self, seat: u32, role: u32, entity: u32, rights: u32) -> Outcome
-        ensures { result ≡ step self (rightsRequest revoke seat role entity rights) }
+        ensures { result ≡ step self (rights_request revoke seat role entity rights) }
     {
         let mut q = BLANK;
         q.call = kinds::REVOKE;
@@ -181,7 +181,7 @@ impl Tables {
 
     // The role lists the user.
     pub fn list(self, seat: u32, role: u32, user: u32) -> Outcome
-        ensures { result ≡ step self (listRequest list seat role user) }
+        ensures { result ≡ step self (list_request list seat role user) }
     {
         let mut q = BLANK;
         q.call = kinds::LIST;
@@ -193,7 +193,7 @@ impl Tables {
 
     // The role no longer lists the user.
     pub fn unlist(self, seat: u32, role: u32, user: u32) -> Outcome
-        ensures { result ≡ step self (listRequest unlist seat role user) }
+        ensures { result ≡ step self (list_request unlist seat role user) }
     {
         let mut q = BLANK;
         q.call = kinds::UNLIST;
@@ -205,7 +205,7 @@ impl Tables {
 
     // The role is made, empty.
     pub fn make(self, seat: u32, role: u32) -> Outcome
-        ensures { result ≡ step self (roleRequest make seat role) }
+        ensures { result ≡ step self (role_request make seat role) }
     {
         let mut q = BLANK;
         q.call = kinds::MAKE;
@@ -216,7 +216,7 @@ impl Tables {
 
     // The role and every holding of it go.
     pub fn unmake(self, seat: u32, role: u32) -> Outcome
-        ensures { result ≡ step self (roleRequest unmake seat role) }
+        ensures { result ≡ step self (role_request unmake seat role) }
     {
         let mut q = BLANK;
         q.call = kinds::UNMAKE;
@@ -227,7 +227,7 @@ impl Tables {
 
     // The container is shared from then on (mark 1), or no longer (mark 0).
     pub fn share(self, seat: u32, entity: u32, mark: u32) -> Outcome
-        ensures { result ≡ step self (shareRequest seat entity mark) }
+        ensures { result ≡ step self (share_request seat entity mark) }
     {
         let mut q = BLANK;
         q.call = kinds::SHARE;
@@ -239,7 +239,7 @@ impl Tables {
 
     // The second role becomes a direct junior of the first.
     pub fn join(self, seat: u32, senior: u32, junior: u32) -> Outcome
-        ensures { result ≡ step self (tieRequest join seat senior junior) }
+        ensures { result ≡ step self (tie_request join seat senior junior) }
     {
         let mut q = BLANK;
         q.call = kinds::JOIN;
@@ -251,7 +251,7 @@ impl Tables {
 
     // The second role is no longer a direct junior of the first.
     pub fn unjoin(self, seat: u32, senior: u32, junior: u32) -> Outcome
-        ensures { result ≡ step self (tieRequest unjoin seat senior junior) }
+        ensures { result ≡ step self (tie_request unjoin seat senior junior) }
     {
         let mut q = BLANK;
         q.call = kinds::UNJOIN;

@@ -1,6 +1,6 @@
 // Tables of the old width, in which a set of categories has eight bits, and taking them over.
 ghost use Rattle.std.specs.Prelude.{◌≡◌, map};
-ghost use Rattle.guard.specs.Old.{labelTaken, userTaken, sessionTaken, roleTaken, entityTaken, takenOver};
+ghost use Rattle.guard.specs.Old.{label_taken, user_taken, session_taken, role_taken, entity_taken, taken_over};
 
 use crate::sizes::{EDITION_1, ENTITIES, ROLES, SESSIONS, USERS};
 use crate::{Entity, Label, Role, Session, Tables, User};
@@ -57,7 +57,7 @@ pub struct OldTables {
 }
 
 fn label(a: OldLabel) -> Label
-    ensures { result ≡ labelTaken a }
+    ensures { result ≡ label_taken a }
 {
     Label {
         cats: a.cats as u16,
@@ -66,7 +66,7 @@ fn label(a: OldLabel) -> Label
 }
 
 fn user(u: OldUser) -> User
-    ensures { result ≡ userTaken u }
+    ensures { result ≡ user_taken u }
 {
     let clearance = label(u.clearance);
     User {
@@ -76,7 +76,7 @@ fn user(u: OldUser) -> User
 }
 
 fn session(s: OldSession) -> Session
-    ensures { result ≡ sessionTaken s }
+    ensures { result ≡ session_taken s }
 {
     let label = label(s.label);
     Session {
@@ -90,7 +90,7 @@ fn session(s: OldSession) -> Session
 }
 
 fn role(p: OldRole) -> Role
-    ensures { result ≡ roleTaken p }
+    ensures { result ≡ role_taken p }
 {
     Role {
         live: p.live,
@@ -104,7 +104,7 @@ fn role(p: OldRole) -> Role
 }
 
 fn entity(n: OldEntity) -> Entity
-    ensures { result ≡ entityTaken n }
+    ensures { result ≡ entity_taken n }
 {
     let label = label(n.label);
     Entity {
@@ -118,7 +118,7 @@ fn entity(n: OldEntity) -> Entity
 }
 
 fn users(old: [OldUser; USERS]) -> [User; USERS]
-    ensures { result ≡ map userTaken old }
+    ensures { result ≡ map user_taken old }
 {
     let first = user(old[0]);
     let mut users = [first; USERS];
@@ -132,7 +132,7 @@ fn users(old: [OldUser; USERS]) -> [User; USERS]
 }
 
 fn sessions(old: [OldSession; SESSIONS]) -> [Session; SESSIONS]
-    ensures { result ≡ map sessionTaken old }
+    ensures { result ≡ map session_taken old }
 {
     let first = session(old[0]);
     let mut sessions = [first; SESSIONS];
@@ -146,7 +146,7 @@ fn sessions(old: [OldSession; SESSIONS]) -> [Session; SESSIONS]
 }
 
 fn roles(old: [OldRole; ROLES]) -> [Role; ROLES]
-    ensures { result ≡ map roleTaken old }
+    ensures { result ≡ map role_taken old }
 {
     let first = role(old[0]);
     let mut roles = [first; ROLES];
@@ -160,7 +160,7 @@ fn roles(old: [OldRole; ROLES]) -> [Role; ROLES]
 }
 
 fn entities(old: [OldEntity; ENTITIES]) -> [Entity; ENTITIES]
-    ensures { result ≡ map entityTaken old }
+    ensures { result ≡ map entity_taken old }
 {
     let first = entity(old[0]);
     let mut entities = [first; ENTITIES];
@@ -176,7 +176,7 @@ fn entities(old: [OldEntity; ENTITIES]) -> [Entity; ENTITIES]
 impl OldTables {
     // The tables with every number the same, also where they are not sound; of edition 1.
     pub fn take_over(self) -> Tables
-        ensures { result ≡ takenOver self }
+        ensures { result ≡ taken_over self }
     {
         let old_users = self.users;
         let old_sessions = self.sessions;

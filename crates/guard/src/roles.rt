@@ -2,13 +2,13 @@
 ghost use Rattle.std.specs.Prelude.{◌≤◌, ◌<◌, ◌≡◌, true, not, cond, [], ◌∷◌, map, ltb, eqb};
 ghost use Rattle.bitset.specs.Tests.{either};
 ghost use Rattle.bitset.specs.Sets.{has};
-ghost use Rattle.guard.specs.Level.{sessionLevel, roleLevel, entityLevel, keeperOf, isKeeper, entityCount};
-ghost use Rattle.guard.specs.Tables.{noRole, allRights};
-ghost use Rattle.guard.specs.Edits.{clearRights};
+ghost use Rattle.guard.specs.Level.{session_level, role_level, entity_level, keeper_of, is_keeper, entity_count};
+ghost use Rattle.guard.specs.Tables.{no_role, all_rights};
+ghost use Rattle.guard.specs.Edits.{clear_rights};
 ghost use Rattle.guard.specs.Refusals.{first, ◌when◌};
 ghost use Rattle.guard.specs.Kind as kind;
-ghost use Rattle.guard.specs.Private.Inside.{usersAfter, juniorsAfter, setAfter, grantedAfter, roleAfter, owning as owningOf};
-ghost use Rattle.guard.specs.Private.InForce.{inRanges};
+ghost use Rattle.guard.specs.Private.Inside.{users_after, juniors_after, set_after, granted_after, role_after, owning as owningOf};
+ghost use Rattle.guard.specs.Private.InForce.{in_ranges};
 
 use crate::sizes::ROLES;
 use crate::view::View;
@@ -16,7 +16,7 @@ use crate::{Request, Role, kinds, sizes};
 
 // grant and revoke are refused alike.
 pub fn rights_refusal(q: Request, v: View) -> u8
-    ensures { result ≡ first (5 when not v.session.live ∷ 7 when either (not v.entity.live) (not v.live) ∷ 10 when either (ltb (sessionLevel q.seat) (entityLevel q.entity)) (ltb (roleLevel q.role) (entityLevel q.entity)) ∷ 13 when not (has v.found.rights.owns q.entity) ∷ []) }
+    ensures { result ≡ first (5 when not v.session.live ∷ 7 when either (not v.entity.live) (not v.live) ∷ 10 when either (ltb (session_level q.seat) (entity_level q.entity)) (ltb (role_level q.role) (entity_level q.entity)) ∷ 13 when not (has v.found.rights.owns q.entity) ∷ []) }
 {
     if !v.session.live {
         return 5;
@@ -37,7 +37,7 @@ pub fn rights_refusal(q: Request, v: View) -> u8
 
 // That the seat is not below the role and holds the keeper of the role's level.
 fn keeper_refusal(roles: u16, seat: u32, role: u32) -> u8
-    ensures { result ≡ first (10 when ltb (sessionLevel seat) (roleLevel role) ∷ 12 when not (has roles (keeperOf (roleLevel role))) ∷ []) }
+    ensures { result ≡ first (10 when ltb (session_level seat) (role_level role) ∷ 12 when not (has roles (keeper_of (role_level role))) ∷ []) }
 {
     if seat / sizes::LEVEL_SEATS < role / sizes::LEVEL_ROLES {
         return 10;
@@ -50,7 +50,7 @@ fn keeper_refusal(roles: u16, seat: u32, role: u32) -> u8
 
 // `so`: that the user is listed (list), or is not (unlist).
 pub fn list_refusal(q: Request, v: View, so: bool) -> u8
-    ensures { result ≡ first (5 when not v.session.live ∷ 7 when not v.live ∷ 10 when ltb (sessionLevel q.seat) (roleLevel q.role) ∷ 12 when not (has v.session.roles (keeperOf (roleLevel q.role))) ∷ 16 when so ∷ []) }
+    ensures { result ≡ first (5 when not v.session.live ∷ 7 when not v.live ∷ 10 when ltb (session_level q.seat) (role_level q.role) ∷ 12 when not (has v.session.roles (keeper_of (role_level q.role))) ∷ 16 when so ∷ []) }
 {
     if !v.session.live {
         return 5;
@@ -69,7 +69,7 @@ pub fn list_refusal(q: Request, v: View, so: bool) -> u8
 }
 
 pub fn make_refusal(q: Request, v: View) -> u8
-    ensures { result ≡ first (5 when not v.session.live ∷ 8 when v.live ∷ 10 when ltb (sessionLevel q.seat) (roleLevel q.role) ∷ 12 when not (has v.session.roles (keeperOf (roleLevel q.role))) ∷ []) }
+    ensures { result ≡ first (5 when not v.session.live ∷ 8 when v.live ∷ 10 when ltb (session_level q.seat) (role_level q.role) ∷ 12 when not (has v.session.roles (keeper_of (role_level q.role))) ∷ []) }
 {
     if !v.session.live {
         return 5;
@@ -81,7 +81,7 @@ pub fn make_refusal(q: Request, v: View) -> u8
 }
 
 pub fn unmake_refusal(q: Request, v: View) -> u8
-    ensures { result ≡ first (5 when not v.session.live ∷ 6 when isKeeper q.role ∷ 7 when not v.live ∷ 10 when ltb (sessionLevel q.seat) (roleLevel q.role) ∷ 12 when not (has v.session.roles (keeperOf (roleLevel q.role))) ∷ 15 when v.found.kin ∷ []) }
+    ensures { result ≡ first (5 when not v.session.live ∷ 6 when is_keeper q.role ∷ 7 when not v.live ∷ 10 when ltb (session_level q.seat) (role_level q.role) ∷ 12 when not (has v.session.roles (keeper_of (role_level q.role))) ∷ 15 when v.found.kin ∷ []) }
 {
     if !v.session.live {
         return 5;
@@ -111,7 +111,7 @@ fn is_so(call: u32, tied: bool) -> bool
 
 // join and unjoin; the request's role is the senior.
 pub fn tie_refusal(q: Request, v: View) -> u8
-    ensures { result ≡ first (5 when not v.session.live ∷ 7 when either (not v.live) (not v.alive) ∷ 10 when either (ltb (sessionLevel q.seat) (roleLevel q.role)) (not (eqb (roleLevel q.junior) (roleLevel q.role))) ∷ 12 when not (has v.session.roles (keeperOf (roleLevel q.role))) ∷ 22 when v.found.kin ∷ 16 when cond (eqb q.call kind.join) (has v.juniors q.junior) (not (has v.juniors q.junior)) ∷ []) }
+    ensures { result ≡ first (5 when not v.session.live ∷ 7 when either (not v.live) (not v.alive) ∷ 10 when either (ltb (session_level q.seat) (role_level q.role)) (not (eqb (role_level q.junior) (role_level q.role))) ∷ 12 when not (has v.session.roles (keeper_of (role_level q.role))) ∷ 22 when v.found.kin ∷ 16 when cond (eqb q.call kind.join) (has v.juniors q.junior) (not (has v.juniors q.junior)) ∷ []) }
 {
     if !v.session.live {
         return 5;
@@ -137,8 +137,8 @@ pub fn tie_refusal(q: Request, v: View) -> u8
 
 // The users listed by the role after list or unlist; make leaves them.
 fn users_after(q: Request, users: u16) -> u16
-    requires { inRanges q ≡ true }
-    ensures { result ≡ usersAfter q users }
+    requires { in_ranges q ≡ true }
+    ensures { result ≡ users_after q users }
 {
     if q.call == kinds::LIST {
         return bitset::with16(users, q.user);
@@ -151,8 +151,8 @@ fn users_after(q: Request, users: u16) -> u16
 
 // The juniors of the role after join or unjoin.
 fn juniors_after(q: Request, juniors: u16) -> u16
-    requires { inRanges q ≡ true }
-    ensures { result ≡ juniorsAfter q juniors }
+    requires { in_ranges q ≡ true }
+    ensures { result ≡ juniors_after q juniors }
 {
     if q.call == kinds::JOIN {
         return bitset::with16(juniors, q.junior);
@@ -165,8 +165,8 @@ fn juniors_after(q: Request, juniors: u16) -> u16
 
 // The entities of one right, after it is given or taken away where it is named.
 fn set_after(given: bool, named: bool, e: u32, set: u64) -> u64
-    requires { e < entityCount }
-    ensures { result ≡ setAfter given named e set }
+    requires { e < entity_count }
+    ensures { result ≡ set_after given named e set }
 {
     if !named {
         return set;
@@ -179,8 +179,8 @@ fn set_after(given: bool, named: bool, e: u32, set: u64) -> u64
 
 // Role `p` after a grant or a revoke of the rights named.
 fn granted(given: bool, rights: u32, e: u32, p: Role) -> Role
-    requires { (rights ≤ allRights) × (e < entityCount) }
-    ensures { result ≡ grantedAfter given rights e p }
+    requires { (rights ≤ all_rights) × (e < entity_count) }
+    ensures { result ≡ granted_after given rights e p }
 {
     let named = rights as u8;
     let mut n = p;
@@ -197,7 +197,7 @@ fn granted(given: bool, rights: u32, e: u32, p: Role) -> Role
 }
 
 pub fn empty() -> Role
-    ensures { result ≡ noRole }
+    ensures { result ≡ no_role }
 {
     Role {
         live: false,
@@ -213,8 +213,8 @@ pub fn empty() -> Role
 // Role `p` after a request on a role. A dead role of sound tables is empty already, so that a make
 // only marks it.
 pub fn after(q: Request, p: Role) -> Role
-    requires { inRanges q ≡ true }
-    ensures { result ≡ roleAfter q p }
+    requires { in_ranges q ≡ true }
+    ensures { result ≡ role_after q p }
 {
     if q.call == kinds::GRANT {
         return granted(true, q.rights, q.entity, p);
@@ -234,7 +234,7 @@ pub fn after(q: Request, p: Role) -> Role
 
 // Role `p` with own on entity `e`, as the role named at a create gains it.
 pub fn owning(e: u32, p: Role) -> Role
-    requires { e < entityCount }
+    requires { e < entity_count }
     ensures { result ≡ owningOf e p }
 {
     let mut n = p;
@@ -244,7 +244,7 @@ pub fn owning(e: u32, p: Role) -> Role
 
 // Role `p` without rights on entity `e`.
 fn cleared(e: u32, p: Role) -> Role
-    ensures { result ≡ clearRights e p }
+    ensures { result ≡ clear_rights e p }
 {
     let mut n = p;
     n.reads = bitset::without64(p.reads, e);
@@ -256,7 +256,7 @@ fn cleared(e: u32, p: Role) -> Role
 
 // Every role without rights on entity `e`: a deleted entity's rights.
 pub fn without_entity(roles: [Role; ROLES], e: u32) -> [Role; ROLES]
-    ensures { result ≡ map (clearRights e) roles }
+    ensures { result ≡ map (clear_rights e) roles }
 {
     let mut n = roles;
     let mut i = 0usize;

@@ -1,6 +1,6 @@
 // Requests as rows of numbers, in the order of the record's fields, and their answers as bytes.
 ghost use Rattle.std.specs.Prelude.{◌+◌, ◌*◌, ◌≤◌, ◌≡◌, ◌++◌, length, drop, replicate};
-ghost use Rattle.guard.specs.Batch.{rowLength, requestAt, shorter, batchLength};
+ghost use Rattle.guard.specs.Batch.{row_length, request_at, shorter, batch_length};
 ghost use Rattle.guard.specs.Private.Inside.{row_of};
 
 use crate::Request;
@@ -14,15 +14,15 @@ fn shorter(a: usize, b: usize) -> usize
 
 // As many requests as stand whole in so many numbers and have room for their answers and their roles.
 pub fn count(numbers: usize, answers: usize, roles: usize) -> usize
-    ensures { result ≡ batchLength numbers answers roles }
+    ensures { result ≡ batch_length numbers answers roles }
 {
     shorter(numbers / ROW, shorter(roles, answers))
 }
 
 // The request of row `i`.
 pub fn request(rows: &[u32], i: usize) -> Request
-    requires { rowLength * i + rowLength ≤ length rows.now }
-    ensures { result ≡ requestAt rows.now i }
+    requires { row_length * i + row_length ≤ length rows.now }
+    ensures { result ≡ request_at rows.now i }
 {
     let b = ROW * i;
     Request {

@@ -3,8 +3,8 @@
 // copy them.
 ghost use Rattle.std.specs.Prelude.{◌*◌, ◌<◌, ◌≡◌, length};
 ghost use Rattle.bitset.specs.Sets.{has};
-ghost use Rattle.guard.specs.Level.{entityCount, roleCount};
-ghost use Rattle.guard.specs.Private.Scan.{Grants, Granted, Cleared, Gathered, juniorsBy, seniorBy, tiedBy, climbsBy, reachedBy, nameBy, childBy, kinBy, foundOnly, FoundBy};
+ghost use Rattle.guard.specs.Level.{entity_count, role_count};
+ghost use Rattle.guard.specs.Private.Scan.{Grants, Granted, Cleared, Gathered, juniors_by, senior_by, tied_by, climbs_by, reached_by, name_by, child_by, kin_by, found_only, FoundBy};
 
 use crate::sizes::{BLOCK, ENTITIES, ENTITY_END, LEVEL_ENTITIES, ROLES};
 use crate::sound::tree::NAMES;
@@ -66,7 +66,7 @@ fn column(roles: [Role; ROLES]) -> [u64; GRANTS]
 
 // The sets and the juniors of role `r`.
 pub fn put(grants: &mut [u64; GRANTS], r: usize, p: Role) -> usize
-    requires { (r < roleCount) × (length grants.old ≡ 5 * roleCount) }
+    requires { (r < role_count) × (length grants.old ≡ 5 * role_count) }
     ensures { Granted grants.old r p grants.new }
 {
     let b = SETS * r;
@@ -80,7 +80,7 @@ pub fn put(grants: &mut [u64; GRANTS], r: usize, p: Role) -> usize
 
 // A deleted entity goes from every set of entities.
 pub fn clear(grants: &mut [u64; GRANTS], e: usize) -> usize
-    requires { (e < entityCount) × (length grants.old ≡ 5 * roleCount) }
+    requires { (e < entity_count) × (length grants.old ≡ 5 * role_count) }
     ensures { Cleared grants.old e grants.new }
 {
     let mut j = 0usize;
@@ -93,8 +93,8 @@ pub fn clear(grants: &mut [u64; GRANTS], e: usize) -> usize
 
 // The direct juniors of role `r`.
 pub fn juniors(grants: &[u64; GRANTS], r: usize) -> u16
-    requires { r < roleCount }
-    ensures { result ≡ juniorsBy grants.now r }
+    requires { r < role_count }
+    ensures { result ≡ juniors_by grants.now r }
 {
     (grants[TIES + r] % ROLE_SETS) as u16
 }
@@ -141,7 +141,7 @@ pub fn regather(grants: &[u64; GRANTS], before: u16, known: Rights, held: u16) -
 
 // `i` is a member. (`bitset::has64` would test that it is below 64.)
 pub fn is_in(set: u64, i: usize) -> bool
-    requires { i < entityCount }
+    requires { i < entity_count }
     ensures { result ≡ has set i }
 {
     (set >> (i as u64)) & 1 == 1
@@ -149,8 +149,8 @@ pub fn is_in(set: u64, i: usize) -> bool
 
 // Whether each container above `e` is in the set, up to and with the root.
 fn climbs(keys: &[u32; ENTITIES], through: u64, e: usize) -> bool
-    requires { e < entityCount }
-    ensures { result ≡ climbsBy keys.now through e }
+    requires { e < entity_count }
+    ensures { result ≡ climbs_by keys.now through e }
 {
     let mut at = e;
     let mut left = LEVEL_ENTITIES;
@@ -168,8 +168,8 @@ fn climbs(keys: &[u32; ENTITIES], through: u64, e: usize) -> bool
 }
 
 fn reached(keys: &[u32; ENTITIES], call: u32, e: usize, through: u64) -> bool
-    requires { e < entityCount }
-    ensures { result ≡ reachedBy keys.now call e through }
+    requires { e < entity_count }
+    ensures { result ≡ reached_by keys.now call e through }
 {
     if look::asks_way(call) {
         return climbs(keys, through, e);
@@ -179,8 +179,8 @@ fn reached(keys: &[u32; ENTITIES], call: u32, e: usize, through: u64) -> bool
 
 // Whether a child of `p` has the name.
 fn name_in(keys: &[u32; ENTITIES], p: usize, name: u32) -> bool
-    requires { p < entityCount }
-    ensures { result ≡ nameBy keys.now p name }
+    requires { p < entity_count }
+    ensures { result ≡ name_by keys.now p name }
 {
     let key = (p as u32) * NAMES + name % NAMES;
     let first = p / BLOCK * BLOCK;
@@ -195,8 +195,8 @@ fn name_in(keys: &[u32; ENTITIES], p: usize, name: u32) -> bool
 
 // Whether `p` has a child.
 fn child_in(keys: &[u32; ENTITIES], p: usize) -> bool
-    requires { p < entityCount }
-    ensures { result ≡ childBy keys.now p }
+    requires { p < entity_count }
+    ensures { result ≡ child_by keys.now p }
 {
     let parent = p as u32;
     let first = p / BLOCK * BLOCK;
@@ -211,7 +211,7 @@ fn child_in(keys: &[u32; ENTITIES], p: usize) -> bool
 
 // Whether `r` is a direct junior of a role.
 fn has_senior(grants: &[u64; GRANTS], r: u32) -> bool
-    ensures { result ≡ seniorBy grants.now r }
+    ensures { result ≡ senior_by grants.now r }
 {
     let mut all = 0u64;
     let mut k = 0usize;
@@ -224,8 +224,8 @@ fn has_senior(grants: &[u64; GRANTS], r: u32) -> bool
 
 // What 15 and 22 ask of the ties: unmake whether `r` has a junior or a senior, join whether it is `j` or below it.
 fn tied(grants: &[u64; GRANTS], call: u32, r: usize, j: usize) -> bool
-    requires { (r < roleCount) × (j < roleCount) }
-    ensures { result ≡ tiedBy grants.now call r j }
+    requires { (r < role_count) × (j < role_count) }
+    ensures { result ≡ tied_by grants.now call r j }
 {
     if call == kinds::UNMAKE {
         return (juniors(grants, r) != 0) | has_senior(grants, r as u32);
@@ -239,8 +239,8 @@ fn tied(grants: &[u64; GRANTS], call: u32, r: usize, j: usize) -> bool
 
 // What 14 and 15 ask: delete whether `e` has a child, create and rename whether a child of `o` has the name.
 fn kin(keys: &[u32; ENTITIES], call: u32, e: usize, o: usize, name: u32) -> bool
-    requires { (e < entityCount) × (o < entityCount) }
-    ensures { result ≡ kinBy keys.now call e o name }
+    requires { (e < entity_count) × (o < entity_count) }
+    ensures { result ≡ kin_by keys.now call e o name }
 {
     if call == kinds::DELETE {
         return child_in(keys, e);
@@ -253,7 +253,7 @@ fn kin(keys: &[u32; ENTITIES], call: u32, e: usize, o: usize, name: u32) -> bool
 
 // No rights, and what the ties tell.
 fn only(kin: bool) -> Found
-    ensures { result ≡ foundOnly kin }
+    ensures { result ≡ found_only kin }
 {
     let rights = Rights {
         reads: 0,
@@ -280,7 +280,7 @@ pub fn find(
     r: usize,
     j: usize,
 ) -> Found
-    requires { (e < entityCount) × (o < entityCount) × (r < roleCount) × (j < roleCount) }
+    requires { (e < entity_count) × (o < entity_count) × (r < role_count) × (j < role_count) }
     ensures { FoundBy keys.now grants.now q held e o r j result }
 {
     if !look::asks_rights(q.call) {

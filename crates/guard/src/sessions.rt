@@ -3,16 +3,16 @@
 ghost use Rattle.std.specs.Prelude.{◌≤◌, ◌<◌, ◌≡◌, true, not, [], ◌∷◌, map, ltb};
 ghost use Rattle.bitset.specs.Tests.{either};
 ghost use Rattle.bitset.specs.Sets.{has};
-ghost use Rattle.guard.specs.Level.{userCount, sessionLevel};
-ghost use Rattle.guard.specs.Label.{topGrade, allCategories, dominates};
-ghost use Rattle.guard.specs.Tables.{noSession};
-ghost use Rattle.guard.specs.Edits.{dropRole, closeBoth};
+ghost use Rattle.guard.specs.Level.{user_count, session_level};
+ghost use Rattle.guard.specs.Label.{top_grade, all_categories, dominates};
+ghost use Rattle.guard.specs.Tables.{no_session};
+ghost use Rattle.guard.specs.Edits.{drop_role, close_both};
 ghost use Rattle.guard.specs.Refusals.{first, ◌when◌};
-ghost use Rattle.guard.specs.Conditions.{labelAsked};
-ghost use Rattle.guard.specs.Requests.{loggedIn};
-ghost use Rattle.guard.specs.Private.Inside.{sessionAfter};
-ghost use Rattle.guard.specs.Private.Scan.{backedBy};
-ghost use Rattle.guard.specs.Private.InForce.{inRanges};
+ghost use Rattle.guard.specs.Conditions.{label_asked};
+ghost use Rattle.guard.specs.Requests.{logged_in};
+ghost use Rattle.guard.specs.Private.Inside.{session_after};
+ghost use Rattle.guard.specs.Private.Scan.{backed_by};
+ghost use Rattle.guard.specs.Private.InForce.{in_ranges};
 
 use crate::scan::GRANTS;
 use crate::sizes::SESSIONS;
@@ -20,8 +20,8 @@ use crate::view::View;
 use crate::{Label, Request, Session, backing, kinds, labels, sizes};
 
 pub fn login_refusal(q: Request, v: View) -> u8
-    requires { (q.grade ≤ topGrade) × (q.cats ≤ allCategories) }
-    ensures { result ≡ first (3 when v.session.live ∷ 4 when either (ltb v.user.ceiling (sessionLevel q.seat)) (not (dominates v.user.clearance (labelAsked q))) ∷ []) }
+    requires { (q.grade ≤ top_grade) × (q.cats ≤ all_categories) }
+    ensures { result ≡ first (3 when v.session.live ∷ 4 when either (ltb v.user.ceiling (session_level q.seat)) (not (dominates v.user.clearance (label_asked q))) ∷ []) }
 {
     if v.session.live {
         return 3;
@@ -79,8 +79,8 @@ pub fn drop_refusal(q: Request, v: View) -> u8
 
 // The session that a login makes.
 fn entered(q: Request) -> Session
-    requires { (q.user < userCount) × (q.grade ≤ topGrade) × (q.cats ≤ allCategories) }
-    ensures { result ≡ loggedIn q }
+    requires { (q.user < user_count) × (q.grade ≤ top_grade) × (q.cats ≤ all_categories) }
+    ensures { result ≡ logged_in q }
 {
     let label = labels::made(q.grade, q.cats);
     Session {
@@ -94,7 +94,7 @@ fn entered(q: Request) -> Session
 }
 
 pub fn empty() -> Session
-    ensures { result ≡ noSession }
+    ensures { result ≡ no_session }
 {
     let none = Label { cats: 0, grade: 0 };
     Session {
@@ -109,7 +109,7 @@ pub fn empty() -> Session
 
 // Session `s` without role `r`, and without entity `e` open.
 pub fn dropped(r: u32, s: Session) -> Session
-    ensures { result ≡ dropRole r s }
+    ensures { result ≡ drop_role r s }
 {
     let mut n = s;
     n.roles = bitset::without16(s.roles, r);
@@ -117,7 +117,7 @@ pub fn dropped(r: u32, s: Session) -> Session
 }
 
 fn closed(e: u32, s: Session) -> Session
-    ensures { result ≡ closeBoth e s }
+    ensures { result ≡ close_both e s }
 {
     let mut n = s;
     n.reading = bitset::without64(s.reading, e);
@@ -127,8 +127,8 @@ fn closed(e: u32, s: Session) -> Session
 
 // The acting session after a request on it; a drop also ends those of its opens that are no longer backed.
 pub fn after(grants: &[u64; GRANTS], q: Request, s: Session) -> Session
-    requires { inRanges q ≡ true }
-    ensures { result ≡ sessionAfter (backedBy grants.now) q s }
+    requires { in_ranges q ≡ true }
+    ensures { result ≡ session_after (backed_by grants.now) q s }
 {
     let call = q.call;
     let mut n = s;
@@ -146,7 +146,7 @@ pub fn after(grants: &[u64; GRANTS], q: Request, s: Session) -> Session
 
 // Every session without entity `e` open: a deleted entity's opens.
 pub fn without_entity(sessions: [Session; SESSIONS], e: u32) -> [Session; SESSIONS]
-    ensures { result ≡ map (closeBoth e) sessions }
+    ensures { result ≡ map (close_both e) sessions }
 {
     let mut n = sessions;
     let mut i = 0usize;

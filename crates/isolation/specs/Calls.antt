@@ -4,34 +4,34 @@
 --     Call, Calls         one call, and calls one after the other: from which tables, the requests made, their answers, the roles told
 --                         (each as its byte), to which tables
 --     compared            of the answers beside a log, those that the rule compares
---     calls-isolate       the isolation rule, for any two such sequences of calls
+--     calls_isolate       the isolation rule, for any two such sequences of calls
 -- Assumes nothing.
 use Rattle.std.specs.Prelude.{ℕ, ◌≤◌, ◌≡◌, refl, Bool, true, false, cond, List, [], ◌∷◌, ◌++◌, map, length, take}
 use Rattle.std.proofs.Common.{sym, ap, ◌∙◌, take_at}
 use Rattle.std.proofs.lemmas.List.{map-append, length-map}
 use Rattle.bitset.specs.Tests.{every}
 use Rattle.guard.specs.Sound.{sound}
-use Rattle.guard.specs.Told.{roleByte}
-use Rattle.guard.specs.Step.{answer, next, roleTold, step, run, runIn, eachIn, answers, rolesTold}
-use Rattle.guard.specs.SameRequest.{sameRequests}
-use Rattle.isolation.specs.Upper.{upper, isUpper, namesUpper, upperRequests, answered, upperAnswers}
+use Rattle.guard.specs.Told.{role_byte}
+use Rattle.guard.specs.Step.{answer, next, role_told, step, run, run_in, each_in, answers, roles_told}
+use Rattle.guard.specs.SameRequest.{same_requests}
+use Rattle.isolation.specs.Upper.{upper, is_upper, names_upper, upper_requests, answered, upper_answers}
 use Rattle.guard.specs.Batch.{batch, RunsBatch}
 use Rattle.guard.specs.declared.Tables.{Tables}
 use Rattle.guard.specs.declared.Request.{Request}
 use Rattle.guard.specs.declared.Outcome.{Outcome}
 use Rattle.guard.specs.declared.Told.{Told}
-use Rattle.guard.proofs.Logs.{each, run-append, each_append, length-each}
+use Rattle.guard.proofs.Logs.{each, run_append, each_append, length_each}
 use Rattle.isolation.specs.Theorem.{isolation}
 
 -- One call on tables t: the requests that it made, the answers that it gave to them, the roles that it told, and the tables that it
 -- handed back.
 pub data Call : Tables → List Request → List ℕ → List ℕ → Tables → Type 0 where
   -- `t.step(q)` handed back o
-  stepped : {t : Tables} {q : Request} {o : Outcome} → o ≡ step t q → Call t (q ∷ []) (o.answer ∷ []) (roleByte o.role ∷ []) o.tables
+  stepped : {t : Tables} {q : Request} {o : Outcome} → o ≡ step t q → Call t (q ∷ []) (o.answer ∷ []) (role_byte o.role ∷ []) o.tables
   -- `t.run(&rows, &mut answers, &mut roles)` handed back u, and made `new` of the answers `old` and `newRoles` of the roles
   -- `oldRoles`: one for each request, the rest as it was
-  ran : {t u : Tables} {rows old new oldRoles newRoles : List ℕ} → RunsBatch t rows old new oldRoles newRoles u
-      → Call t (batch rows old oldRoles) (take (length (batch rows old oldRoles)) new) (take (length (batch rows old oldRoles)) newRoles) u
+  ran : {t u : Tables} {rows old new old_roles new_roles : List ℕ} → RunsBatch t rows old new old_roles new_roles u
+      → Call t (batch rows old old_roles) (take (length (batch rows old old_roles)) new) (take (length (batch rows old old_roles)) new_roles) u
 
 -- Calls one after the other, each on the tables that the one before handed back.
 pub data Calls : Tables → List Request → List ℕ → List ℕ → Tables → Type 0 where
@@ -42,43 +42,43 @@ pub data Calls : Tables → List Request → List ℕ → List ℕ → Tables �
 unfoldable pub compared : ℕ → List Request → List ℕ → List ℕ
 compared L [] told = []
 compared L (q ∷ log) [] = []
-compared L (q ∷ log) (n ∷ told) = cond (every (isUpper L q ∷ namesUpper L q ∷ [])) (n ∷ compared L log told) (compared L log told)
+compared L (q ∷ log) (n ∷ told) = cond (every (is_upper L q ∷ names_upper L q ∷ [])) (n ∷ compared L log told) (compared L log told)
 
 -- ---- what the calls made is one log, what they answered are its answers, and what they told are its roles
 abbrev bytes : Tables → List Request → List ℕ
-bytes t a = map roleByte (rolesTold t a)
+bytes t a = map role_byte (roles_told t a)
 
 abbrev Logged : Tables → List Request → List ℕ → List ℕ → Tables → Type 0
 Logged t a p r u = (u ≡ run t a) × (p ≡ answers t a) × (r ≡ bytes t a)
 
-bytes-append : (t : Tables) (a b : List Request) → bytes t (a ++ b) ≡ bytes t a ++ bytes (run t a) b
-bytes-append t a b = ap (map roleByte) (each_append roleTold t a b) ∙ map-append roleByte (rolesTold t a) (rolesTold (run t a) b)
+bytes_append : (t : Tables) (a b : List Request) → bytes t (a ++ b) ≡ bytes t a ++ bytes (run t a) b
+bytes_append t a b = ap (map role_byte) (each_append role_told t a b) ∙ map-append role_byte (roles_told t a) (roles_told (run t a) b)
 
-length-bytes : (t : Tables) (a : List Request) → length (bytes t a) ≡ length a
-length-bytes t a = length-map (rolesTold t a) roleByte ∙ length-each roleTold t a
+length_bytes : (t : Tables) (a : List Request) → length (bytes t a) ≡ length a
+length_bytes t a = length-map (roles_told t a) role_byte ∙ length_each role_told t a
 
-one-logged : {t u : Tables} {a : List Request} {p r : List ℕ} → Call t a p r u → Logged t a p r u
-unfolding runIn eachIn step
-one-logged (stepped e) =
-    (ap (λ (o : Outcome). o.tables) e, ap (λ (o : Outcome). o.answer ∷ []) e, ap (λ (o : Outcome). roleByte o.role ∷ []) e)
-one-logged (ran {t = t} {rows = rows} {old = old} {oldRoles = oldRoles} b) =
-    let log = batch rows old oldRoles in
-    (b.tables, rw b.answered (take_at (answers t log) _ _ (length-each answer t log)), rw b.told (take_at (bytes t log) _ _ (length-bytes t log)))
+one_logged : {t u : Tables} {a : List Request} {p r : List ℕ} → Call t a p r u → Logged t a p r u
+unfolding run_in each_in step
+one_logged (stepped e) =
+    (ap (λ (o : Outcome). o.tables) e, ap (λ (o : Outcome). o.answer ∷ []) e, ap (λ (o : Outcome). role_byte o.role ∷ []) e)
+one_logged (ran {t = t} {rows = rows} {old = old} {old_roles = old_roles} b) =
+    let log = batch rows old old_roles in
+    (b.tables, rw b.answered (take_at (answers t log) _ _ (length_each answer t log)), rw b.told (take_at (bytes t log) _ _ (length_bytes t log)))
 
 logged : {t u : Tables} {a : List Request} {p r : List ℕ} → Calls t a p r u → Logged t a p r u
-unfolding runIn eachIn
+unfolding run_in each_in
 logged none = (refl, refl, refl)
 logged (more call calls) =
-    let (u-is, p-is, r-is) = one-logged call in
-    let (v-is, q-is, s-is) = logged calls in
-    (v-is ∙ rw (u-is, run-append), rw (p-is, q-is, u-is, each_append), rw (r-is, s-is, u-is, bytes-append))
+    let (u_is, p_is, r_is) = one_logged call in
+    let (v_is, q_is, s_is) = logged calls in
+    (v_is ∙ rw (u_is, run_append), rw (p_is, q_is, u_is, each_append), rw (r_is, s_is, u_is, bytes_append))
 
 -- what a log is handed back and the rule compares
-compared-each : (L : ℕ) (f : ℕ × Told → ℕ) (t : Tables) (log : List Request)
-    → compared L log (each (λ v q. f (answered v q)) t log) ≡ map f (upperAnswers L t log)
-unfolding compared eachIn upperAnswers
-compared-each L f t [] = refl
-compared-each L f t (q ∷ log) = go (every (isUpper L q ∷ namesUpper L q ∷ [])) _ _ (compared-each L f (next t q) log)
+compared_each : (L : ℕ) (f : ℕ × Told → ℕ) (t : Tables) (log : List Request)
+    → compared L log (each (λ v q. f (answered v q)) t log) ≡ map f (upper_answers L t log)
+unfolding compared each_in upper_answers
+compared_each L f t [] = refl
+compared_each L f t (q ∷ log) = go (every (is_upper L q ∷ names_upper L q ∷ [])) _ _ (compared_each L f (next t q) log)
   where
     go : (c : Bool) (l : List ℕ) (m : List (ℕ × Told)) → l ≡ map f m → cond c (f (answered t q) ∷ l) l ≡ map f (cond c (answered t q ∷ m) m)
     go true l m e = rw e
@@ -88,28 +88,28 @@ abbrev number : ℕ × Told → ℕ
 number (n, role) = n
 
 abbrev byte : ℕ × Told → ℕ
-byte (n, role) = roleByte role
+byte (n, role) = role_byte role
 
-bytes-are : (t : Tables) (log : List Request) → bytes t log ≡ each (λ v q. byte (answered v q)) t log
-unfolding eachIn
-bytes-are t [] = refl
-bytes-are t (q ∷ log) = ap (λ (l : List ℕ). roleByte (roleTold t q) ∷ l) (bytes-are (next t q) log)
+bytes_are : (t : Tables) (log : List Request) → bytes t log ≡ each (λ v q. byte (answered v q)) t log
+unfolding each_in
+bytes_are t [] = refl
+bytes_are t (q ∷ log) = ap (λ (l : List ℕ). role_byte (role_told t q) ∷ l) (bytes_are (next t q) log)
 
 -- ---- the rule
-pub calls-isolate :
+pub calls_isolate :
     (L : ℕ) → 1 ≤ L → L ≤ 3
     → (t u : Tables) → sound t ≡ true → sound u ≡ true → upper L t ≡ upper L u
     -- calls that made the logs a and b, answered p and q, told r and s, and at last handed back t2 and u2
     → (a b : List Request) (p q r s : List ℕ) (t2 u2 : Tables) → Calls t a p r t2 → Calls u b q s u2
-    → sameRequests (upperRequests L a) (upperRequests L b) ≡ true
+    → same_requests (upper_requests L a) (upper_requests L b) ≡ true
     → (upper L t2 ≡ upper L u2) × (compared L a p ≡ compared L b q) × (compared L a r ≡ compared L b s)
-calls-isolate L low high t u st su e a b p q r s t2 u2 left right same =
+calls_isolate L low high t u st su e a b p q r s t2 u2 left right same =
     let (parts, told) = isolation L low high t u st su e a b same in
-    let (t2-is, p-is, r-is) = logged left in
-    let (u2-is, q-is, s-is) = logged right in
+    let (t2_is, p_is, r_is) = logged left in
+    let (u2_is, q_is, s_is) = logged right in
     let alike : (f : ℕ × Told → ℕ) → compared L a (each (λ v q. f (answered v q)) t a) ≡ compared L b (each (λ v q. f (answered v q)) u b) =
-    λ f. compared-each L f t a ∙ ap (map f) told ∙ sym (compared-each L f u b) in (
-      ap (upper L) t2-is ∙ parts ∙ sym (ap (upper L) u2-is),
-      ap (compared L a) p-is ∙ alike number ∙ sym (ap (compared L b) q-is),
-      ap (compared L a) (r-is ∙ bytes-are t a) ∙ alike byte ∙ sym (ap (compared L b) (s-is ∙ bytes-are u b)),
+    λ f. compared_each L f t a ∙ ap (map f) told ∙ sym (compared_each L f u b) in (
+      ap (upper L) t2_is ∙ parts ∙ sym (ap (upper L) u2_is),
+      ap (compared L a) p_is ∙ alike number ∙ sym (ap (compared L b) q_is),
+      ap (compared L a) (r_is ∙ bytes_are t a) ∙ alike byte ∙ sym (ap (compared L b) (s_is ∙ bytes_are u b)),
     )

@@ -1,8 +1,8 @@
 -- Laws of keys: a text of bytes has the key of another of at most seven bytes only where the two are the same. So which
 -- name or word a text is can be told by its key.
--- Packed: the loop that makes a key, with packed_start, packed-small, packed_more, packed-end, key-long.
+-- Packed: the loop that makes a key, with packed_start, packed_small, packed_more, packed_end, key_long.
 -- Keyed: numbers that are the keys of texts, with at_key and at_none: the place of a text among them is that of its key.
--- same-eq, same_self: the same bytes. name-keys, word-keys: the keys of the names and of the words.
+-- same_eq, same_self: the same bytes. name_keys_lem, word_keys_lem: the keys of the names and of the words.
 -- Assumes nothing.
 use Prim.Native.Nat.{ℕ, zero, suc, ◌+◌, ◌*◌, ◌^◌, ◌≤◌, ◌<◌}
 use mathlib.Core.Path.{◌≡◌, refl, ap, sym, ◌∙◌}
@@ -19,9 +19,9 @@ use lib.Seq.{drop-cons}
 use borrow.Author.Tests.{le-leb, lt-leb, eq-eqb, ne_eqb, eqb-true, leb-true, leb-false, ltb-true}
 use Rattle.bitset.specs.Tests.Laws.{both}
 use Rattle.script.specs.Text.{bytes, same}
-use Rattle.script.specs.Names.{names, optionalNames, allNames, column}
-use Rattle.script.specs.Line.{requestWords, words}
-use Rattle.script.specs.Private.ShortTexts.{packed, textKey, spot}
+use Rattle.script.specs.Names.{names, optional_names, all_names, column}
+use Rattle.script.specs.Line.{request_words, words}
+use Rattle.script.specs.Private.ShortTexts.{packed, text_key, spot}
 
 -- ---- the loop that makes a key: k is the first i bytes
 pub record Packed (s : List ℕ) (k i : ℕ) : Type 0 where
@@ -32,13 +32,13 @@ pub record Packed (s : List ℕ) (k i : ℕ) : Type 0 where
 pub packed_start : (s : List ℕ) → Packed s 1 0
 packed_start s = record { within = omega arith; key = refl; small = omega arith }
 
-pub key-long : (s : List ℕ) → 7 < length s → 0 ≡ textKey s
-unfolding textKey
-key-long s h = rw (lt-leb (length s) 7 h)
+pub key_long : (s : List ℕ) → 7 < length s → 0 ≡ text_key s
+unfolding text_key
+key_long s h = rw (lt-leb (length s) 7 h)
 
 module _ {s : List ℕ} {k i : ℕ} (r : Packed s k i) where
-  pub packed-small : i < length s → length s ≤ 7 → k < 72057594037927936
-  packed-small l f =
+  pub packed_small : i < length s → length s ≤ 7 → k < 72057594037927936
+  packed_small l f =
       let b : 256 ^ (i + 1) ≤ 256 ^ 7 = pow-le-pow_right {n = 256} (omega arith) {i = i + 1} {j = 7} (omega arith) in
       omega (arith, r.small)
 
@@ -51,9 +51,9 @@ module _ {s : List ℕ} {k i : ℕ} (r : Packed s k i) where
         small = rw (add-one (i + 1), pow-suc) (omega (arith, r.small));
       }
 
-  pub packed-end : length s ≤ 7 → length s ≤ i → k ≡ textKey s
-  unfolding textKey packed
-  packed-end f l = rw (le-leb (length s) 7 f) (sym (r.key ∙ (rw (drop_of_length-le s l))))
+  pub packed_end : length s ≤ 7 → length s ≤ i → k ≡ text_key s
+  unfolding text_key packed
+  packed_end f l = rw (le-leb (length s) 7 f) (sym (r.key ∙ (rw (drop_of_length-le s l))))
 
 -- ---- two texts of one key
 abbrev pub Bytes : List ℕ → Type 0
@@ -82,32 +82,32 @@ longer n (a ∷ s) t k p q l h = go (leb (length t) (length s)) refl (longer (25
     go true e ih = absurd (omega (arith, (ih (leb-true (length t) (length s) e) h).0))
     go false e ih = aligned n 1 (a ∷ s) t p q (omega (arith, leb-false (length t) (length s) e)) h
 
-one-text : (s t : List ℕ) → Bytes s → Bytes t → packed 1 s ≡ packed 1 t → s ≡ t
-one-text s t p q h = go (leb (length t) (length s)) refl
+one_text : (s t : List ℕ) → Bytes s → Bytes t → packed 1 s ≡ packed 1 t → s ≡ t
+one_text s t p q h = go (leb (length t) (length s)) refl
   where
     go : (b : Bool) → leb (length t) (length s) ≡ b → s ≡ t
     go true e = (longer 1 s t (omega arith) p q (leb-true _ _ e) h).1
     go false e = sym (longer 1 t s (omega arith) q p (omega (arith, leb-false (length t) (length s) e)) (sym h)).1
 
-packed-some : (n : ℕ) (s : List ℕ) → 1 ≤ n → 1 ≤ packed n s
+packed_some : (n : ℕ) (s : List ℕ) → 1 ≤ n → 1 ≤ packed n s
 unfolding packed
-packed-some n [] h = h
-packed-some n (b ∷ s) h = packed-some (256 * n + b) s (omega arith)
+packed_some n [] h = h
+packed_some n (b ∷ s) h = packed_some (256 * n + b) s (omega arith)
 
-key_one : (s q : List ℕ) → Bytes s → Bytes q → length q ≤ 7 → textKey s ≡ textKey q → s ≡ q
-unfolding textKey
+key_one : (s q : List ℕ) → Bytes s → Bytes q → length q ≤ 7 → text_key s ≡ text_key q → s ≡ q
+unfolding text_key
 key_one s q p r l h = go (leb (length s) 7) (h ∙ (rw (le-leb (length q) 7 l)))
   where
     go : (b : Bool) → cond b (packed 1 s) 0 ≡ packed 1 q → s ≡ q
-    go true e = one-text s q p r e
-    go false e = absurd (omega (arith, packed-some 1 q (omega arith)))
+    go true e = one_text s q p r e
+    go false e = absurd (omega (arith, packed_some 1 q (omega arith)))
 
-pub same-eq : (s q : List ℕ) → same s q ≡ true → s ≡ q
+pub same_eq : (s q : List ℕ) → same s q ≡ true → s ≡ q
 unfolding same
-same-eq [] [] h = refl
-same-eq [] (b ∷ q) h = absurd (true≢false (sym h))
-same-eq (a ∷ s) [] h = absurd (true≢false (sym h))
-same-eq (a ∷ s) (b ∷ q) h = go (eqb a b) refl (same-eq s q) h
+same_eq [] [] h = refl
+same_eq [] (b ∷ q) h = absurd (true≢false (sym h))
+same_eq (a ∷ s) [] h = absurd (true≢false (sym h))
+same_eq (a ∷ s) (b ∷ q) h = go (eqb a b) refl (same_eq s q) h
   where
     go : (t : Bool) → eqb a b ≡ t → (same s q ≡ true → s ≡ q) → (t && same s q) ≡ true → a ∷ s ≡ b ∷ q
     go true e ih k = let x : a ≡ b = eqb-true a b e in cc (ih k)
@@ -118,11 +118,11 @@ unfolding same
 same_self [] = refl
 same_self (a ∷ s) = rw (eq-eqb a a refl) (same_self s)
 
-same_key : (s q : List ℕ) → Bytes s → Bytes q → length q ≤ 7 → same s q ≡ eqb (textKey s) (textKey q)
+same_key : (s q : List ℕ) → Bytes s → Bytes q → length q ≤ 7 → same s q ≡ eqb (text_key s) (text_key q)
 same_key s q p r l =
-    both (same s q) (eqb (textKey s) (textKey q))
-    (λ h. eq-eqb (textKey s) (textKey q) (ap textKey (same-eq s q h)))
-    (λ h. rw (key_one s q p r l (eqb-true (textKey s) (textKey q) h)) (same_self q))
+    both (same s q) (eqb (text_key s) (text_key q))
+    (λ h. eq-eqb (text_key s) (text_key q) (ap text_key (same_eq s q h)))
+    (λ h. rw (key_one s q p r l (eqb-true (text_key s) (text_key q) h)) (same_self q))
 
 -- ---- the place of a text among others, by its key
 -- texts of at most seven bytes
@@ -142,20 +142,20 @@ and_r : (a b : Bool) → (a && b) ≡ true → b ≡ true
 and_r true b h = h
 and_r false b h = absurd (true≢false (sym h))
 
-bytes-all : (q : List ℕ) → all_bytes q ≡ true → Bytes q
-bytes-all [] h i = omega arith
-bytes-all (b ∷ q) h zero = ltb-true b 256 (and_l (ltb b 256) (all_bytes q) h)
-bytes-all (b ∷ q) h (suc i) = bytes-all q (and_r (ltb b 256) (all_bytes q) h) i
+bytes_all : (q : List ℕ) → all_bytes q ≡ true → Bytes q
+bytes_all [] h i = omega arith
+bytes_all (b ∷ q) h zero = ltb-true b 256 (and_l (ltb b 256) (all_bytes q) h)
+bytes_all (b ∷ q) h (suc i) = bytes_all q (and_r (ltb b 256) (all_bytes q) h) i
 
-pub by_key : (s : List ℕ) (qs : List (List ℕ)) → Bytes s → short qs ≡ true → spot (textKey s) (map textKey qs) ≡ column s qs
+pub by_key : (s : List ℕ) (qs : List (List ℕ)) → Bytes s → short qs ≡ true → spot (text_key s) (map text_key qs) ≡ column s qs
 unfolding column
 by_key s [] p h = refl
 by_key s (q ∷ qs) p h =
     let r : (all_bytes q && short qs) ≡ true = and_r (leb (length q) 7) (all_bytes q && short qs) h in
-    let b : Bytes q = bytes-all q (and_l (all_bytes q) (short qs) r) in
+    let b : Bytes q = bytes_all q (and_l (all_bytes q) (short qs) r) in
     let l : length q ≤ 7 = leb-true _ _ (and_l (leb (length q) 7) (all_bytes q && short qs) h) in
-    let e : same s q ≡ eqb (textKey s) (textKey q) = same_key s q p b l in
-    let f : spot (textKey s) (map textKey qs) ≡ column s qs = by_key s qs p (and_r (all_bytes q) (short qs) r) in
+    let e : same s q ≡ eqb (text_key s) (text_key q) = same_key s q p b l in
+    let f : spot (text_key s) (map text_key qs) ≡ column s qs = by_key s qs p (and_r (all_bytes q) (short qs) r) in
     rw (e, f)
 
 -- k is none of the numbers
@@ -168,9 +168,9 @@ abbrev pub kept : (ℕ → Bool) → List ℕ → List ℕ
 kept t [] = []
 kept t (n ∷ ns) = cond (t n) (n ∷ kept t ns) (kept t ns)
 
-pub spot-none : {A : Type 0} (t : ℕ → Bool) (k : ℕ) (ns : List ℕ) → t k ≡ true → Misses A k (kept t ns) → A × (spot k ns ≡ length ns)
-spot-none t k [] p a = (a, refl)
-spot-none {A} t k (n ∷ ns) p m = go (t n) refl (spot-none t k ns p) (spot-none t k ns p) m
+pub spot_none : {A : Type 0} (t : ℕ → Bool) (k : ℕ) (ns : List ℕ) → t k ≡ true → Misses A k (kept t ns) → A × (spot k ns ≡ length ns)
+spot_none t k [] p a = (a, refl)
+spot_none {A} t k (n ∷ ns) p m = go (t n) refl (spot_none t k ns p) (spot_none t k ns p) m
   where
     go : (b : Bool) → t n ≡ b → (Misses (A × (k ≡ n → ⊥)) k (kept t ns) → (A × (k ≡ n → ⊥)) × (spot k ns ≡ length ns))
         → (Misses A k (kept t ns) → A × (spot k ns ≡ length ns))
@@ -180,23 +180,23 @@ spot-none {A} t k (n ∷ ns) p m = go (t n) refl (spot-none t k ns p) (spot-none
 
 -- ns are the keys of qs
 pub record Keyed (qs : List (List ℕ)) (ns : List ℕ) : Type 0 where
-  pub keys : map textKey qs ≡ ns
+  pub keys : map text_key qs ≡ ns
   pub fit : short qs ≡ true
 
 -- s is a slice's bytes and k its key
-module _ {qs : List (List ℕ)} {ns : List ℕ} (y : Keyed qs ns) (s : List ℕ) {k : ℕ} (p : (i : ℕ) → Fits w8 (get_or s i 0)) (h : k ≡ textKey s) where
+module _ {qs : List (List ℕ)} {ns : List ℕ} (y : Keyed qs ns) (s : List ℕ) {k : ℕ} (p : (i : ℕ) → Fits w8 (get_or s i 0)) (h : k ≡ text_key s) where
   by_number : spot k ns ≡ column s qs
-  by_number = ap (λ (n : ℕ). spot n ns) h ∙ ap (spot (textKey s)) (sym y.keys) ∙ by_key s qs (λ i. (p i).fits) y.fit
+  by_number = ap (λ (n : ℕ). spot n ns) h ∙ ap (spot (text_key s)) (sym y.keys) ∙ by_key s qs (λ i. (p i).fits) y.fit
 
   pub at_key : {n : ℕ} → k ≡ n → spot n ns ≡ column s qs
   at_key e = ap (λ (n : ℕ). spot n ns) (sym e) ∙ by_number
 
   pub at_none : Misses (Unit {0}) k (kept (λ n. true) ns) → length ns ≡ column s qs
-  at_none m = sym (spot-none (λ n. true) k ns refl m).1 ∙ by_number
+  at_none m = sym (spot_none (λ n. true) k ns refl m).1 ∙ by_number
 
 -- ---- the keys of the names and of the words
-abbrev nameKeys : List ℕ
-nameKeys =
+abbrev name_keys : List ℕ
+name_keys =
     0x163616c6c
     ∷ 0x173656174
     ∷ 0x175736572
@@ -213,12 +213,12 @@ nameKeys =
     ∷ 0x16a756e696f72
     ∷ []
 
-pub name-keys : Keyed allNames nameKeys
-unfolding allNames names optionalNames bytes textKey packed
-name-keys = record { keys = refl; fit = refl }
+pub name_keys_lem : Keyed all_names name_keys
+unfolding all_names names optional_names bytes text_key packed
+name_keys_lem = record { keys = refl; fit = refl }
 
-abbrev pub wordKeys : List ℕ
-wordKeys =
+abbrev pub word_keys : List ℕ
+word_keys =
     0x175736572
     ∷ 0x16c6f67696e
     ∷ 0x16c6f676f7574
@@ -241,6 +241,6 @@ wordKeys =
     ∷ 0x1756e6a6f696e
     ∷ []
 
-pub word-keys : Keyed words wordKeys
-unfolding words requestWords bytes textKey packed
-word-keys = record { keys = refl; fit = refl }
+pub word_keys_lem : Keyed words word_keys
+unfolding words request_words bytes text_key packed
+word_keys_lem = record { keys = refl; fit = refl }

@@ -1,9 +1,9 @@
 -- The fields of a row, one after the other, as a reader that leaves at the first fault meets them.
---     field-missing, field-extra, field-number                  what a field is taken as
+--     field_missing, field_extra, field_number                  what a field is taken as
 --     take_split                                                some fields, and more
---     Took, took-none, took, faulty                             the fields so far are numbers; the next one is a fault
---     asks-bad, asks-user, asks-request                         what the line asks
---     table, table-used                                         which fields a word uses
+--     Took, took_none, took, faulty                             the fields so far are numbers; the next one is a fault
+--     asks_bad, asks_user, asks_request                         what the line asks
+--     table, table_used                                         which fields a word uses
 -- Assumes nothing.
 use Prim.Native.Nat.{ℕ, zero, suc, ◌+◌, ◌<◌}
 use mathlib.Core.Path.{◌≡◌, refl, ap, sym, ◌∙◌}
@@ -15,10 +15,10 @@ use lib.ListN.{get_or}
 use borrow.Author.Tests.{ne_eqb, not-true}
 use Rattle.bitset.specs.Sets.{has}
 use Rattle.bitset.specs.Tests.{all}
-use Rattle.bitset.specs.Tests.Laws.{all-e}
+use Rattle.bitset.specs.Tests.Laws.{all_e}
 use Rattle.guard.proofs.Compute.{computing}
-use Rattle.script.specs.Line.{userWord, call_of, Numbers, these, unreadable, joined, asks, used, isUsed, ordinal, fields, optionalFields}
-use Rattle.script.specs.Private.Rows.{no_word, fieldCount, takenAs, joins, takeFrom, front, ahead, members}
+use Rattle.script.specs.Line.{user_word, call_of, Numbers, these, unreadable, joined, asks, used, is_used, ordinal, fields, optional_fields}
+use Rattle.script.specs.Private.Rows.{no_word, field_count, taken_as, joins, take_from, front, ahead, members}
 use Rattle.script.specs.declared.line.Line.TheVariants.{Ask, SetUser, Bad}
 use Rattle.script.specs.declared.fields.Taken.{Taken}
 use Rattle.script.specs.declared.fields.Taken.TheVariants.{Number, Fault}
@@ -27,92 +27,92 @@ use Rattle.script.specs.declared.fields.Half.TheVariants.{Numbers as Whole}
 
 -- ---- one field: used or not, and a number or not
 module _ (u g : Bool) (n : ℕ) {a b : Bool} (h : a ≡ u) (k : b ≡ g) where
-  pub field-missing : (a && not b) ≡ true → Fault ≡ takenAs u g n
-  unfolding takenAs
-  field-missing e = rw (← h, ← k) (go a b e)
+  pub field_missing : (a && not b) ≡ true → Fault ≡ taken_as u g n
+  unfolding taken_as
+  field_missing e = rw (← h, ← k) (go a b e)
     where
-      go : (a b : Bool) → (a && not b) ≡ true → Fault ≡ takenAs a b n
+      go : (a b : Bool) → (a && not b) ≡ true → Fault ≡ taken_as a b n
       go true true e = cc
       go true false e = refl
       go false b e = cc
 
-  pub field-extra : (b && not a) ≡ true → Fault ≡ takenAs u g n
-  unfolding takenAs
-  field-extra e = rw (← h, ← k) (go a b e)
+  pub field_extra : (b && not a) ≡ true → Fault ≡ taken_as u g n
+  unfolding taken_as
+  field_extra e = rw (← h, ← k) (go a b e)
     where
-      go : (a b : Bool) → (b && not a) ≡ true → Fault ≡ takenAs a b n
+      go : (a b : Bool) → (b && not a) ≡ true → Fault ≡ taken_as a b n
       go true true e = cc
       go true false e = refl
       go false true e = refl
       go false false e = cc
 
-  pub field-number : (a && not b) ≡ false → (b && not a) ≡ false → Number n ≡ takenAs u g n
-  unfolding takenAs
-  field-number e f = rw (← h, ← k) (go a b e f)
+  pub field_number : (a && not b) ≡ false → (b && not a) ≡ false → Number n ≡ taken_as u g n
+  unfolding taken_as
+  field_number e f = rw (← h, ← k) (go a b e f)
     where
-      go : (a b : Bool) → (a && not b) ≡ false → (b && not a) ≡ false → Number n ≡ takenAs a b n
+      go : (a b : Bool) → (a && not b) ≡ false → (b && not a) ≡ false → Number n ≡ taken_as a b n
       go true true e f = refl
       go true false e f = cc
       go false true e f = cc
       go false false e f = refl
 
 -- ---- the fields so far
-pub step-on : (i k : ℕ) → suc i + k ≡ i + suc k
-step-on i k = omega arith
+pub step_on : (i k : ℕ) → suc i + k ≡ i + suc k
+step_on i k = omega arith
 
 -- k fields and n more
-pub take_split : (u g : ℕ) (v : List ℕ) (i k n : ℕ) (x : Numbers) → takeFrom u g v i (k + n) x ≡ takeFrom u g v i k (takeFrom u g v (i + k) n x)
-unfolding takeFrom
+pub take_split : (u g : ℕ) (v : List ℕ) (i k n : ℕ) (x : Numbers) → take_from u g v i (k + n) x ≡ take_from u g v i k (take_from u g v (i + k) n x)
+unfolding take_from
 take_split u g v i zero n x = rw (add-zero, zero-add)
-take_split u g v i (suc k) n x = rw (suc-add, ← step-on) (ap (joins (takenAs (has u i) (has g i) (get_or v i 0))) (take_split u g v (suc i) k n x))
+take_split u g v i (suc k) n x = rw (suc-add, ← step_on) (ap (joins (taken_as (has u i) (has g i) (get_or v i 0))) (take_split u g v (suc i) k n x))
 
-front-more : (ns : List ℕ) (n : ℕ) (x : Numbers) → front (ns ++ (n ∷ [])) x ≡ front ns (joined n x)
+front_more : (ns : List ℕ) (n : ℕ) (x : Numbers) → front (ns ++ (n ∷ [])) x ≡ front ns (joined n x)
 unfolding front
-front-more [] n x = refl
-front-more (m ∷ ns) n x = ap (joined m) (front-more ns n x)
+front_more [] n x = refl
+front_more (m ∷ ns) n x = ap (joined m) (front_more ns n x)
 
-front-bad : (ns : List ℕ) → front ns unreadable ≡ unreadable
+front_bad : (ns : List ℕ) → front ns unreadable ≡ unreadable
 unfolding front joined
-front-bad [] = refl
-front-bad (n ∷ ns) = rw (front-bad ns)
+front_bad [] = refl
+front_bad (n ∷ ns) = rw (front_bad ns)
 
 -- k fields from name i on are the numbers ns
 pub record Took (u g : ℕ) (v : List ℕ) (i k : ℕ) (ns : List ℕ) : Type 0 where
-  pub so : (x : Numbers) → takeFrom u g v i k x ≡ front ns x
+  pub so : (x : Numbers) → take_from u g v i k x ≡ front ns x
 
-pub took-none : {u g : ℕ} {v : List ℕ} {i : ℕ} → Took u g v i 0 []
-unfolding takeFrom front
-took-none = record { so = λ x. refl }
+pub took_none : {u g : ℕ} {v : List ℕ} {i : ℕ} → Took u g v i 0 []
+unfolding take_from front
+took_none = record { so = λ x. refl }
 
-module _ {u g : ℕ} {v : List ℕ} {i k : ℕ} {ns : List ℕ} {r : Taken} (p : Took u g v i k ns) (h : r ≡ takenAs (has u (i + k)) (has g (i + k)) (get_or v (i + k) 0)) where
+module _ {u g : ℕ} {v : List ℕ} {i k : ℕ} {ns : List ℕ} {r : Taken} (p : Took u g v i k ns) (h : r ≡ taken_as (has u (i + k)) (has g (i + k)) (get_or v (i + k) 0)) where
   pub took : {n : ℕ} → r ≡ Number n → Took u g v i (k + 1) (ns ++ (n ∷ []))
-  unfolding takeFrom joins
+  unfolding take_from joins
   took {n} e =
       record {
         so = λ x.
             take_split u g v i k 1 x
             ∙ p.so _
             ∙ ap (λ (t : Taken). front ns (joins t x)) (sym h ∙ e)
-            ∙ sym (front-more ns n x);
+            ∙ sym (front_more ns n x);
       }
 
-  pub faulty : r ≡ Fault → (m : ℕ) (x : Numbers) → takeFrom u g v i (k + suc m) x ≡ unreadable
-  unfolding takeFrom joins
+  pub faulty : r ≡ Fault → (m : ℕ) (x : Numbers) → take_from u g v i (k + suc m) x ≡ unreadable
+  unfolding take_from joins
   faulty e m x =
-      take_split u g v i k (suc m) x ∙ p.so _ ∙ ap (λ (t : Taken). front ns (joins t (takeFrom u g v (suc (i + k)) m x))) (sym h ∙ e) ∙ front-bad ns
+      take_split u g v i k (suc m) x ∙ p.so _ ∙ ap (λ (t : Taken). front ns (joins t (take_from u g v (suc (i + k)) m x))) (sym h ∙ e) ∙ front_bad ns
 
 -- ---- what the line asks
 module _ (w : ℕ) (six : Six) (x : Numbers) where
-  pub asks-bad : x ≡ unreadable → Bad ≡ asks w (ahead (Whole six) x)
+  pub asks_bad : x ≡ unreadable → Bad ≡ asks w (ahead (Whole six) x)
   unfolding asks ahead front joined
-  asks-bad h = rw h
+  asks_bad h = rw h
 
   module _ (name level cats rights ceiling shared junior : ℕ) (h : x ≡ these (name ∷ level ∷ cats ∷ rights ∷ ceiling ∷ shared ∷ junior ∷ [])) where
-    pub asks-user : w ≡ userWord → SetUser six.user level cats ceiling ≡ asks w (ahead (Whole six) x)
+    pub asks_user : w ≡ user_word → SetUser six.user level cats ceiling ≡ asks w (ahead (Whole six) x)
     unfolding asks ahead front joined
-    asks-user e = rw (h, e)
+    asks_user e = rw (h, e)
 
-    pub asks-request : (w ≡ userWord → ⊥)
+    pub asks_request : (w ≡ user_word → ⊥)
         → Ask
         (record {
           call = call_of w;
@@ -131,7 +131,7 @@ module _ (w : ℕ) (six : Six) (x : Numbers) where
         })
         ≡ asks w (ahead (Whole six) x)
     unfolding asks ahead front joined
-    asks-request e = rw (h, ne_eqb w userWord e)
+    asks_request e = rw (h, ne_eqb w user_word e)
 
 -- ---- which fields a word uses: the set of each word, and the definition, by computing
 unfoldable pub table : List ℕ
@@ -155,9 +155,9 @@ alike_same (a ∷ more) (b ∷ bs) h =
     go true b p e = rw (p, e)
     go false b p e = rw (not-true b p, e)
 
-table-right : all no_word (λ k. alike (members (get_or table k 0) 1 fieldCount) (used k)) ≡ true
-unfolding computing table alike members used isUsed ordinal fields optionalFields
-table-right = refl
+table_right : all no_word (λ k. alike (members (get_or table k 0) 1 field_count) (used k)) ≡ true
+unfolding computing table alike members used is_used ordinal fields optional_fields
+table_right = refl
 
-pub table-used : (w : ℕ) → w < no_word → members (get_or table w 0) 1 fieldCount ≡ used w
-table-used w h = alike_same _ _ (all-e no_word (λ k. alike (members (get_or table k 0) 1 fieldCount) (used k)) table-right w h)
+pub table_used : (w : ℕ) → w < no_word → members (get_or table w 0) 1 field_count ≡ used w
+table_used w h = alike_same _ _ (all_e no_word (λ k. alike (members (get_or table k 0) 1 field_count) (used k)) table_right w h)

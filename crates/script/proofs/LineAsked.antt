@@ -1,6 +1,6 @@
 -- What a line asks, by its row.
---     read-bad, read-unknown, read-halves      a line that can't be read; an unknown word; the two halves of the fields
---     asks-by, asks-fault                      what the first half is
+--     read_bad, read_unknown, read_halves      a line that can't be read; an unknown word; the two halves of the fields
+--     asks_by, asks_fault                      what the first half is
 -- Assumes nothing.
 use Prim.Native.Nat.{ℕ, zero, suc, ◌-◌, ◌≤◌, ◌<◌}
 use mathlib.Core.Path.{◌≡◌, refl, ap, sym, ◌∙◌}
@@ -12,20 +12,20 @@ use borrow.Author.Tests.{eqb-true, le-leb, lt-leb, ltb-true, ltb-false}
 use Rattle.bitset.specs.Tests.{every}
 use Rattle.bitset.specs.Tests.Laws.{none_below}
 use Rattle.script.specs.Text.{values}
-use Rattle.script.specs.Names.{allNames, under, Ordered}
-use Rattle.script.specs.Line.{used, Numbers, these, asks, line_of, readLine}
-use Rattle.script.specs.Private.Rows.{no_word, nameCount, fieldCount, fine, fills, IsRow, takeFrom, ahead, members}
+use Rattle.script.specs.Names.{all_names, under, Ordered}
+use Rattle.script.specs.Line.{used, Numbers, these, asks, line_of, read_line}
+use Rattle.script.specs.Private.Rows.{no_word, name_count, field_count, fine, fills, IsRow, take_from, ahead, members}
 use Rattle.script.specs.declared.line.Line.{Line}
 use Rattle.script.specs.declared.line.Line.TheVariants.{Bad}
 use Rattle.script.specs.declared.fields.Half.{Half}
 use Rattle.script.specs.declared.fields.Half.TheVariants.{Fault as Broken}
 use Rattle.script.specs.declared.row.Row.{Row}
 use Rattle.script.proofs.FieldsTaken.{take_split}
-use Rattle.script.proofs.ValuesInTurn.{values-some}
-use Rattle.script.proofs.NamePlaces.{names-length, fills-names}
-use Rattle.script.proofs.RowUnderHeader.{row_number, row-given, row-form, row-none}
-use Rattle.script.proofs.LineOfRow.{Held, line-unknown, line_known}
-use Rattle.script.proofs.NoForm.{line-none}
+use Rattle.script.proofs.ValuesInTurn.{values_some}
+use Rattle.script.proofs.NamePlaces.{names_length, fills_names}
+use Rattle.script.proofs.RowUnderHeader.{row_number, row_given, row_form, row_none}
+use Rattle.script.proofs.LineOfRow.{Held, line_unknown, line_known}
+use Rattle.script.proofs.NoForm.{line_none}
 
 either_way : (b : Bool) {x : Line} → Bad ≡ x → Bad ≡ cond b x Bad
 either_way true e = e
@@ -35,25 +35,25 @@ and-true : (a b : Bool) → (a && b) ≡ true → (a ≡ true) × (b ≡ true)
 and-true true b h = (refl, h)
 and-true false b h = absurd (true≢false (sym h))
 
-read-long : (h : List (List ℕ)) (l : List ℕ) → 255 < length l → Bad ≡ readLine h l
-unfolding readLine every
-read-long h l k = rw (lt-leb (length l) 255 k)
+read_long : (h : List (List ℕ)) (l : List ℕ) → 255 < length l → Bad ≡ read_line h l
+unfolding read_line every
+read_long h l k = rw (lt-leb (length l) 255 k)
 
 module _ {h : List (List ℕ)} {at l vals : List ℕ} {r : Row} (o : Ordered h at) (d : IsRow at l vals r) where
-  count : length (under h (values l)) ≡ nameCount
+  count : length (under h (values l)) ≡ name_count
   unfolding under
-  count = length-map allNames _ ∙ names-length
+  count = length-map all_names _ ∙ names_length
 
   -- as many values as names
   filled : fills at (length (values l)) ≡ eqb (length (values l)) (length h)
-  filled = go (length (values l)) (values-some l)
+  filled = go (length (values l)) (values_some l)
     where
       go : (n : ℕ) → 0 < n → fills at n ≡ eqb n (length h)
       go zero m = absurd (none_below 0 m)
-      go (suc j) m = fills-names o j
+      go (suc j) m = fills_names o j
 
-  read_none : r.good ≡ false → Bad ≡ readLine h l
-  unfolding readLine every
+  read_none : r.good ≡ false → Bad ≡ read_line h l
+  unfolding read_line every
   read_none k =
       go (leb (length l) 255) (eqb (length (values l)) (length h)) refl (fine at (values l) (length (values l))) refl
       (ap (λ (b : Bool). b && fine at (values l) (length (values l))) (sym filled) ∙ sym d.whole ∙ k)
@@ -62,18 +62,18 @@ module _ {h : List (List ℕ)} {at l vals : List ℕ} {r : Row} (o : Ordered h a
           → Bad ≡ cond (a && (b && true)) (line_of (under h (values l))) Bad
       go a true s false e z =
           let many = eqb-true (length (values l)) (length h) s in
-          let (i, m, n) = row-none o (values l) many (ap (fine at (values l)) (sym many) ∙ e) in
-          either_way (a && true) (line-none (under h (values l)) i count m n)
+          let (i, m, n) = row_none o (values l) many (ap (fine at (values l)) (sym many) ∙ e) in
+          either_way (a && true) (line_none (under h (values l)) i count m n)
       go a true s true e z = absurd (true≢false z)
       go true false s f e z = refl
       go false false s f e z = refl
 
-  pub read-bad : (not r.good || ltb 255 r.len) ≡ true → Bad ≡ readLine h l
-  read-bad k = go r.good refl (ltb 255 r.len) refl k
+  pub read_bad : (not r.good || ltb 255 r.len) ≡ true → Bad ≡ read_line h l
+  read_bad k = go r.good refl (ltb 255 r.len) refl k
     where
-      go : (a : Bool) → r.good ≡ a → (b : Bool) → ltb 255 r.len ≡ b → (not a || b) ≡ true → Bad ≡ readLine h l
+      go : (a : Bool) → r.good ≡ a → (b : Bool) → ltb 255 r.len ≡ b → (not a || b) ≡ true → Bad ≡ read_line h l
       go false e b f z = read_none e
-      go true e true f z = read-long h l (rw (← d.long) (ltb-true 255 r.len f))
+      go true e true f z = read_long h l (rw (← d.long) (ltb-true 255 r.len f))
       go true e false f z = absurd (true≢false (sym z))
 
   module _ (k : (not r.good || ltb 255 r.len) ≡ false) where
@@ -91,34 +91,34 @@ module _ {h : List (List ℕ)} {at l vals : List ℕ} {r : Row} (o : Ordered h a
     many : length (values l) ≡ length h
     many = eqb-true _ _ parts.0
 
-    read-good : line_of (under h (values l)) ≡ readLine h l
-    unfolding readLine every
-    read-good = rw (le-leb (length l) 255 good.1, parts.0)
+    read_good : line_of (under h (values l)) ≡ read_line h l
+    unfolding read_line every
+    read_good = rw (le-leb (length l) 255 good.1, parts.0)
 
     held : Held (under h (values l)) vals r.given
     held =
         record {
           whole = count;
           number = λ i m. rw (d.holds good.0, many) (row_number o (values l) many i m);
-          mark = λ i m. rw (d.marks good.0, many) (row-given o (values l) many i m);
-          form = λ i m. row-form o (values l) many i m (ap (fine at (values l)) (sym many) ∙ parts.1);
+          mark = λ i m. rw (d.marks good.0, many) (row_given o (values l) many i m);
+          form = λ i m. row_form o (values l) many i m (ap (fine at (values l)) (sym many) ∙ parts.1);
         }
 
-    pub read-unknown : no_word ≤ get_or vals 0 0 → Bad ≡ readLine h l
-    read-unknown m = line-unknown _ _ _ held m ∙ read-good
+    pub read_unknown : no_word ≤ get_or vals 0 0 → Bad ≡ read_line h l
+    read_unknown m = line_unknown _ _ _ held m ∙ read_good
 
-    read_known : (u : ℕ) → get_or vals 0 0 < no_word → members u 1 fieldCount ≡ used (get_or vals 0 0)
-        → asks (get_or vals 0 0) (takeFrom u r.given vals 1 fieldCount (these [])) ≡ readLine h l
-    read_known u m e = line_known _ _ _ u held m e ∙ read-good
+    read_known : (u : ℕ) → get_or vals 0 0 < no_word → members u 1 field_count ≡ used (get_or vals 0 0)
+        → asks (get_or vals 0 0) (take_from u r.given vals 1 field_count (these [])) ≡ read_line h l
+    read_known u m e = line_known _ _ _ u held m e ∙ read_good
 
-    pub read-halves : (u : ℕ) (x : Half) → get_or vals 0 0 < no_word → members u 1 fieldCount ≡ used (get_or vals 0 0)
-        → ((rest : Numbers) → takeFrom u r.given vals 1 6 rest ≡ ahead x rest)
-        → asks (get_or vals 0 0) (ahead x (takeFrom u r.given vals 7 (fieldCount - 6) (these []))) ≡ readLine h l
-    read-halves u x m e f = ap (asks (get_or vals 0 0)) (sym (f _) ∙ sym (take_split u r.given vals 1 6 (fieldCount - 6) (these []))) ∙ read_known u m e
+    pub read_halves : (u : ℕ) (x : Half) → get_or vals 0 0 < no_word → members u 1 field_count ≡ used (get_or vals 0 0)
+        → ((rest : Numbers) → take_from u r.given vals 1 6 rest ≡ ahead x rest)
+        → asks (get_or vals 0 0) (ahead x (take_from u r.given vals 7 (field_count - 6) (these []))) ≡ read_line h l
+    read_halves u x m e f = ap (asks (get_or vals 0 0)) (sym (f _) ∙ sym (take_split u r.given vals 1 6 (field_count - 6) (these []))) ∙ read_known u m e
 
-pub asks-by : (w : ℕ) (x y : Half) (rest : Numbers) → x ≡ y → asks w (ahead y rest) ≡ asks w (ahead x rest)
-asks-by w x y rest e = rw e
+pub asks_by : (w : ℕ) (x y : Half) (rest : Numbers) → x ≡ y → asks w (ahead y rest) ≡ asks w (ahead x rest)
+asks_by w x y rest e = rw e
 
-pub asks-fault : (w : ℕ) (x : Half) (rest : Numbers) → x ≡ Broken → Bad ≡ asks w (ahead x rest)
+pub asks_fault : (w : ℕ) (x : Half) (rest : Numbers) → x ≡ Broken → Bad ≡ asks w (ahead x rest)
 unfolding asks ahead
-asks-fault w x rest e = rw e
+asks_fault w x rest e = rw e

@@ -1,9 +1,9 @@
 -- Laws of the parts of a text: what stands before and after the first byte d, when more text follows.
---     lines-first                    a text that is not empty is its first line, and the lines after it
---     found-short                    what stands before is no longer than the text
---     before-append, after-append    with a byte d in the text, more text changes only what stands after
---     before-all, after-all          with none, more text goes on
---     before-whole, after_none       with none, and no more text
+--     lines_first                    a text that is not empty is its first line, and the lines after it
+--     found_short                    what stands before is no longer than the text
+--     before_append, after_append    with a byte d in the text, more text changes only what stands after
+--     before_all, after_all          with none, more text goes on
+--     before_whole, after_none       with none, and no more text
 -- Assumes nothing.
 use Prim.Native.Nat.{ℕ, suc, ◌≤◌, ◌<◌}
 use mathlib.Core.Path.{◌≡◌, refl, ap, sym, ◌∙◌}
@@ -14,20 +14,20 @@ use lib.ListN.{length}
 use native.Mathlib.Omega.{arith}
 use Rattle.script.specs.Text.{onto, lines, after}
 use Rattle.script.specs.Private.Slices.{before}
-use Rattle.script.proofs.ValuesInTurn.{before-most}
+use Rattle.script.proofs.ValuesInTurn.{before_most}
 
-pub lines-first : (s : List ℕ) → 0 < length s → lines s ≡ before 10 s ∷ lines (after 10 s)
+pub lines_first : (s : List ℕ) → 0 < length s → lines s ≡ before 10 s ∷ lines (after 10 s)
 unfolding lines before after onto
-lines-first [] h = absurd (none h)
+lines_first [] h = absurd (none h)
   where
     none : 0 < 0 → ⊥
     none h = omega arith
-lines-first (b ∷ []) h = go (eqb b 10)
+lines_first (b ∷ []) h = go (eqb b 10)
   where
     go : (t : Bool) → cond t ([] ∷ []) ((b ∷ []) ∷ []) ≡ cond t [] (b ∷ []) ∷ lines (cond t [] [])
     go true = refl
     go false = refl
-lines-first (b ∷ c ∷ s) h = go (eqb b 10) (lines-first (c ∷ s) (omega arith))
+lines_first (b ∷ c ∷ s) h = go (eqb b 10) (lines_first (c ∷ s) (omega arith))
   where
     go : (t : Bool) → lines (c ∷ s) ≡ before 10 (c ∷ s) ∷ lines (after 10 (c ∷ s))
         → cond t ([] ∷ lines (c ∷ s)) (onto b (lines (c ∷ s)))
@@ -36,17 +36,17 @@ lines-first (b ∷ c ∷ s) h = go (eqb b 10) (lines-first (c ∷ s) (omega arit
     go false e = ap (onto b) e
 
 module _ (d : ℕ) where
-  pub found-short : (s : List ℕ) (k : ℕ) → k ≡ length (before d s) → k ≤ length s
-  found-short s k h = omega (arith, before-most d s)
+  pub found_short : (s : List ℕ) (k : ℕ) → k ≡ length (before d s) → k ≤ length s
+  found_short s k h = omega (arith, before_most d s)
 
   module _ (m : List ℕ) where
-    pub before-append : (s : List ℕ) → length (before d s) < length s → before d (s ++ m) ≡ before d s
+    pub before_append : (s : List ℕ) → length (before d s) < length s → before d (s ++ m) ≡ before d s
     unfolding before
-    before-append [] h = absurd (none h)
+    before_append [] h = absurd (none h)
       where
         none : 0 < 0 → ⊥
         none h = omega arith
-    before-append (b ∷ s) h = go (eqb b d) (before-append s) h
+    before_append (b ∷ s) h = go (eqb b d) (before_append s) h
       where
         go : (t : Bool) → (length (before d s) < length s → before d (s ++ m) ≡ before d s)
             → length (cond t [] (b ∷ before d s)) < suc (length s)
@@ -54,13 +54,13 @@ module _ (d : ℕ) where
         go true e h = refl
         go false e h = ap (λ (l : List ℕ). b ∷ l) (e (omega arith))
 
-    pub after-append : (s : List ℕ) → length (before d s) < length s → after d (s ++ m) ≡ after d s ++ m
+    pub after_append : (s : List ℕ) → length (before d s) < length s → after d (s ++ m) ≡ after d s ++ m
     unfolding before after
-    after-append [] h = absurd (none h)
+    after_append [] h = absurd (none h)
       where
         none : 0 < 0 → ⊥
         none h = omega arith
-    after-append (b ∷ s) h = go (eqb b d) (after-append s) h
+    after_append (b ∷ s) h = go (eqb b d) (after_append s) h
       where
         go : (t : Bool) → (length (before d s) < length s → after d (s ++ m) ≡ after d s ++ m)
             → length (cond t [] (b ∷ before d s)) < suc (length s)
@@ -68,10 +68,10 @@ module _ (d : ℕ) where
         go true e h = refl
         go false e h = e (omega arith)
 
-    pub before-all : (s : List ℕ) → length s ≤ length (before d s) → before d (s ++ m) ≡ s ++ before d m
+    pub before_all : (s : List ℕ) → length s ≤ length (before d s) → before d (s ++ m) ≡ s ++ before d m
     unfolding before
-    before-all [] h = refl
-    before-all (b ∷ s) h = go (eqb b d) (before-all s) h
+    before_all [] h = refl
+    before_all (b ∷ s) h = go (eqb b d) (before_all s) h
       where
         go : (t : Bool) → (length s ≤ length (before d s) → before d (s ++ m) ≡ s ++ before d m)
             → suc (length s) ≤ length (cond t [] (b ∷ before d s))
@@ -82,10 +82,10 @@ module _ (d : ℕ) where
             past n h = omega arith
         go false e h = ap (λ (l : List ℕ). b ∷ l) (e (omega arith))
 
-    pub after-all : (s : List ℕ) → length s ≤ length (before d s) → after d (s ++ m) ≡ after d m
+    pub after_all : (s : List ℕ) → length s ≤ length (before d s) → after d (s ++ m) ≡ after d m
     unfolding before after
-    after-all [] h = refl
-    after-all (b ∷ s) h = go (eqb b d) (after-all s) h
+    after_all [] h = refl
+    after_all (b ∷ s) h = go (eqb b d) (after_all s) h
       where
         go : (t : Bool) → (length s ≤ length (before d s) → after d (s ++ m) ≡ after d m)
             → suc (length s) ≤ length (cond t [] (b ∷ before d s))
@@ -96,16 +96,16 @@ module _ (d : ℕ) where
             past n h = omega arith
         go false e h = e (omega arith)
 
-  before-nil : before d [] ≡ []
+  before_nil : before d [] ≡ []
   unfolding before
-  before-nil = refl
+  before_nil = refl
 
-  after-nil : after d [] ≡ []
+  after_nil : after d [] ≡ []
   unfolding after
-  after-nil = refl
+  after_nil = refl
 
-  pub before-whole : (s : List ℕ) → length s ≤ length (before d s) → before d s ≡ s
-  before-whole s h = sym (ap (before d) (append-nil s)) ∙ before-all [] s h ∙ ap (λ (l : List ℕ). s ++ l) before-nil ∙ append-nil s
+  pub before_whole : (s : List ℕ) → length s ≤ length (before d s) → before d s ≡ s
+  before_whole s h = sym (ap (before d) (append-nil s)) ∙ before_all [] s h ∙ ap (λ (l : List ℕ). s ++ l) before_nil ∙ append-nil s
 
   pub after_none : (s : List ℕ) → length s ≤ length (before d s) → after d s ≡ []
-  after_none s h = sym (ap (after d) (append-nil s)) ∙ after-all [] s h ∙ after-nil
+  after_none s h = sym (ap (after d) (append-nil s)) ∙ after_all [] s h ∙ after_nil

@@ -1,5 +1,5 @@
 -- A line with a value of no form can't be read.
---     line-none       one of its values has no form
+--     line_none       one of its values has no form
 -- Assumes nothing.
 use Prim.Native.Nat.{ℕ, zero, suc, ◌<◌}
 use mathlib.Core.Path.{◌≡◌, refl, ap, sym, ◌∙◌}
@@ -11,21 +11,21 @@ use lib.ListN.{length, get_or}
 use borrow.Author.Tests.{ltb-true}
 use Rattle.script.specs.Text.{bytes, same}
 use Rattle.script.specs.Names.{column}
-use Rattle.script.specs.Line.{value_of, words, used, Numbers, unreadable, joined, taken, takeAll, asks, line_of}
-use Rattle.script.specs.Private.Rows.{coded, code_at, nameCount, fieldCount, members}
+use Rattle.script.specs.Line.{value_of, words, used, Numbers, unreadable, joined, taken, take_each, asks, line_of}
+use Rattle.script.specs.Private.Rows.{coded, code_at, name_count, field_count, members}
 use Rattle.script.specs.declared.line.Value.{Value}
 use Rattle.script.specs.declared.line.Value.TheVariants.{Digits, Dash, Other}
 use Rattle.script.specs.declared.line.Line.TheVariants.{Bad}
-use Rattle.script.proofs.FieldsTaken.{table-used}
-use Rattle.script.proofs.NamePlaces.{column-most}
-use Rattle.script.proofs.WordAtFront.{words-length}
-use Rattle.script.proofs.CodeForms.{digits-small}
-use Rattle.script.proofs.LineOfRow.{code-later, no-values}
+use Rattle.script.proofs.FieldsTaken.{table_used}
+use Rattle.script.proofs.NamePlaces.{column_most}
+use Rattle.script.proofs.WordAtFront.{words_length}
+use Rattle.script.proofs.CodeForms.{digits_small}
+use Rattle.script.proofs.LineOfRow.{code_later, no_values}
 
-taken-other : (b : Bool) (x : Numbers) → taken b Other x ≡ unreadable
+taken_other : (b : Bool) (x : Numbers) → taken b Other x ≡ unreadable
 unfolding taken
-taken-other true x = refl
-taken-other false x = refl
+taken_other true x = refl
+taken_other false x = refl
 
 taken_none : (b : Bool) (y : Value) → taken b y unreadable ≡ unreadable
 unfolding taken joined
@@ -36,52 +36,52 @@ taken_none false (Digits n) = refl
 taken_none false Dash = refl
 taken_none false Other = refl
 
-takeAll-other : (bs : List Bool) (ws : List (List ℕ)) (k : ℕ) → length bs ≡ length ws → k < length ws → value_of (get_or ws k []) ≡ Other → takeAll bs ws ≡ unreadable
-unfolding takeAll
-takeAll-other bs [] k h l e = absurd (none l)
+take_all_other : (bs : List Bool) (ws : List (List ℕ)) (k : ℕ) → length bs ≡ length ws → k < length ws → value_of (get_or ws k []) ≡ Other → take_each bs ws ≡ unreadable
+unfolding take_each
+take_all_other bs [] k h l e = absurd (none l)
   where
     none : k < 0 → ⊥
     none z = omega arith
-takeAll-other [] (w ∷ ws) k h l e = absurd (none h)
+take_all_other [] (w ∷ ws) k h l e = absurd (none h)
   where
     none : 0 ≡ suc (length ws) → ⊥
     none z = omega arith
-takeAll-other (b ∷ bs) (w ∷ ws) zero h l e = rw e (taken-other b (takeAll bs ws))
-takeAll-other (b ∷ bs) (w ∷ ws) (suc k) h l e =
-    ap (taken b (value_of w)) (takeAll-other bs ws k (omega arith) (omega arith) e) ∙ taken_none b (value_of w)
+take_all_other (b ∷ bs) (w ∷ ws) zero h l e = rw e (taken_other b (take_each bs ws))
+take_all_other (b ∷ bs) (w ∷ ws) (suc k) h l e =
+    ap (taken b (value_of w)) (take_all_other bs ws k (omega arith) (omega arith) e) ∙ taken_none b (value_of w)
 
-members-length : (s i n : ℕ) → length (members s i n) ≡ n
+members_length : (s i n : ℕ) → length (members s i n) ≡ n
 unfolding members
-members-length s i zero = refl
-members-length s i (suc n) = ap suc (members-length s (suc i) n)
+members_length s i zero = refl
+members_length s i (suc n) = ap suc (members_length s (suc i) n)
 
-other-value : (v : List ℕ) (y : Value) → value_of v ≡ y → 100000 < coded y → y ≡ Other
+other_value : (v : List ℕ) (y : Value) → value_of v ≡ y → 100000 < coded y → y ≡ Other
 unfolding coded
-other-value v (Digits m) e h = absurd (omega (arith, digits-small v (value_of v) refl e))
-other-value v Dash e h = absurd (omega arith)
-other-value v Other e h = refl
+other_value v (Digits m) e h = absurd (omega (arith, digits_small v (value_of v) refl e))
+other_value v Dash e h = absurd (omega arith)
+other_value v Other e h = refl
 
-code-word-small : (w : List ℕ) → 100000 < code_at 0 w → ⊥
+code_word_small : (w : List ℕ) → 100000 < code_at 0 w → ⊥
 unfolding code_at
-code-word-small w h = go (same w (bytes "-")) h
+code_word_small w h = go (same w (bytes "-")) h
   where
     go : (b : Bool) → 100000 < cond b 100000 (column w words) → ⊥
     go true h = omega arith
-    go false h = omega (arith, column-most w words, words-length)
+    go false h = omega (arith, column_most w words, words_length)
 
-pub line-none : (us : List (List ℕ)) (i : ℕ) → length us ≡ nameCount → i < nameCount → 100000 < code_at i (get_or us i []) → Bad ≡ line_of us
+pub line_none : (us : List (List ℕ)) (i : ℕ) → length us ≡ name_count → i < name_count → 100000 < code_at i (get_or us i []) → Bad ≡ line_of us
 unfolding line_of asks
-line-none [] i t l h = absurd (no-values t)
-line-none (w ∷ ws) zero t l h = absurd (code-word-small w h)
-line-none (w ∷ ws) (suc k) t l h = go (ltb (column w words) (length words)) refl
+line_none [] i t l h = absurd (no_values t)
+line_none (w ∷ ws) zero t l h = absurd (code_word_small w h)
+line_none (w ∷ ws) (suc k) t l h = go (ltb (column w words) (length words)) refl
   where
     none : value_of (get_or ws k []) ≡ Other
-    none = other-value (get_or ws k []) (value_of (get_or ws k [])) refl (rw code-later at h)
+    none = other_value (get_or ws k []) (value_of (get_or ws k [])) refl (rw code_later at h)
 
-    go : (b : Bool) → ltb (column w words) (length words) ≡ b → Bad ≡ cond b (asks (column w words) (takeAll (used (column w words)) ws)) Bad
+    go : (b : Bool) → ltb (column w words) (length words) ≡ b → Bad ≡ cond b (asks (column w words) (take_each (used (column w words)) ws)) Bad
     go true e =
-        let n : length (used (column w words)) ≡ fieldCount = sym (ap length (table-used (column w words) (omega (arith, ltb-true (column w words) (length words) e, words-length)))) ∙ members-length _ 1 fieldCount in
-        bad (takeAll-other (used (column w words)) ws k (omega arith) (omega arith) none)
+        let n : length (used (column w words)) ≡ field_count = sym (ap length (table_used (column w words) (omega (arith, ltb-true (column w words) (length words) e, words_length)))) ∙ members_length _ 1 field_count in
+        bad (take_all_other (used (column w words)) ws k (omega arith) (omega arith) none)
       where
         bad : {x : Numbers} → x ≡ unreadable → Bad ≡ asks (column w words) x
         bad e = rw e

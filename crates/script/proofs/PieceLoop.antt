@@ -3,12 +3,12 @@
 --     worked                    a call that stores at the front of the output
 --     stepped                   .. and has used some input
 --     Held                      the loop over a piece: so far `at` bytes are used and w bytes written
---     tail-back                 a part at the end, put back
+--     tail_back                 a part at the end, put back
 --     held_none, held_more      its beginning, and one call more
---     held-done                 its end
---     loop-more, loop-done      both, as the loop cuts off what is left of the piece
---     headed-done               a piece whose call writes the heading first
---     idle-done                 .. or has no room for it
+--     held_done                 its end
+--     loop_more, loop_done      both, as the loop cuts off what is left of the piece
+--     headed_done               a piece whose call writes the heading first
+--     idle_done                 .. or has no room for it
 -- Assumes nothing.
 use Prim.Native.Nat.{ℕ, ◌+◌, ◌-◌, ◌≤◌, ◌<◌}
 use mathlib.Core.Path.{◌≡◌, refl, ap, sym, ◌∙◌}
@@ -21,22 +21,22 @@ use native.Mathlib.Omega.{arith}
 use borrow.Rule.Slice.PartMut.{put_mid}
 use Rattle.script.specs.Report.{heading}
 use Rattle.script.specs.Private.Slices.{Put}
-use Rattle.script.specs.Run.{atHeading, atNames, Goes, Worked, Stopped, Finished}
+use Rattle.script.specs.Run.{at_heading, at_names, Goes, Worked, Stopped, Finished}
 use Rattle.script.specs.Private.Steps.{Stepped}
 use Rattle.script.specs.declared.runner.Runner.{Runner}
 use Rattle.script.specs.declared.runner.Ran.{Ran}
-use Rattle.script.proofs.Texts.{heading-length}
+use Rattle.script.proofs.Texts.{heading_length}
 use Rattle.script.proofs.ValuesInTurn.{to_end}
-use Rattle.script.proofs.LeftToTell.{goes_then, goes-nowhere, Front, front}
-use Rattle.script.proofs.Onward.{headed, goes-heading}
+use Rattle.script.proofs.LeftToTell.{goes_then, goes_nowhere, Front, front}
+use Rattle.script.proofs.Onward.{headed, goes_heading}
 
 -- ---- one call
 abbrev pub ran : Runner → ℕ → ℕ → Ran
 ran r u n = record { runner = r; used = u; wrote = n }
 
-pub worked-none : (r r2 : Runner) (s : List ℕ) (e : Bool) (old : List ℕ) (u : ℕ) → u ≤ length s → Goes e r s [] r2 (drop u s)
+pub worked_none : (r r2 : Runner) (s : List ℕ) (e : Bool) (old : List ℕ) (u : ℕ) → u ≤ length s → Goes e r s [] r2 (drop u s)
     → Worked r s e old old (ran r2 u 0)
-worked-none r r2 s e old u h g = record { within = h; room = omega arith; frame = refl; goes = g }
+worked_none r r2 s e old u h g = record { within = h; room = omega arith; frame = refl; goes = g }
 
 pub worked : (r r2 : Runner) (s : List ℕ) (e : Bool) (old new w : List ℕ) (u n : ℕ) → Put old 0 w new n → length w ≤ length old
     → u ≤ length s → Goes e r s w r2 (drop u s) → Worked r s e old new (ran r2 u n)
@@ -44,15 +44,15 @@ worked r r2 s e old new w u n p l h g =
     let f : Front old new w n = front p l in
     record { within = h; room = f.room; frame = f.frame; goes = rw f.text g }
 
-pub idled : (r : Runner) (s : List ℕ) (e : Bool) (old : List ℕ) → atNames ≤ r.phase → Stopped r s e (length old) → Stepped r s e old old (ran r 0 0)
-idled r s e old b h = record { did = worked-none r r s e old 0 (omega arith) (goes-nowhere e r s); begun = b; stops = λ z o l. h o (omega arith) }
+pub idled : (r : Runner) (s : List ℕ) (e : Bool) (old : List ℕ) → at_names ≤ r.phase → Stopped r s e (length old) → Stepped r s e old old (ran r 0 0)
+idled r s e old b h = record { did = worked_none r r s e old 0 (omega arith) (goes_nowhere e r s); begun = b; stops = λ z o l. h o (omega arith) }
 
-none-used : (u : ℕ) → 0 < u → u ≡ 0 → ⊥
-none-used u h z = omega arith
+none_used : (u : ℕ) → 0 < u → u ≡ 0 → ⊥
+none_used u h z = omega arith
 
-pub stepped : {r : Runner} {piece old new : List ℕ} {end : Bool} {x : Ran} → Worked r piece end old new x → atNames ≤ x.runner.phase → 0 < x.used
+pub stepped : {r : Runner} {piece old new : List ℕ} {end : Bool} {x : Ran} → Worked r piece end old new x → at_names ≤ x.runner.phase → 0 < x.used
     → Stepped r piece end old new x
-stepped {x = x} k b h = record { did = k; begun = b; stops = λ z. absurd (none-used x.used h z) }
+stepped {x = x} k b h = record { did = k; begun = b; stops = λ z. absurd (none_used x.used h z) }
 
 -- ---- the loop over a piece
 pub record Held (piece : List ℕ) (end : Bool) (old : List ℕ) (r0 : Runner) (out : List ℕ) (r : Runner) (at w : ℕ) : Type 0 where
@@ -64,10 +64,10 @@ pub record Held (piece : List ℕ) (end : Bool) (old : List ℕ) (r0 : Runner) (
 
 pub held_none : (piece : List ℕ) (end : Bool) (old : List ℕ) (r : Runner) → Held piece end old r old r 0 0
 held_none piece end old r =
-    record { within = omega arith; room = omega arith; same = refl; frame = refl; goes = goes-nowhere end r piece }
+    record { within = omega arith; room = omega arith; same = refl; frame = refl; goes = goes_nowhere end r piece }
 
-pub tail-back : (w : ℕ) (out ys : List ℕ) → put_mid w (length out - w) out ys ≡ take w out ++ ys
-tail-back w out ys =
+pub tail_back : (w : ℕ) (out ys : List ℕ) → put_mid w (length out - w) out ys ≡ take w out ++ ys
+tail_back w out ys =
     ap (λ (l : List ℕ). take w out ++ (ys ++ l)) (drop_of_length-le (drop w out) {i = length out - w} (rw length-drop (omega arith)))
     ∙ (rw append-nil)
 
@@ -86,7 +86,7 @@ module _ {piece old out ys part : List ℕ} {end : Bool} {r0 r : Runner} {x : Ra
       let tk : take (w + n) (take w out ++ ys) ≡ take w out ++ take n ys = rw t at (take-append-add (take w out) ys n) in
       let kf : drop n ys ≡ drop n (drop w out) = k.frame ∙ ap (drop n) (to_end w out) in
       let kg : Goes end r (drop at piece) (take n ys) x.runner (drop x.used (drop at piece)) = rw p at k.goes in
-      rw (tail-back w out ys)
+      rw (tail_back w out ys)
       (record {
         within = omega (arith, k.within, h.within);
         room = omega (arith, k.room, h.room);
@@ -95,21 +95,21 @@ module _ {piece old out ys part : List ℕ} {end : Bool} {r0 r : Runner} {x : Ra
         goes = rw (tk, ← drop-drop x.used at piece) (goes_then end r0 r x.runner piece (drop at piece) (drop x.used (drop at piece)) (take w out) (take n ys) h.goes kg);
       })
 
-pub held-worked : {piece old out : List ℕ} {end : Bool} {r0 r : Runner} {at w : ℕ} → Held piece end old r0 out r at w
+pub held_worked : {piece old out : List ℕ} {end : Bool} {r0 r : Runner} {at w : ℕ} → Held piece end old r0 out r at w
     → Worked r0 piece end old out (ran r at w)
-held-worked h = record { within = h.within; room = omega (arith, h.room, h.same); frame = h.frame; goes = h.goes }
+held_worked h = record { within = h.within; room = omega (arith, h.room, h.same); frame = h.frame; goes = h.goes }
 
 -- ---- the end of the loop: a call that stops
 module _ {piece old out ys part : List ℕ} {end : Bool} {r0 r : Runner} {x : Ran} {at w : ℕ} (h : Held piece end old r0 out r at w)
     (p : part ≡ drop at piece) (m : length ys ≡ length (take (length out - w) (drop w out))) where
-  pub held-done : Finished r part end (take (length out - w) (drop w out)) ys x
+  pub held_done : Finished r part end (take (length out - w) (drop w out)) ys x
       → Finished r0 piece end old (put_mid w (length out - w) out ys) (ran x.runner (at + x.used) (w + x.wrote))
-  held-done k =
+  held_done k =
       let lo : length (take (length out - w) (drop w out)) ≡ length out - w = ap length (to_end w out) ∙ length-drop w out in
       let left : drop (at + x.used) piece ≡ drop x.used part = sym (ap (drop x.used) p ∙ drop-drop x.used at piece) in
       let room : length old - (w + x.wrote) ≡ length (take (length out - w) (drop w out)) - x.wrote = omega (arith, h.same) in
       record {
-        did = held-worked (held_more h p m k.did);
+        did = held_worked (held_more h p m k.did);
         stops = rw (left, room) k.stops;
       }
 
@@ -117,37 +117,37 @@ module _ {piece old out ys part : List ℕ} {end : Bool} {r0 r : Runner} {x : Ra
 module _ {piece old out ys : List ℕ} {end : Bool} {r0 r : Runner} {x : Ran} {at w : ℕ} (h : Held piece end old r0 out r at w)
     (m : length ys ≡ length (take (length out - w) (drop w out)))
     (k : Stepped r (take (length piece - at) (drop at piece)) end (take (length out - w) (drop w out)) ys x) where
-  pub loop-more : Held piece end old r0 (put_mid w (length out - w) out ys) x.runner (at + x.used) (w + x.wrote)
-  loop-more = held_more h (to_end at piece) m k.did
+  pub loop_more : Held piece end old r0 (put_mid w (length out - w) out ys) x.runner (at + x.used) (w + x.wrote)
+  loop_more = held_more h (to_end at piece) m k.did
 
-  pub loop-done : x.used ≡ 0 → Finished r0 piece end old (put_mid w (length out - w) out ys) (ran x.runner (at + x.used) (w + x.wrote))
-  loop-done z = held-done h (to_end at piece) m (record { did = k.did; stops = k.stops z })
+  pub loop_done : x.used ≡ 0 → Finished r0 piece end old (put_mid w (length out - w) out ys) (ran x.runner (at + x.used) (w + x.wrote))
+  loop_done z = held_done h (to_end at piece) m (record { did = k.did; stops = k.stops z })
 
 -- ---- the heading, and what is done after it
-pub heading-wrote : {old new : List ℕ} {n : ℕ} → Put old 0 heading new n → n ≡ 12
-heading-wrote p = omega (arith, p.next, heading-length)
+pub heading_wrote : {old new : List ℕ} {n : ℕ} → Put old 0 heading new n → n ≡ 12
+heading_wrote p = omega (arith, p.next, heading_length)
 
-held-heading : (piece : List ℕ) (end : Bool) (old new : List ℕ) (r : Runner) (n : ℕ) → r.phase ≡ atHeading → 12 ≤ length old → length new ≡ length old
+held_heading : (piece : List ℕ) (end : Bool) (old new : List ℕ) (r : Runner) (n : ℕ) → r.phase ≡ at_heading → 12 ≤ length old → length new ≡ length old
     → Put old 0 heading new n → Held piece end old r new (headed r) 0 n
-held-heading piece end old new r n z l m p =
-    let f : Front old new heading n = front p (omega (arith, heading-length)) in
+held_heading piece end old new r n z l m p =
+    let f : Front old new heading n = front p (omega (arith, heading_length)) in
     record {
       within = omega arith;
       room = omega (arith, f.room);
       same = m;
       frame = f.frame;
-      goes = rw f.text (goes-heading end r piece z);
+      goes = rw f.text (goes_heading end r piece z);
     }
 
-module _ {piece old out ys : List ℕ} {end : Bool} {r : Runner} {x : Ran} {n : ℕ} (z : r.phase ≡ atHeading) (l : 12 ≤ length old)
+module _ {piece old out ys : List ℕ} {end : Bool} {r : Runner} {x : Ran} {n : ℕ} (z : r.phase ≡ at_heading) (l : 12 ≤ length old)
     (o : length out ≡ length old) (p : Put old 0 heading out n) (m : length ys ≡ length (take (length out - n) (drop n out))) where
-  pub headed-done : Finished (headed r) piece end (take (length out - n) (drop n out)) ys x
+  pub headed_done : Finished (headed r) piece end (take (length out - n) (drop n out)) ys x
       → Finished r piece end old (put_mid n (length out - n) out ys) (ran x.runner x.used (n + x.wrote))
-  headed-done k = rw zero-add at (held-done (held-heading piece end old out r n z l o p) refl m k)
+  headed_done k = rw zero-add at (held_done (held_heading piece end old out r n z l o p) refl m k)
 
-pub idle-done : {r : Runner} {s old : List ℕ} {e : Bool} {x : Ran} → x ≡ ran r 0 0 → length old < 12 → Finished r s e old old x
-idle-done {r} {s} {old} {e} {x} h l =
-    rw h (record { did = worked-none r r s e old 0 (omega arith) (goes-nowhere e r s); stops = λ o room. absurd (none room) })
+pub idle_done : {r : Runner} {s old : List ℕ} {e : Bool} {x : Ran} → x ≡ ran r 0 0 → length old < 12 → Finished r s e old old x
+idle_done {r} {s} {old} {e} {x} h l =
+    rw h (record { did = worked_none r r s e old 0 (omega arith) (goes_nowhere e r s); stops = λ o room. absurd (none room) })
   where
     none : 12 ≤ length old - 0 → ⊥
     none room = omega arith

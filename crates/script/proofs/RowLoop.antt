@@ -1,9 +1,9 @@
 -- How far a loop over the values of a line is.
---     Filled, filled-start                              the numbers so far stand under their names
---     row-over, row_other                               too many values; a value of no form
---     code_here, end-most                               the value there
---     inside, next-left                                 a space behind it: the next value
---     line-end, count                                   none: the line's length, and how many values it has
+--     Filled, filled_start                              the numbers so far stand under their names
+--     row_over, row_other                               too many values; a value of no form
+--     code_here, end_most                               the value there
+--     inside, next_left                                 a space behind it: the next value
+--     line_end, count                                   none: the line's length, and how many values it has
 -- Assumes nothing.
 use Prim.Native.Nat.{ℕ, zero, suc, ◌+◌, ◌≤◌, ◌<◌}
 use mathlib.Core.Path.{◌≡◌, refl, ap, sym, ◌∙◌}
@@ -20,28 +20,28 @@ use Rattle.script.specs.Text.{values, after}
 use Rattle.script.specs.Private.Slices.{before, leading}
 use Rattle.script.specs.Private.Rows.{code_at, IsFound, name_at, code_in, blank, gathered, marked, fine, fills, IsRow}
 use Rattle.script.specs.declared.row.Found.{Found}
-use Rattle.script.proofs.ValuesInTurn.{values-more, values-last, values-some, first-value, after-drop}
-use Rattle.script.proofs.FirstValue.{before-drop, before-rest, lead-most, lead-more, lead-last}
-use Rattle.script.proofs.CodeForms.{other-form}
+use Rattle.script.proofs.ValuesInTurn.{values_more, values_last, values_some, first_value, after_drop}
+use Rattle.script.proofs.FirstValue.{before_drop, before_rest, lead_most, lead_more, lead_last}
+use Rattle.script.proofs.CodeForms.{other_form}
 
 -- ---- a value of no form
-fine-not : (at : List ℕ) (vs : List (List ℕ)) (j n : ℕ) → j < n → 100000 < code_in at vs j → fine at vs n ≡ false
+fine_not : (at : List ℕ) (vs : List (List ℕ)) (j n : ℕ) → j < n → 100000 < code_in at vs j → fine at vs n ≡ false
 unfolding fine
-fine-not at vs j zero l h = absurd (none l)
+fine_not at vs j zero l h = absurd (none l)
   where
     none : j < 0 → ⊥
     none k = omega arith
-fine-not at vs j (suc n) l h = go (dec_lt j n) (λ k. fine-not at vs j n k h)
+fine_not at vs j (suc n) l h = go (dec_lt j n) (λ k. fine_not at vs j n k h)
   where
     go : Dec (j < n) → (j < n → fine at vs n ≡ false) → (fine at vs n && leb (code_in at vs n) 100000) ≡ false
     go (yes k) ih = rw (ih k)
     go (no k) ih = let e : n ≡ j = omega arith in rw (e, lt-leb (code_in at vs j) 100000 h) (and-false (fine at vs j))
 
 -- ---- more values than there are places
-fills-over : (at : List ℕ) (n : ℕ) → 16 ≤ n → fills at n ≡ false
+fills_over : (at : List ℕ) (n : ℕ) → 16 ≤ n → fills at n ≡ false
 unfolding fills
-fills-over at zero l = refl
-fills-over at (suc j) l = rw (le-ltb (suc j) 16 l)
+fills_over at zero l = refl
+fills_over at (suc j) l = rw (le-ltb (suc j) 16 l)
 
 -- ---- the loop, over a line l = before 10 s
 pub record Filled (s at vals : List ℕ) (given from j : ℕ) : Type 0 where
@@ -52,9 +52,9 @@ pub record Filled (s at vals : List ℕ) (given from j : ℕ) : Type 0 where
   pub marks : j ≤ 15 → given ≡ marked at (values (before 10 s)) j
   pub good : j ≤ 15 → fine at (values (before 10 s)) j ≡ true
 
-pub filled-start : (s at vals : List ℕ) → vals ≡ blank → Filled s at vals 0 0 0
+pub filled_start : (s at vals : List ℕ) → vals ≡ blank → Filled s at vals 0 0 0
 unfolding gathered marked fine
-filled-start s at vals h =
+filled_start s at vals h =
     record {
       within = omega arith;
       less = omega arith;
@@ -72,26 +72,26 @@ module _ {s at vals : List ℕ} {given from j : ℕ} (p : Filled s at vals given
   vs = values (before 10 s)
 
   rest : drop from l ≡ before 10 (drop from s)
-  rest = before-drop 10 from s p.within
+  rest = before_drop 10 from s p.within
 
   here : get_or vs j [] ≡ leading (drop from s)
   here =
       sym (ap (λ (n : ℕ). get_or vs n []) (add-zero j))
       ∙ sym (get_or-drop j vs 0 [])
       ∙ ap (λ (k : List (List ℕ)). get_or k 0 []) p.left
-      ∙ first-value (drop from l)
+      ∙ first_value (drop from l)
       ∙ ap (before 32) rest
 
   -- there is a value at j
   some : j < length vs
-  some = omega (arith, ap length p.left, length-drop j vs, values-some (drop from l))
+  some = omega (arith, ap length p.left, length-drop j vs, values_some (drop from l))
 
   -- too many values
-  pub row-over : {n g : ℕ} → 15 ≤ j → n ≡ from + length (before 10 (drop from s)) → IsRow at l vals (record { good = false; given = g; len = n })
-  row-over {n} {g} h e =
+  pub row_over : {n g : ℕ} → 15 ≤ j → n ≡ from + length (before 10 (drop from s)) → IsRow at l vals (record { good = false; given = g; len = n })
+  row_over {n} {g} h e =
       record {
-        long = e ∙ before-rest 10 from s p.within;
-        whole = rw (fills-over at (length vs) (omega (arith, some)));
+        long = e ∙ before_rest 10 from s p.within;
+        whole = rw (fills_over at (length vs) (omega (arith, some)));
         holds = λ z. cc;
         marks = λ z. cc;
       }
@@ -101,15 +101,15 @@ module _ {s at vals : List ℕ} {given from j : ℕ} (p : Filled s at vals given
     unfolding code_in
     code_here = ap (code_at (name_at at j)) here ∙ sym q.code
 
-    pub end-most : f.end ≤ length l
-    end-most = omega (arith, q.end, lead-most (drop from s), before-rest 10 from s p.within)
+    pub end_most : f.end ≤ length l
+    end_most = omega (arith, q.end, lead_most (drop from s), before_rest 10 from s p.within)
 
     -- a value of no form
     pub row_other : {n g : ℕ} → f.form ≡ 2 → n ≡ f.end + length (before 10 (drop f.end s)) → IsRow at l vals (record { good = false; given = g; len = n })
     row_other {n} {g} o e =
         record {
-          long = e ∙ before-rest 10 f.end s end-most;
-          whole = rw (fine-not at vs j (length vs) some (rw code_here (other-form f.code (sym q.form ∙ o)))) (sym (and-false (fills at (length vs))));
+          long = e ∙ before_rest 10 f.end s end_most;
+          whole = rw (fine_not at vs j (length vs) some (rw code_here (other_form f.code (sym q.form ∙ o)))) (sym (and-false (fills at (length vs))));
           holds = λ z. cc;
           marks = λ z. cc;
         }
@@ -120,13 +120,13 @@ module _ {s at vals : List ℕ} {given from j : ℕ} (p : Filled s at vals given
       space = get_or-drop from s _ 0 ∙ ap (λ (n : ℕ). get_or s n 0) (sym q.end) ∙ eqb-true _ _ (sym q.more ∙ m)
 
       pub inside : f.end + 1 ≤ length l
-      inside = omega (arith, q.end, lead-more (drop from s) space, before-rest 10 from s p.within)
+      inside = omega (arith, q.end, lead_more (drop from s) space, before_rest 10 from s p.within)
 
-      pub next-left : drop (j + 1) vs ≡ values (drop (f.end + 1) l)
-      next-left =
-          let k : length (before 32 (drop from l)) < length (drop from l) = rw rest (lead-more (drop from s) space) in
-          let v : drop j vs ≡ before 32 (drop from l) ∷ values (after 32 (drop from l)) = p.left ∙ values-more (drop from l) k in
-          let w : drop (suc (length (before 32 (drop from l)))) (drop from l) ≡ after 32 (drop from l) = after-drop 32 (drop from l) in
+      pub next_left : drop (j + 1) vs ≡ values (drop (f.end + 1) l)
+      next_left =
+          let k : length (before 32 (drop from l)) < length (drop from l) = rw rest (lead_more (drop from s) space) in
+          let v : drop j vs ≡ before 32 (drop from l) ∷ values (after 32 (drop from l)) = p.left ∙ values_more (drop from l) k in
+          let w : drop (suc (length (before 32 (drop from l)))) (drop from l) ≡ after 32 (drop from l) = after_drop 32 (drop from l) in
           sym (drop-drop 1 j vs)
           ∙ ap (drop 1) v
           ∙ ap values (sym w ∙ drop-drop _ from l ∙ ap (λ (n : ℕ). drop n l) onward)
@@ -136,15 +136,15 @@ module _ {s at vals : List ℕ} {given from j : ℕ} (p : Filled s at vals given
 
     -- the line ends with it
     module _ (m : f.more ≡ false) where
-      no-space : get_or (drop from s) (length (leading (drop from s))) 0 ≡ 32 → ⊥
-      no-space e =
+      no_space : get_or (drop from s) (length (leading (drop from s))) 0 ≡ 32 → ⊥
+      no_space e =
           eqb-false _ _ (sym q.more ∙ m) (ap (λ (n : ℕ). get_or s n 0) q.end ∙ sym (get_or-drop from s _ 0) ∙ e)
 
-      pub line-end : f.end ≡ length l
-      line-end = omega (arith, q.end, lead-last (drop from s) no-space, lead-most (drop from s), before-rest 10 from s p.within)
+      pub line_end : f.end ≡ length l
+      line_end = omega (arith, q.end, lead_last (drop from s) no_space, lead_most (drop from s), before_rest 10 from s p.within)
 
       pub count : length vs ≡ j + 1
       count =
-          let k : length (drop from l) ≤ length (before 32 (drop from l)) = rw rest (lead-last (drop from s) no-space) in
-          let v : drop j vs ≡ before 32 (drop from l) ∷ [] = p.left ∙ values-last (drop from l) k in
+          let k : length (drop from l) ≤ length (before 32 (drop from l)) = rw rest (lead_last (drop from s) no_space) in
+          let v : drop j vs ≡ before 32 (drop from l) ∷ [] = p.left ∙ values_last (drop from l) k in
           omega (arith, ap length v, length-drop j vs)

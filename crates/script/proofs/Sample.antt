@@ -3,10 +3,10 @@ use mathlib.Core.Path.{◌≡◌, refl}
 use mathlib.Core.List.{List}
 use Prim.Native.Nat.{ℕ}
 use Rattle.guard.proofs.Compute.{computing}
-use Rattle.script.specs.Text.{bytes, same, onto, lines, values, allDigits, number, place, decimal}
-use Rattle.script.specs.Names.{names, optionalNames, allNames, column, among, noneTwice, isNames, under}
-use Rattle.script.specs.Line.{value_of, requestWords, words, ordinal, isUsed, fields, optionalFields, used, joined, taken, takeAll, asks, line_of, readLine}
-use Rattle.script.specs.Report.{withUser, userInRanges, answerLine, heading, lineText, answered, below, report}
+use Rattle.script.specs.Text.{bytes, same, onto, lines, values, all_digits, number, place, decimal}
+use Rattle.script.specs.Names.{names, optional_names, all_names, column, among, none_twice, is_names, under}
+use Rattle.script.specs.Line.{value_of, request_words, words, ordinal, is_used, fields, optional_fields, used, joined, taken, take_each, asks, line_of, read_line}
+use Rattle.script.specs.Report.{with_user, user_in_ranges, answer_line, heading, line_text, answered, below, report}
 
 abbrev input : List ℕ
 input = bytes "call seat user role entity parent kind name level cats rights ceiling\nuser - 0 - - - - - 3 255 - 3\nlogin 12 0 - - - - - 0 0 - -\ntake 12 - 12 - - - - - - - -\nopenw 12 - - 48 - - - - - - -\nopenw 12 - - 48 - - - - - - -\nlogout 13 - - - - - - - - - -\n"
@@ -15,5 +15,5 @@ abbrev output : List ℕ
 output = bytes "line answer\n2 0\n3 0\n4 0\n5 0\n6 16\n7 5\n"
 
 pub sample : report input ≡ output
-unfolding computing bytes same onto lines values allDigits number place decimal names optionalNames allNames column among noneTwice isNames under value_of requestWords words ordinal isUsed fields optionalFields used joined taken takeAll asks line_of readLine withUser userInRanges answerLine heading lineText answered below report
+unfolding computing bytes same onto lines values all_digits number place decimal names optional_names all_names column among none_twice is_names under value_of request_words words ordinal is_used fields optional_fields used joined taken take_each asks line_of read_line with_user user_in_ranges answer_line heading line_text answered below report
 sample = refl

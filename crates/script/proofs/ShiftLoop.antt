@@ -1,7 +1,7 @@
 -- The loop that moves bytes of a buffer to its front.
 --     Shifting                      the first i bytes are in their new place, the others as they were
---     shift_none, shift-more, shift-done     its beginning, one byte more, its end
---     kept-none, kept-short, kept-all, kept-rest     how many bytes are to be moved
+--     shift_none, shift_more, shift_done     its beginning, one byte more, its end
+--     kept_none, kept_short, kept_all, kept_rest     how many bytes are to be moved
 -- Assumes nothing.
 use Prim.Native.Nat.{ℕ, ◌+◌, ◌-◌, ◌≤◌, ◌<◌}
 use mathlib.Core.Path.{◌≡◌, refl, ap, sym, ◌∙◌}
@@ -27,9 +27,9 @@ ahead old l from i h =
     let e : from + i ≡ i + from = omega arith in
     rw (get_or-drop from old i 0, e) (sym (get_or-drop i l from 0) ∙ ap (λ (k : List ℕ). get_or k from 0) h ∙ get_or-drop i old from 0)
 
-pub shift-more : {old l : List ℕ} {from n i : ℕ} → from + n ≤ length old → Shifting old from n l i → i < n
+pub shift_more : {old l : List ℕ} {from n i : ℕ} → from + n ≤ length old → Shifting old from n l i → i < n
     → Shifting old from n (set l i (get_or l (from + i) 0)) (i + 1)
-shift-more {old} {l} {from} {n} {i} fits h b =
+shift_more {old} {l} {from} {n} {i} fits h b =
     let v : ℕ = get_or l (from + i) 0 in
     let long : i < length (drop from old) = rw length-drop (omega arith) in
     let inside : i < length l = omega (arith, h.same) in
@@ -41,33 +41,33 @@ shift-more {old} {l} {from} {n} {i} fits h b =
       tail = drop-set-lt (i + 1) l i v (omega arith) ∙ sym (drop-drop 1 i l) ∙ ap (drop 1) h.tail ∙ drop-drop 1 i old;
     }
 
-pub shift-done : {old l : List ℕ} {from n i : ℕ} → Shifting old from n l i → n ≤ i → (i ≡ n) × (l ≡ take n (drop from old) ++ drop n old)
-shift-done {old} {l} {from} {n} {i} h b =
+pub shift_done : {old l : List ℕ} {from n i : ℕ} → Shifting old from n l i → n ≤ i → (i ≡ n) × (l ≡ take n (drop from old) ++ drop n old)
+shift_done {old} {l} {from} {n} {i} h b =
     let e : i ≡ n = omega (arith, h.bound) in
     (e, sym (take-append-drop n l) ∙ (rw (← e, h.head, h.tail)))
 
 -- ---- how many bytes are to be moved
 module _ {old : List ℕ} {used have : ℕ} where
-  pub kept-none : have ≤ used → Moved old used have old 0
-  kept-none h =
+  pub kept_none : have ≤ used → Moved old used have old 0
+  kept_none h =
       let z : have - used ≡ 0 = omega arith in
       record { count = rw z; moved = rw z }
 
-  pub kept-short : length old ≤ used → Moved old used have old 0
-  kept-short h = record { count = rw (drop_of_length-le old h, take-nil (have - used)); moved = rw (drop_of_length-le old h, take-nil (have - used)) }
+  pub kept_short : length old ≤ used → Moved old used have old 0
+  kept_short h = record { count = rw (drop_of_length-le old h, take-nil (have - used)); moved = rw (drop_of_length-le old h, take-nil (have - used)) }
 
   module _ {new : List ℕ} {r : ℕ} where
-    pub kept-all : used ≤ have → have ≤ length old → (r ≡ have - used) × (new ≡ take (have - used) (drop used old) ++ drop (have - used) old)
+    pub kept_all : used ≤ have → have ≤ length old → (r ≡ have - used) × (new ≡ take (have - used) (drop used old) ++ drop (have - used) old)
         → Moved old used have new r
-    kept-all l h (c, m) =
+    kept_all l h (c, m) =
         record {
           count = c ∙ sym (length-take-le (have - used) (drop used old) (rw length-drop (omega arith)));
           moved = rw c m;
         }
 
-    pub kept-rest : length old ≤ have → (r ≡ length old - used) × (new ≡ take (length old - used) (drop used old) ++ drop (length old - used) old)
+    pub kept_rest : length old ≤ have → (r ≡ length old - used) × (new ≡ take (length old - used) (drop used old) ++ drop (length old - used) old)
         → Moved old used have new r
-    kept-rest h (c, m) =
+    kept_rest h (c, m) =
         let a : take (length old - used) (drop used old) ≡ drop used old = take_all (length old - used) (drop used old) (rw length-drop (omega arith)) in
         let b : take (have - used) (drop used old) ≡ drop used old = take_all (have - used) (drop used old) (rw length-drop (omega arith)) in
         record { count = c ∙ (rw (b, length-drop)); moved = m ∙ (rw (a, b, c)) }

@@ -1,8 +1,8 @@
 -- Each return of a step over one line meets the step's contract.
---     no_room, no_line, over-stops, names-wait, line-waits     why a step that does nothing stops
---     idle-step             .. and what it hands back
---     names-step            the names line
---     found-step, none-step     the rest of a line that has been answered
+--     no_room, no_line, over_stops, names_wait, line_waits     why a step that does nothing stops
+--     idle_step             .. and what it hands back
+--     names_step            the names line
+--     found_step, none_step     the rest of a line that has been answered
 --     line_step             a line of values
 -- Assumes nothing.
 use Prim.Native.Nat.{ℕ, ◌+◌, ◌≤◌, ◌<◌}
@@ -13,19 +13,19 @@ use lib.Dec.{ltb}
 use lib.ListN.{length, take, drop, length-drop}
 use native.Mathlib.Omega.{arith}
 use borrow.Author.Tests.{ltb-true, ltb-false}
-use Rattle.script.specs.Line.{readLine}
-use Rattle.script.specs.Report.{lineText, lastLine}
+use Rattle.script.specs.Line.{read_line}
+use Rattle.script.specs.Report.{line_text, last_line}
 use Rattle.script.specs.Private.Slices.{before}
-use Rattle.script.specs.Run.{atNames, atLines, Fits, Onward, Open, names-to-come, line-to-come, Stopped}
-use Rattle.script.specs.Private.Steps.{atEnd, afterLine, text_of, Spoken, withNames, over, Named, good, bad, Stepped}
+use Rattle.script.specs.Run.{at_names, at_lines, Fits, Onward, Open, names_to_come, line_to_come, Stopped}
+use Rattle.script.specs.Private.Steps.{at_end, after_line, text_of, Spoken, with_names, over, Named, good, bad, Stepped}
 use Rattle.script.specs.declared.line.Line.{Line}
 use Rattle.script.specs.declared.runner.Runner.{Runner}
 use Rattle.script.specs.declared.runner.Said.{Said}
 use Rattle.script.specs.declared.runner.Ran.{Ran}
-use Rattle.script.proofs.Texts.{line-length}
-use Rattle.script.proofs.Lines.{found-short}
-use Rattle.script.proofs.Onward.{NamesGo, goes-good, goes-bad, names-whole, names-last, names-long, skip-found, skip-none, whole, last, long, skipping}
-use Rattle.script.proofs.PieceLoop.{ran, worked-none, worked, idled, stepped}
+use Rattle.script.proofs.Texts.{line_length}
+use Rattle.script.proofs.Lines.{found_short}
+use Rattle.script.proofs.Onward.{NamesGo, goes_good, goes_bad, names_whole, names_last, names_long, skip_found, skip_none, whole, last, long, skipping}
+use Rattle.script.proofs.PieceLoop.{ran, worked_none, worked, idled, stepped}
 
 -- ---- why a step stops
 pub no_room : (r : Runner) (s : List ℕ) (e : Bool) (n : ℕ) → n < 12 → Stopped r s e n
@@ -37,18 +37,18 @@ no_room r s e n h o l = absurd (short l)
 closed : (r : Runner) (s : List ℕ) (e : Bool) (n : ℕ) → (Open r s → ⊥) → Stopped r s e n
 closed r s e n h o l = absurd (h o)
 
-pub no_line : (r : Runner) (s : List ℕ) (e : Bool) (n : ℕ) → r.phase ≡ atLines → (r.done < lastLine → 0 < length s → ⊥) → Stopped r s e n
+pub no_line : (r : Runner) (s : List ℕ) (e : Bool) (n : ℕ) → r.phase ≡ at_lines → (r.done < last_line → 0 < length s → ⊥) → Stopped r s e n
 no_line r s e n p h = closed r s e n shut
   where
     past : r.phase < 2 → ⊥
     past q = omega arith
 
     shut : Open r s → ⊥
-    shut (names-to-come q) = past q
-    shut (line-to-come q d l) = h d l
+    shut (names_to_come q) = past q
+    shut (line_to_come q d l) = h d l
 
-pub over-stops : (r : Runner) (s : List ℕ) (e : Bool) (n : ℕ) → atEnd ≤ r.phase → Stopped r s e n
-over-stops r s e n p = closed r s e n shut
+pub over_stops : (r : Runner) (s : List ℕ) (e : Bool) (n : ℕ) → at_end ≤ r.phase → Stopped r s e n
+over_stops r s e n p = closed r s e n shut
   where
     past : r.phase < 2 → ⊥
     past q = omega arith
@@ -57,24 +57,24 @@ over-stops r s e n p = closed r s e n shut
     other q = omega arith
 
     shut : Open r s → ⊥
-    shut (names-to-come q) = past q
-    shut (line-to-come q d l) = other q
+    shut (names_to_come q) = past q
+    shut (line_to_come q d l) = other q
 
 -- the names line is not whole, and more input is to come
-pub names-wait : (r : Runner) (s : List ℕ) (e : Bool) (n k : ℕ) → r.phase ≡ atNames → length s ≤ k → (e || ltb 255 k) ≡ false → Stopped r s e n
-names-wait r s e n k p l h o room = go e h
+pub names_wait : (r : Runner) (s : List ℕ) (e : Bool) (n k : ℕ) → r.phase ≡ at_names → length s ≤ k → (e || ltb 255 k) ≡ false → Stopped r s e n
+names_wait r s e n k p l h o room = go e h
   where
     go : (e : Bool) → (e || ltb 255 k) ≡ false → (e ≡ false) × (length s ≤ 255) × (1 ≤ r.phase)
     go true h = absurd (true≢false h)
     go false h = (refl, omega (arith, ltb-false 255 k h), omega arith)
 
 -- .. nor is the line of values
-pub line-waits : (r : Runner) (s : List ℕ) (e : Bool) (n k : ℕ) → r.phase ≡ atLines → length s ≤ k → k ≤ 255 → (e && ltb 0 k) ≡ false → Stopped r s e n
-line-waits r s e n k p l m h (names-to-come q) room = absurd (past q)
+pub line_waits : (r : Runner) (s : List ℕ) (e : Bool) (n k : ℕ) → r.phase ≡ at_lines → length s ≤ k → k ≤ 255 → (e && ltb 0 k) ≡ false → Stopped r s e n
+line_waits r s e n k p l m h (names_to_come q) room = absurd (past q)
   where
     past : r.phase < 2 → ⊥
     past q = omega arith
-line-waits r s e n k p l m h (line-to-come q d b) room = go e h
+line_waits r s e n k p l m h (line_to_come q d b) room = go e h
   where
     go : (e : Bool) → (e && ltb 0 k) ≡ false → (e ≡ false) × (length s ≤ 255) × (1 ≤ r.phase)
     go true h = absurd (none (ltb-false 0 k h))
@@ -84,95 +84,95 @@ line-waits r s e n k p l m h (line-to-come q d b) room = go e h
     go false h = (refl, omega arith, omega arith)
 
 -- a flag and a test, as the code joins them
-pub both-e : (e : Bool) (k : ℕ) → (e && ltb 0 k) ≡ true → (e ≡ true) × (0 < k)
-both-e true k h = (refl, ltb-true 0 k h)
-both-e false k h = absurd (true≢false (sym h))
+pub both_e : (e : Bool) (k : ℕ) → (e && ltb 0 k) ≡ true → (e ≡ true) × (0 < k)
+both_e true k h = (refl, ltb-true 0 k h)
+both_e false k h = absurd (true≢false (sym h))
 
-pub idle-step : {r : Runner} {s old : List ℕ} {e : Bool} {x : Ran} → x ≡ ran r 0 0 → atNames ≤ r.phase → Stopped r s e (length old) → Stepped r s e old old x
-idle-step {r} {s} {old} {e} {x} h b k = rw h (idled r s e old b k)
+pub idle_step : {r : Runner} {s old : List ℕ} {e : Bool} {x : Ran} → x ≡ ran r 0 0 → at_names ≤ r.phase → Stopped r s e (length old) → Stepped r s e old old x
+idle_step {r} {s} {old} {e} {x} h b k = rw h (idled r s e old b k)
 
 -- ---- the names line
-used-up : (s : List ℕ) (u : ℕ) → (u ≡ 0 → length s ≤ u) → u ≡ 0 → 0 < length (drop u s) → ⊥
-used-up s u h z l = omega (arith, h z, length-drop u s)
+used_up : (s : List ℕ) (u : ℕ) → (u ≡ 0 → length s ≤ u) → u ≡ 0 → 0 < length (drop u s) → ⊥
+used_up s u h z l = omega (arith, h z, length-drop u s)
 
-module _ {e : Bool} {r : Runner} (l s old : List ℕ) (u : ℕ) (p : r.phase ≡ atNames) (room : 12 ≤ length old) (h : u ≤ length s)
+module _ {e : Bool} {r : Runner} (l s old : List ℕ) (u : ℕ) (p : r.phase ≡ at_names) (room : 12 ≤ length old) (h : u ≤ length s)
     (z : u ≡ 0 → length s ≤ u) (g : NamesGo e s l (drop u s)) where
-  pub names-step : {new : List ℕ} {x : Said} → Named r l old new x → Stepped r s e old new (ran x.runner u x.wrote)
-  names-step (good at o) =
+  pub names_step : {new : List ℕ} {x : Said} → Named r l old new x → Stepped r s e old new (ran x.runner u x.wrote)
+  names_step (good at o) =
       record {
-        did = worked-none r (withNames r at) s e old u h (goes-good l s (drop u s) p g at o);
+        did = worked_none r (with_names r at) s e old u h (goes_good l s (drop u s) p g at o);
         begun = omega arith;
-        stops = λ k. no_line (withNames r at) (drop u s) e _ refl (λ d b. used-up s u z k b);
+        stops = λ k. no_line (with_names r at) (drop u s) e _ refl (λ d b. used_up s u z k b);
       }
-  names-step (bad {new} {n} i q) =
+  names_step (bad {new} {n} i q) =
       record {
-        did = worked r (over r) s e old new (lineText 1 17) u n q (omega (arith, line-length 1 17)) h (goes-bad l s (drop u s) p g i);
+        did = worked r (over r) s e old new (line_text 1 17) u n q (omega (arith, line_length 1 17)) h (goes_bad l s (drop u s) p g i);
         begun = omega arith;
-        stops = λ k. over-stops (over r) (drop u s) e _ (omega arith);
+        stops = λ k. over_stops (over r) (drop u s) e _ (omega arith);
       }
 
 -- ---- the rest of a line that has been answered
-module _ {e : Bool} {r : Runner} (s old : List ℕ) (k : ℕ) (f : k ≡ length (before 10 s)) (p : r.phase ≡ atLines) (t : r.skip ≡ true) where
-  pub found-step : k < length s
+module _ {e : Bool} {r : Runner} (s old : List ℕ) (k : ℕ) (f : k ≡ length (before 10 s)) (p : r.phase ≡ at_lines) (t : r.skip ≡ true) where
+  pub found_step : k < length s
       → Stepped r s e old old (ran (record { tables = r.tables; shut = r.shut; at = r.at; phase = r.phase; done = r.done; skip = false }) (k + 1) 0)
-  found-step l = stepped (worked-none r _ s e old (k + 1) (omega arith) (skip-found r s e k f p t l)) (omega arith) (omega arith)
+  found_step l = stepped (worked_none r _ s e old (k + 1) (omega arith) (skip_found r s e k f p t l)) (omega arith) (omega arith)
 
-  pub none-step : length s ≤ k → Stepped r s e old old (ran r k 0)
-  none-step l =
+  pub none_step : length s ≤ k → Stepped r s e old old (ran r k 0)
+  none_step l =
       record {
-        did = worked-none r r s e old k (found-short 10 s k f) (skip-none r s e k f p t l);
+        did = worked_none r r s e old k (found_short 10 s k f) (skip_none r s e k f p t l);
         begun = omega arith;
-        stops = λ z. no_line r (drop k s) e _ p (λ d b. used-up s k (λ y. l) z b);
+        stops = λ z. no_line r (drop k s) e _ p (λ d b. used_up s k (λ y. l) z b);
       }
 
 -- ---- a line of values; f is what is done to the runner after it
-line-phase : (r : Runner) (asked : Line) → (afterLine r asked).phase ≡ r.phase
-unfolding afterLine
-line-phase r asked = refl
+line_phase : (r : Runner) (asked : Line) → (after_line r asked).phase ≡ r.phase
+unfolding after_line
+line_phase r asked = refl
 
-text-length : (r : Runner) (asked : Line) → length (text_of r asked) ≤ 12
+text_length : (r : Runner) (asked : Line) → length (text_of r asked) ≤ 12
 unfolding text_of
-text-length r asked = line-length (r.done + 1) _
+text_length r asked = line_length (r.done + 1) _
 
-module _ {e : Bool} {r : Runner} (l s old : List ℕ) (u : ℕ) (p : r.phase ≡ atLines) (room : 12 ≤ length old) (h : u ≤ length s) (b : 0 < u)
+module _ {e : Bool} {r : Runner} (l s old : List ℕ) (u : ℕ) (p : r.phase ≡ at_lines) (room : 12 ≤ length old) (h : u ≤ length s) (b : 0 < u)
     (f : Runner → Runner) (q : (r2 : Runner) → (f r2).phase ≡ r2.phase)
-    (g : (header : List (List ℕ)) → Fits header r → Onward e header r s (text_of r (readLine header l)) (f (afterLine r (readLine header l))) (drop u s)) where
+    (g : (header : List (List ℕ)) → Fits header r → Onward e header r s (text_of r (read_line header l)) (f (after_line r (read_line header l))) (drop u s)) where
   pub line_step : {new : List ℕ} {x : Said} → Spoken r l old new x → Stepped r s e old new (ran (f x.runner) u x.wrote)
   line_step {new} {x} k =
-      let c : (f x.runner).phase ≡ 2 = q x.runner ∙ ap (λ (r2 : Runner). r2.phase) k.next ∙ line-phase r k.asked ∙ p in
+      let c : (f x.runner).phase ≡ 2 = q x.runner ∙ ap (λ (r2 : Runner). r2.phase) k.next ∙ line_phase r k.asked ∙ p in
       stepped
-      (worked r (f x.runner) s e old new (text_of r k.asked) u x.wrote k.puts (omega (arith, text-length r k.asked)) h
+      (worked r (f x.runner) s e old new (text_of r k.asked) u x.wrote k.puts (omega (arith, text_length r k.asked)) h
       (λ header fits. rw (k.next, k.read header (fits.knows p)) (g header fits)))
       (omega arith) b
 
 -- ---- the names line, as the code cuts it off: with its byte 10, or without it
-long-or-last : (s : List ℕ) (e : Bool) (k : ℕ) → k ≡ length (before 10 s) → length s ≤ k → (e || ltb 255 k) ≡ true → NamesGo e s s (drop k s)
-long-or-last s e k f l h = go e refl h
+long_or_last : (s : List ℕ) (e : Bool) (k : ℕ) → k ≡ length (before 10 s) → length s ≤ k → (e || ltb 255 k) ≡ true → NamesGo e s s (drop k s)
+long_or_last s e k f l h = go e refl h
   where
     go : (d : Bool) → e ≡ d → (d || ltb 255 k) ≡ true → NamesGo e s s (drop k s)
-    go true t h = names-last s e k f l t
-    go false t h = names-long s e k f l (ltb-true 255 k h)
+    go true t h = names_last s e k f l t
+    go false t h = names_long s e k f l (ltb-true 255 k h)
 
-module _ {e : Bool} {r : Runner} (s old : List ℕ) (k : ℕ) (f : k ≡ length (before 10 s)) (p : r.phase ≡ atNames) (room : 12 ≤ length old) where
-  pub names-whole-step : k < length s → {new : List ℕ} {x : Said} → Named r (take k s) old new x → Stepped r s e old new (ran x.runner (k + 1) x.wrote)
-  names-whole-step l n = names-step (take k s) s old (k + 1) p room (omega arith) (λ z. omega arith) (names-whole s e k f l) n
+module _ {e : Bool} {r : Runner} (s old : List ℕ) (k : ℕ) (f : k ≡ length (before 10 s)) (p : r.phase ≡ at_names) (room : 12 ≤ length old) where
+  pub names_whole_step : k < length s → {new : List ℕ} {x : Said} → Named r (take k s) old new x → Stepped r s e old new (ran x.runner (k + 1) x.wrote)
+  names_whole_step l n = names_step (take k s) s old (k + 1) p room (omega arith) (λ z. omega arith) (names_whole s e k f l) n
 
-  pub names-cut-step : length s ≤ k → (e || ltb 255 k) ≡ true → {new : List ℕ} {x : Said} → Named r s old new x → Stepped r s e old new (ran x.runner k x.wrote)
-  names-cut-step l h n = names-step s s old k p room (found-short 10 s k f) (λ z. l) (long-or-last s e k f l h) n
+  pub names_cut_step : length s ≤ k → (e || ltb 255 k) ≡ true → {new : List ℕ} {x : Said} → Named r s old new x → Stepped r s e old new (ran x.runner k x.wrote)
+  names_cut_step l h n = names_step s s old k p room (found_short 10 s k f) (λ z. l) (long_or_last s e k f l h) n
 
 -- ---- a line of values, as the code cuts it off
-module _ {e : Bool} {r : Runner} (s old : List ℕ) (k : ℕ) (f : k ≡ length (before 10 s)) (p : r.phase ≡ atLines) (t : r.skip ≡ false) (d : r.done < lastLine)
+module _ {e : Bool} {r : Runner} (s old : List ℕ) (k : ℕ) (f : k ≡ length (before 10 s)) (p : r.phase ≡ at_lines) (t : r.skip ≡ false) (d : r.done < last_line)
     (room : 12 ≤ length old) where
-  pub whole-step : k < length s → {new : List ℕ} {x : Said} → Spoken r (take k s) old new x → Stepped r s e old new (ran x.runner (k + 1) x.wrote)
-  whole-step l n =
+  pub whole_step : k < length s → {new : List ℕ} {x : Said} → Spoken r (take k s) old new x → Stepped r s e old new (ran x.runner (k + 1) x.wrote)
+  whole_step l n =
       line_step (take k s) s old (k + 1) p room (omega arith) (omega arith) (λ r2. r2) (λ r2. refl) (λ header fits. whole r s e k f p t d header fits l) n
 
-  pub long-step : length s ≤ k → 255 < k → {new : List ℕ} {x : Said} → Spoken r s old new x → Stepped r s e old new (ran (skipping x.runner) k x.wrote)
-  long-step l o n =
-      line_step s s old k p room (found-short 10 s k f) (omega arith) skipping (λ r2. refl) (λ header fits. long r s e k f p t d header fits l o) n
+  pub long_step : length s ≤ k → 255 < k → {new : List ℕ} {x : Said} → Spoken r s old new x → Stepped r s e old new (ran (skipping x.runner) k x.wrote)
+  long_step l o n =
+      line_step s s old k p room (found_short 10 s k f) (omega arith) skipping (λ r2. refl) (λ header fits. long r s e k f p t d header fits l o) n
 
   pub last_step : length s ≤ k → (e && ltb 0 k) ≡ true → {new : List ℕ} {x : Said} → Spoken r s old new x → Stepped r s e old new (ran x.runner k x.wrote)
   last_step l b n =
-      let u = both-e e k b in
-      line_step s s old k p room (found-short 10 s k f) u.1 (λ r2. r2) (λ r2. refl)
-      (λ header fits. last r s e k f p t d header fits l (omega (arith, u.1, found-short 10 s k f)) u.0) n
+      let u = both_e e k b in
+      line_step s s old k p room (found_short 10 s k f) u.1 (λ r2. r2) (λ r2. refl)
+      (λ header fits. last r s e k f p t d header fits l (omega (arith, u.1, found_short 10 s k f)) u.0) n

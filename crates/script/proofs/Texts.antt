@@ -1,10 +1,10 @@
 -- Laws by which the functions of src/text and src/print meet their contracts: where a byte stands, digits, stores one behind
 -- the other, and decimal numbers.
--- find-stop, find-more, find-end: the loop that looks for a byte, by what is left of the slice.
--- none_other, long-other, one-dash, dash-other: the forms of a value. Read: the loop over its digits, with read-start, read_low,
--- read-high, read_more, read-end.
--- put-nil, put-cons, put_then: stores. place-hit, place-miss: one digit. numbered, line_of: a number with its digits.
--- line-length, heading-length: how long what is printed is at most.
+-- find_stop, find_more, find_end: the loop that looks for a byte, by what is left of the slice.
+-- none_other, long_other, one_dash, dash_other: the forms of a value. Read: the loop over its digits, with read_start, read_low,
+-- read_high, read_more, read_end.
+-- put_nil, put_cons, put_then: stores. place_hit, place_miss: one digit. numbered, line_of: a number with its digits.
+-- line_length, heading_length: how long what is printed is at most.
 -- Assumes nothing.
 use Prim.Native.Nat.{ℕ, suc, ◌+◌, ◌-◌, ◌*◌, ◌/◌, ◌%◌, ◌^◌, ◌≤◌, ◌<◌}
 use mathlib.Core.Path.{◌≡◌, refl, ap, sym, ◌∙◌}
@@ -19,37 +19,37 @@ use lib.Seq.{sets, drop-cons}
 use borrow.Author.Tests.{le-leb, lt-leb, eq-eqb, ne_eqb}
 use Rattle.bitset.specs.Tests.{every}
 use Rattle.script.specs.declared.line.Value.TheVariants.{Digits, Dash, Other}
-use Rattle.script.specs.Text.{bytes, same, allDigits, number, place, decimal}
+use Rattle.script.specs.Text.{bytes, same, all_digits, number, place, decimal}
 use Rattle.script.specs.Line.{value_of}
-use Rattle.script.specs.Report.{heading, lineText}
+use Rattle.script.specs.Report.{heading, line_text}
 use Rattle.script.specs.Private.Slices.{before, written, Numbered, Put}
 use Rattle.script.specs.declared.print.Numeral.{Numeral}
 
 -- ---- where a byte stands
 module _ (d : ℕ) (s : List ℕ) (i : ℕ) (h : length (before d s) ≡ i + length (before d (drop i s))) where
-  pub find-stop : i < length s → get_or s i 0 ≡ d → i ≡ length (before d s)
+  pub find_stop : i < length s → get_or s i 0 ≡ d → i ≡ length (before d s)
   unfolding before
-  find-stop l e = sym (h ∙ (rw (drop-cons s i 0 l, eq-eqb (get_or s i 0) d e, add-zero)))
+  find_stop l e = sym (h ∙ (rw (drop-cons s i 0 l, eq-eqb (get_or s i 0) d e, add-zero)))
 
-  pub find-more : i < length s → (get_or s i 0 ≡ d → ⊥) → length (before d s) ≡ (i + 1) + length (before d (drop (i + 1) s))
+  pub find_more : i < length s → (get_or s i 0 ≡ d → ⊥) → length (before d s) ≡ (i + 1) + length (before d (drop (i + 1) s))
   unfolding before
-  find-more l e = h ∙ (rw (drop-cons s i 0 l, ne_eqb (get_or s i 0) d e, add-one) (omega arith))
+  find_more l e = h ∙ (rw (drop-cons s i 0 l, ne_eqb (get_or s i 0) d e, add-one) (omega arith))
 
-  pub find-end : length s ≤ i → i ≡ length (before d s)
+  pub find_end : length s ≤ i → i ≡ length (before d s)
   unfolding before
-  find-end l = sym (h ∙ (rw (drop_of_length-le s l, add-zero)))
+  find_end l = sym (h ∙ (rw (drop_of_length-le s l, add-zero)))
 
 -- ---- values
-pub not-dash : (s : List ℕ) → (get_or s 0 0 ≡ 45 → ⊥) → same s (bytes "-") ≡ false
+pub not_dash : (s : List ℕ) → (get_or s 0 0 ≡ 45 → ⊥) → same s (bytes "-") ≡ false
 unfolding same bytes
-not-dash [] h = refl
-not-dash (b ∷ s) h = rw (ne_eqb b 45 h)
+not_dash [] h = refl
+not_dash (b ∷ s) h = rw (ne_eqb b 45 h)
 
-pub no-dash : (s : List ℕ) → 1 < length s → same s (bytes "-") ≡ false
+pub no_dash : (s : List ℕ) → 1 < length s → same s (bytes "-") ≡ false
 unfolding same bytes
-no-dash [] h = absurd (omega arith)
-no-dash (a ∷ []) h = absurd (omega arith)
-no-dash (a ∷ b ∷ s) h = go (eqb a 45)
+no_dash [] h = absurd (omega arith)
+no_dash (a ∷ []) h = absurd (omega arith)
+no_dash (a ∷ b ∷ s) h = go (eqb a 45)
   where
     go : (t : Bool) → (t && false) ≡ false
     go true = refl
@@ -60,39 +60,39 @@ unfolding value_of same bytes every
 none_other [] h = refl
 none_other (b ∷ s) h = absurd (omega arith)
 
-pub long-other : (s : List ℕ) → 5 < length s → Other ≡ value_of s
+pub long_other : (s : List ℕ) → 5 < length s → Other ≡ value_of s
 unfolding value_of every
-long-other s h = rw (no-dash s (omega arith), lt-leb (length s) 5 h, le-leb 1 (length s) (omega arith))
+long_other s h = rw (no_dash s (omega arith), lt-leb (length s) 5 h, le-leb 1 (length s) (omega arith))
 
-pub one-dash : (s : List ℕ) → length s ≡ 1 → get_or s 0 0 ≡ 45 → Dash ≡ value_of s
+pub one_dash : (s : List ℕ) → length s ≡ 1 → get_or s 0 0 ≡ 45 → Dash ≡ value_of s
 unfolding value_of same bytes
-one-dash [] h e = absurd (omega arith)
-one-dash (a ∷ []) h e = rw e
-one-dash (a ∷ b ∷ s) h e = absurd (omega arith)
+one_dash [] h e = absurd (omega arith)
+one_dash (a ∷ []) h e = rw e
+one_dash (a ∷ b ∷ s) h e = absurd (omega arith)
 
 module _ (s : List ℕ) (many : 0 < length s) (few : length s ≤ 5) (first : get_or s 0 0 ≡ 45 → ⊥) where
-  bad-other : allDigits s ≡ false → Other ≡ value_of s
+  bad_other : all_digits s ≡ false → Other ≡ value_of s
   unfolding value_of every
-  bad-other h = rw (not-dash s first, le-leb 1 (length s) many, le-leb (length s) 5 few, h)
+  bad_other h = rw (not_dash s first, le-leb 1 (length s) many, le-leb (length s) 5 few, h)
 
-  pub good-digits : allDigits s ≡ true → Digits (number 0 s) ≡ value_of s
+  pub good_digits : all_digits s ≡ true → Digits (number 0 s) ≡ value_of s
   unfolding value_of every
-  good-digits h = rw (not-dash s first, le-leb 1 (length s) many, le-leb (length s) 5 few, h)
+  good_digits h = rw (not_dash s first, le-leb 1 (length s) many, le-leb (length s) 5 few, h)
 
-pub dash-other : (s : List ℕ) → 0 < length s → (length s ≡ 1 → ⊥) → length s ≤ 5 → get_or s 0 0 ≡ 45 → Other ≡ value_of s
-unfolding value_of every allDigits
-dash-other [] l h f e = absurd (omega arith)
-dash-other (a ∷ s) l h f e = rw (no-dash (a ∷ s) (omega arith), le-leb (length (a ∷ s)) 5 f, le-leb 1 (length (a ∷ s)) l, e)
+pub dash_other : (s : List ℕ) → 0 < length s → (length s ≡ 1 → ⊥) → length s ≤ 5 → get_or s 0 0 ≡ 45 → Other ≡ value_of s
+unfolding value_of every all_digits
+dash_other [] l h f e = absurd (omega arith)
+dash_other (a ∷ s) l h f e = rw (no_dash (a ∷ s) (omega arith), le-leb (length (a ∷ s)) 5 f, le-leb 1 (length (a ∷ s)) l, e)
 
 -- ---- the loop over the digits of a value: n is the number of the first i
 pub record Read (s : List ℕ) (n i : ℕ) : Type 0 where
   pub within : i ≤ length s
-  pub good : allDigits s ≡ allDigits (drop i s)
+  pub good : all_digits s ≡ all_digits (drop i s)
   pub value : number 0 s ≡ number n (drop i s)
   pub small : n < 10 ^ i
 
-pub read-start : (s : List ℕ) → Read s 0 0
-read-start s = record { within = omega arith; good = refl; value = refl; small = omega arith }
+pub read_start : (s : List ℕ) → Read s 0 0
+read_start s = record { within = omega arith; good = refl; value = refl; small = omega arith }
 
 module _ {s : List ℕ} {n i : ℕ} (r : Read s n i) where
   pub read_small : i < length s → length s ≤ 5 → n < 10000
@@ -101,7 +101,7 @@ module _ {s : List ℕ} {n i : ℕ} (r : Read s n i) where
       omega (arith, r.small)
 
   pub read_more : i < length s → 48 ≤ get_or s i 0 → get_or s i 0 ≤ 57 → Read s (10 * n + (get_or s i 0 - 48)) (i + 1)
-  unfolding allDigits number every
+  unfolding all_digits number every
   read_more l lo hi =
       record {
         within = omega arith;
@@ -112,32 +112,32 @@ module _ {s : List ℕ} {n i : ℕ} (r : Read s n i) where
 
   module _ (many : 0 < length s) (few : length s ≤ 5) (first : get_or s 0 0 ≡ 45 → ⊥) where
     pub read_low : i < length s → get_or s i 0 < 48 → Other ≡ value_of s
-    unfolding allDigits every
-    read_low l lo = bad-other s many few first (r.good ∙ (rw (drop-cons s i 0 l, lt-leb 48 (get_or s i 0) lo)))
+    unfolding all_digits every
+    read_low l lo = bad_other s many few first (r.good ∙ (rw (drop-cons s i 0 l, lt-leb 48 (get_or s i 0) lo)))
 
-    pub read-high : i < length s → 57 < get_or s i 0 → Other ≡ value_of s
-    unfolding allDigits every
-    read-high l hi =
-        bad-other s many few first (r.good ∙ (rw (drop-cons s i 0 l, lt-leb (get_or s i 0) 57 hi, le-leb 48 (get_or s i 0) (omega arith))))
+    pub read_high : i < length s → 57 < get_or s i 0 → Other ≡ value_of s
+    unfolding all_digits every
+    read_high l hi =
+        bad_other s many few first (r.good ∙ (rw (drop-cons s i 0 l, lt-leb (get_or s i 0) 57 hi, le-leb 48 (get_or s i 0) (omega arith))))
 
-    pub read-end : length s ≤ i → Digits n ≡ value_of s
-    unfolding allDigits number
-    read-end l =
+    pub read_end : length s ≤ i → Digits n ≡ value_of s
+    unfolding all_digits number
+    read_end l =
         ap Digits (sym (r.value ∙ (rw (drop_of_length-le s l))))
-        ∙ good-digits s many few first (r.good ∙ (rw (drop_of_length-le s l)))
+        ∙ good_digits s many few first (r.good ∙ (rw (drop_of_length-le s l)))
 
 -- ---- stores
 sets_then : (l : List ℕ) (i : ℕ) (vs ws : List ℕ) → sets (sets l i vs) (i + length vs) ws ≡ sets l i (vs ++ ws)
 sets_then l i [] ws = rw add-zero
 sets_then l i (v ∷ vs) ws = rw (add-suc, ← suc-add) (sets_then (set l i v) (suc i) vs ws)
 
-pub put-nil : {l : List ℕ} {i : ℕ} → Put l i [] l i
+pub put_nil : {l : List ℕ} {i : ℕ} → Put l i [] l i
 unfolding written
-put-nil {l} {i} = record { holds = refl; next = sym (add-zero i) }
+put_nil {l} {i} = record { holds = refl; next = sym (add-zero i) }
 
-pub put-cons : {l vs new : List ℕ} {i j b k : ℕ} → j ≡ i + 1 → Put (set l i b) j vs new k → Put l i (b ∷ vs) new k
+pub put_cons : {l vs new : List ℕ} {i j b k : ℕ} → j ≡ i + 1 → Put (set l i b) j vs new k → Put l i (b ∷ vs) new k
 unfolding written
-put-cons {l} {vs} {new} {i} {j} {b} {k} h p =
+put_cons {l} {vs} {new} {i} {j} {b} {k} h p =
     record {
       holds = p.holds ∙ ap (λ (n : ℕ). sets (set l i b) n vs) (h ∙ add-one i);
       next = omega (arith, p.next, add-suc i (length vs));
@@ -152,13 +152,13 @@ put_then {l} {vs} {mid} {ws} {new} {i} {j} {k} p q =
     }
 
 -- ---- one digit
-pub place-hit : {l new : List ℕ} {i k p n : ℕ} → p ≤ n → Put l i ((48 + n / p % 10) ∷ []) new k → Put l i (place p n) new k
+pub place_hit : {l new : List ℕ} {i k p n : ℕ} → p ≤ n → Put l i ((48 + n / p % 10) ∷ []) new k → Put l i (place p n) new k
 unfolding place
-place-hit {l} {new} {i} {k} {p} {n} h q = rw (le-leb p n h) q
+place_hit {l} {new} {i} {k} {p} {n} h q = rw (le-leb p n h) q
 
-pub place-miss : {l : List ℕ} {i p n : ℕ} → n < p → Put l i (place p n) l i
+pub place_miss : {l : List ℕ} {i p n : ℕ} → n < p → Put l i (place p n) l i
 unfolding place
-place-miss {l} {i} {p} {n} h = rw (lt-leb p n h) put-nil
+place_miss {l} {i} {p} {n} h = rw (lt-leb p n h) put_nil
 
 -- ---- numbers one after the other
 pub numbered : {n : ℕ} {x : Numeral} → Numbered n x → Numbered x.n x
@@ -172,28 +172,28 @@ numbered {n} {x} h =
       first = rw h.whole h.first;
     }
 
-pub line_of : {n k : ℕ} (a : ℕ) {r : ℕ} {l new : List ℕ} → k ≡ n → Put l 0 (lineText k a) new r → Put l 0 (lineText n a) new r
+pub line_of : {n k : ℕ} (a : ℕ) {r : ℕ} {l new : List ℕ} → k ≡ n → Put l 0 (line_text k a) new r → Put l 0 (line_text n a) new r
 line_of a e p = rw e at p
 
 -- ---- how long a line is
-place-length : (p n : ℕ) → length (place p n) ≤ 1
+place_length : (p n : ℕ) → length (place p n) ≤ 1
 unfolding place
-place-length p n = go (leb p n)
+place_length p n = go (leb p n)
   where
     go : (b : Bool) → length (cond b ((48 + n / p % 10) ∷ []) []) ≤ 1
     go true = omega arith
     go false = omega arith
 
-decimal-length : (n : ℕ) → length (decimal n) ≤ 5
+decimal_length : (n : ℕ) → length (decimal n) ≤ 5
 unfolding decimal
-decimal-length n =
+decimal_length n =
     simp length-append
-    (omega (arith, place-length 10000 n, place-length 1000 n, place-length 100 n, place-length 10 n))
+    (omega (arith, place_length 10000 n, place_length 1000 n, place_length 100 n, place_length 10 n))
 
-pub line-length : (n a : ℕ) → length (lineText n a) ≤ 12
-unfolding lineText
-line-length n a = simp length-append (omega (arith, decimal-length n, decimal-length a))
+pub line_length : (n a : ℕ) → length (line_text n a) ≤ 12
+unfolding line_text
+line_length n a = simp length-append (omega (arith, decimal_length n, decimal_length a))
 
-pub heading-length : length heading ≡ 12
+pub heading_length : length heading ≡ 12
 unfolding heading bytes
-heading-length = refl
+heading_length = refl

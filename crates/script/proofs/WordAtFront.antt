@@ -1,8 +1,8 @@
 -- The word at the front of a line, by its key.
---     word-at-key, word_none, word-text     which word has a key
---     key-none, key_more, key-next, key-four, begins    the key of the first bytes of a text, one byte after the other
+--     word_at_key, word_none, word_text     which word has a key
+--     key_none, key_more, key_next, key_four, begins    the key of the first bytes of a text, one byte after the other
 --     bytes_drop                            bytes from some byte on
---     word-known                            a word and a space behind it
+--     word_known                            a word and a space behind it
 -- Assumes nothing.
 use Prim.Native.Nat.{ℕ, suc, ◌+◌, ◌-◌, ◌*◌, ◌≤◌, ◌<◌}
 use mathlib.Core.Path.{◌≡◌, refl, ap, sym, ◌∙◌}
@@ -15,70 +15,70 @@ use lib.ListN.{length, get_or, take, drop, length-drop, get_or-eq_default}
 use lib.Seq.{take-suc, get_or-drop, get_or-take, length-take-le, split_at}
 use borrow.Author.Tests.{le-leb, not-true}
 use Rattle.bitset.specs.Tests.{all}
-use Rattle.bitset.specs.Tests.Laws.{all-e}
+use Rattle.bitset.specs.Tests.Laws.{all_e}
 use Rattle.script.specs.Text.{bytes, same}
 use Rattle.script.specs.Names.{column}
-use Rattle.script.specs.Line.{requestWords, words}
+use Rattle.script.specs.Line.{request_words, words}
 use Rattle.script.specs.Private.Slices.{leading}
 use Rattle.script.specs.Private.Rows.{no_word}
-use Rattle.script.specs.Private.ShortTexts.{packed, textKey, spot, word_of, Begins}
-use Rattle.script.proofs.ByKey.{Bytes, Misses, kept, by_key, spot-none, wordKeys, word-keys}
-use Rattle.script.proofs.NamePlaces.{column-found}
-use Rattle.script.proofs.FirstValue.{clean, lead-clean}
+use Rattle.script.specs.Private.ShortTexts.{packed, text_key, spot, word_of, Begins}
+use Rattle.script.proofs.ByKey.{Bytes, Misses, kept, by_key, spot_none, word_keys, word_keys_lem}
+use Rattle.script.proofs.NamePlaces.{column_found}
+use Rattle.script.proofs.FirstValue.{clean, lead_clean}
 
 -- ---- which word has a key
-pub word-at-key : {k n : ℕ} → k ≡ n → spot n wordKeys ≡ word_of k
+pub word_at_key : {k n : ℕ} → k ≡ n → spot n word_keys ≡ word_of k
 unfolding word_of
-word-at-key {k} {n} e = rw e (ap (spot n) (sym word-keys.keys))
+word_at_key {k} {n} e = rw e (ap (spot n) (sym word_keys_lem.keys))
 
 -- it is none of those that pass a test which it passes
-pub word_none : (t : ℕ → Bool) {k : ℕ} → t k ≡ true → Misses (Unit {0}) k (kept t wordKeys) → no_word ≡ word_of k
+pub word_none : (t : ℕ → Bool) {k : ℕ} → t k ≡ true → Misses (Unit {0}) k (kept t word_keys) → no_word ≡ word_of k
 unfolding word_of
-word_none t {k} p m = sym (spot-none t k wordKeys p m).1 ∙ ap (spot k) (sym word-keys.keys)
+word_none t {k} p m = sym (spot_none t k word_keys p m).1 ∙ ap (spot k) (sym word_keys_lem.keys)
 
-pub word-text : (p : List ℕ) {k w : ℕ} → Bytes p → k ≡ textKey p → w ≡ word_of k → w ≡ column p words
+pub word_text : (p : List ℕ) {k w : ℕ} → Bytes p → k ≡ text_key p → w ≡ word_of k → w ≡ column p words
 unfolding word_of
-word-text p b h e = e ∙ ap word_of h ∙ by_key p words b word-keys.fit
+word_text p b h e = e ∙ ap word_of h ∙ by_key p words b word_keys_lem.fit
 
 -- ---- the key of the first bytes
-packed-last : (n : ℕ) (s : List ℕ) (b : ℕ) → packed n (s ++ (b ∷ [])) ≡ 256 * packed n s + b
+packed_last : (n : ℕ) (s : List ℕ) (b : ℕ) → packed n (s ++ (b ∷ [])) ≡ 256 * packed n s + b
 unfolding packed
-packed-last n [] b = refl
-packed-last n (a ∷ s) b = packed-last (256 * n + a) s b
+packed_last n [] b = refl
+packed_last n (a ∷ s) b = packed_last (256 * n + a) s b
 
-short-key : (t : List ℕ) (n : ℕ) → n ≤ 7 → n ≤ length t → textKey (take n t) ≡ packed 1 (take n t)
-unfolding textKey
-short-key t n h l = rw (le-leb (length (take n t)) 7 (rw (length-take-le n t l) h))
+short_key : (t : List ℕ) (n : ℕ) → n ≤ 7 → n ≤ length t → text_key (take n t) ≡ packed 1 (take n t)
+unfolding text_key
+short_key t n h l = rw (le-leb (length (take n t)) 7 (rw (length-take-le n t l) h))
 
-pub key-none : (t : List ℕ) → textKey (take 0 t) ≡ 1
-unfolding textKey packed
-key-none t = refl
+pub key_none : (t : List ℕ) → text_key (take 0 t) ≡ 1
+unfolding text_key packed
+key_none t = refl
 
-pub key_more : (t : List ℕ) (n : ℕ) → n < 7 → n < length t → textKey (take (suc n) t) ≡ 256 * textKey (take n t) + get_or t n 0
+pub key_more : (t : List ℕ) (n : ℕ) → n < 7 → n < length t → text_key (take (suc n) t) ≡ 256 * text_key (take n t) + get_or t n 0
 key_more t n h l =
-    short-key t (suc n) (omega arith) (omega arith)
+    short_key t (suc n) (omega arith) (omega arith)
     ∙ ap (packed 1) (take-suc t n 0 l)
-    ∙ packed-last 1 (take n t) (get_or t n 0)
-    ∙ ap (λ (k : ℕ). 256 * k + get_or t n 0) (sym (short-key t n (omega arith) (omega arith)))
+    ∙ packed_last 1 (take n t) (get_or t n 0)
+    ∙ ap (λ (k : ℕ). 256 * k + get_or t n 0) (sym (short_key t n (omega arith) (omega arith)))
 
 -- the same by the bytes of the whole text
-pub key-next : (s : List ℕ) (from n k b : ℕ) → n < 7 → n < length (drop from s) → k ≡ textKey (take n (drop from s)) → b ≡ get_or s (from + n) 0
-    → 256 * k + b ≡ textKey (take (suc n) (drop from s))
-key-next s from n k b h l e f = rw (e, f, ← get_or-drop from s n 0) (sym (key_more (drop from s) n h l))
+pub key_next : (s : List ℕ) (from n k b : ℕ) → n < 7 → n < length (drop from s) → k ≡ text_key (take n (drop from s)) → b ≡ get_or s (from + n) 0
+    → 256 * k + b ≡ text_key (take (suc n) (drop from s))
+key_next s from n k b h l e f = rw (e, f, ← get_or-drop from s n 0) (sym (key_more (drop from s) n h l))
 
-pub key-four : (s : List ℕ) (from a b c d : ℕ) → from + 3 < length s → a ≡ get_or s from 0 → b ≡ get_or s (from + 1) 0 → c ≡ get_or s (from + 2) 0
-    → d ≡ get_or s (from + 3) 0 → 256 * (256 * (256 * (256 + a) + b) + c) + d ≡ textKey (take 4 (drop from s))
-key-four s from a b c d l x y z w =
+pub key_four : (s : List ℕ) (from a b c d : ℕ) → from + 3 < length s → a ≡ get_or s from 0 → b ≡ get_or s (from + 1) 0 → c ≡ get_or s (from + 2) 0
+    → d ≡ get_or s (from + 3) 0 → 256 * (256 * (256 * (256 + a) + b) + c) + d ≡ text_key (take 4 (drop from s))
+key_four s from a b c d l x y z w =
     let n : length (drop from s) ≡ length s - from = length-drop from s in
-    key-next s from 3 _ d (omega arith) (omega arith)
-    (key-next s from 2 _ c (omega arith) (omega arith)
-    (key-next s from 1 _ b (omega arith) (omega arith)
-    (key-next s from 0 1 a (omega arith) (omega arith) (sym (key-none (drop from s))) (x ∙ ap (λ (k : ℕ). get_or s k 0) (sym (add-zero from))))
+    key_next s from 3 _ d (omega arith) (omega arith)
+    (key_next s from 2 _ c (omega arith) (omega arith)
+    (key_next s from 1 _ b (omega arith) (omega arith)
+    (key_next s from 0 1 a (omega arith) (omega arith) (sym (key_none (drop from s))) (x ∙ ap (λ (k : ℕ). get_or s k 0) (sym (add-zero from))))
     y)
     z)
     w
 
-pub begins : (s : List ℕ) (from n k a w : ℕ) → n < 7 → k ≡ textKey (take n (drop from s)) → a ≡ get_or s (from + n) 0 → a ≡ 32 → w ≡ word_of k
+pub begins : (s : List ℕ) (from n k a w : ℕ) → n < 7 → k ≡ text_key (take n (drop from s)) → a ≡ get_or s (from + n) 0 → a ≡ 32 → w ≡ word_of k
     → Begins (drop from s) w n
 begins s from n k a w l h e z x = record { within = l; word = λ m. x ∙ ap word_of h; space = λ m. get_or-drop from s n 0 ∙ sym e ∙ z }
 
@@ -95,32 +95,32 @@ bytes_take n s l b i = go (dec_lt i n)
 
 -- ---- a word and a space behind it
 plain : all no_word (λ i. clean (get_or words i []) && not (same (get_or words i []) (bytes "-"))) ≡ true
-unfolding all words requestWords bytes same
+unfolding all words request_words bytes same
 plain = refl
 
-pub words-length : length words ≡ no_word
-unfolding words requestWords
-words-length = refl
+pub words_length : length words ≡ no_word
+unfolding words request_words
+words_length = refl
 
 pub record Word (t p : List ℕ) (w : ℕ) : Type 0 where
   pub leads : leading t ≡ p
   pub place : w ≡ column p words
-  pub no-dash : same p (bytes "-") ≡ false
+  pub no_dash : same p (bytes "-") ≡ false
 
-pub word-known : (t : List ℕ) (n w : ℕ) → Bytes t → Begins t w n → w < no_word → n < length t → Word t (take n t) w
-word-known t n w b g l m =
-    record { leads = split ∙ lead-clean (take n t) (drop (suc n) t) pure.0; place = known; no-dash = not-true _ pure.1 }
+pub word_known : (t : List ℕ) (n w : ℕ) → Bytes t → Begins t w n → w < no_word → n < length t → Word t (take n t) w
+word_known t n w b g l m =
+    record { leads = split ∙ lead_clean (take n t) (drop (suc n) t) pure.0; place = known; no_dash = not-true _ pure.1 }
   where
     known : w ≡ column (take n t) words
-    known = word-text (take n t) (bytes_take n t (omega arith) b) refl (g.word l)
+    known = word_text (take n t) (bytes_take n t (omega arith) b) refl (g.word l)
 
     here : get_or words (column (take n t) words) [] ≡ take n t
-    here = column-found (take n t) words (omega (arith, known, words-length))
+    here = column_found (take n t) words (omega (arith, known, words_length))
 
     pure : (clean (take n t) ≡ true) × (not (same (take n t) (bytes "-")) ≡ true)
     pure =
         (and-eq-true_iff (clean (take n t)) (not (same (take n t) (bytes "-")))).0
-        (rw here at (all-e no_word (λ i. clean (get_or words i []) && not (same (get_or words i []) (bytes "-"))) plain (column (take n t) words) (omega (arith, known))))
+        (rw here at (all_e no_word (λ i. clean (get_or words i []) && not (same (get_or words i []) (bytes "-"))) plain (column (take n t) words) (omega (arith, known))))
 
     split : leading t ≡ leading (take n t ++ (32 ∷ drop (suc n) t))
     split = ap leading (split_at t n 0 m ∙ ap (λ (d : ℕ). take n t ++ (d ∷ drop (suc n) t)) (g.space l))

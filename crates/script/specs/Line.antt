@@ -6,7 +6,7 @@ use Rattle.script.specs.declared.line.Value.{Value}
 use Rattle.script.specs.declared.line.Value.TheVariants.{Digits, Dash, Other}
 use Rattle.script.specs.declared.line.Line.{Line}
 use Rattle.script.specs.declared.line.Line.TheVariants.{Ask, SetUser, Bad}
-use Rattle.script.specs.Text.{bytes, same, values, allDigits, number}
+use Rattle.script.specs.Text.{bytes, same, values, all_digits, number}
 use Rattle.script.specs.Names.{column, under}
 
 -- ---- values
@@ -14,11 +14,11 @@ use Rattle.script.specs.Names.{column, under}
 unfoldable pub value_of : List ℕ → Value
 value_of bs =
     cond (same bs (bytes "-")) Dash
-    (cond (every (leb 1 (length bs) ∷ leb (length bs) 5 ∷ allDigits bs ∷ [])) (Digits (number 0 bs)) Other)
+    (cond (every (leb 1 (length bs) ∷ leb (length bs) 5 ∷ all_digits bs ∷ [])) (Digits (number 0 bs)) Other)
 
 -- .. and the request's word under `call`: the nineteen, in the order of their numbers
-unfoldable pub requestWords : List (List ℕ)
-requestWords =
+unfoldable pub request_words : List (List ℕ)
+request_words =
     bytes "login"
     ∷ bytes "logout"
     ∷ bytes "take"
@@ -42,10 +42,10 @@ requestWords =
 
 -- .. and in front of them the word `user`
 unfoldable pub words : List (List ℕ)
-words = bytes "user" ∷ requestWords
+words = bytes "user" ∷ request_words
 
-abbrev pub userWord : ℕ
-userWord = 0
+abbrev pub user_word : ℕ
+user_word = 0
 
 -- the number of the request whose word has the place w
 abbrev pub call_of : ℕ → ℕ
@@ -67,26 +67,26 @@ ordinal rights = 9
 ordinal shared = 10
 ordinal junior = 11
 
-unfoldable pub isUsed : List Field → Field → Bool
-isUsed [] f = false
-isUsed (g ∷ gs) f = eqb (ordinal f) (ordinal g) || isUsed gs f
+unfoldable pub is_used : List Field → Field → Bool
+is_used [] f = false
+is_used (g ∷ gs) f = eqb (ordinal f) (ordinal g) || is_used gs f
 
 -- the names behind `call`, up to `rights`: `level` is the label's grade, `cats` its categories
 unfoldable pub fields : List Field
 fields = seat ∷ user ∷ role ∷ entity ∷ parent ∷ kind ∷ name ∷ label ∷ label ∷ rights ∷ []
 
 -- the fields of the optional names, in their order
-unfoldable pub optionalFields : List Field
-optionalFields = shared ∷ junior ∷ []
+unfoldable pub optional_fields : List Field
+optional_fields = shared ∷ junior ∷ []
 
 -- of the names behind `call`, those that the word uses. No request uses `ceiling`; `user` uses the user, its clearance and its
 -- ceiling.
 unfoldable pub used : ℕ → List Bool
 used word =
     let uses = (get_or rules (call_of word) unknown).uses in
-    cond (eqb word userWord)
-    ((false ∷ true ∷ false ∷ false ∷ false ∷ false ∷ false ∷ true ∷ true ∷ false ∷ true ∷ []) ++ map (λ f. false) optionalFields)
-    (map (isUsed uses) fields ++ (false ∷ map (isUsed uses) optionalFields))
+    cond (eqb word user_word)
+    ((false ∷ true ∷ false ∷ false ∷ false ∷ false ∷ false ∷ true ∷ true ∷ false ∷ true ∷ []) ++ map (λ f. false) optional_fields)
+    (map (is_used uses) fields ++ (false ∷ map (is_used uses) optional_fields))
 
 -- ---- reading
 -- the numbers of a line, 0 where a field is not used; or a line that can't be read
@@ -107,15 +107,15 @@ taken false (Digits n) rest = unreadable
 taken false Dash rest = joined 0 rest
 taken false Other rest = unreadable
 
-unfoldable pub takeAll : List Bool → List (List ℕ) → Numbers
-takeAll [] vs = these []
-takeAll (b ∷ bs) [] = unreadable
-takeAll (b ∷ bs) (v ∷ vs) = taken b (value_of v) (takeAll bs vs)
+unfoldable pub take_each : List Bool → List (List ℕ) → Numbers
+take_each [] vs = these []
+take_each (b ∷ bs) [] = unreadable
+take_each (b ∷ bs) (v ∷ vs) = taken b (value_of v) (take_each bs vs)
 
 -- what a line asks: a request, or a user's record
 unfoldable pub asks : ℕ → Numbers → Line
 asks word (these ns) =
-    cond (eqb word userWord) (SetUser (get_or ns 1 0) (get_or ns 7 0) (get_or ns 8 0) (get_or ns 10 0))
+    cond (eqb word user_word) (SetUser (get_or ns 1 0) (get_or ns 7 0) (get_or ns 8 0) (get_or ns 10 0))
     (Ask
     (record {
       call = call_of word;
@@ -139,14 +139,14 @@ unfoldable pub line_of : List (List ℕ) → Line
 line_of [] = Bad
 line_of (w ∷ vs) =
     let word = column w words in
-    cond (ltb word (length words)) (asks word (takeAll (used word) vs)) Bad
+    cond (ltb word (length words)) (asks word (take_each (used word) vs)) Bad
 
-abbrev pub longestLine : ℕ
-longestLine = 255
+abbrev pub longest_line : ℕ
+longest_line = 255
 
 -- Other faults in a line (over 255 bytes before byte 10, empty, wrong number of values, a value of another form, a dash or
 -- number in the wrong place, unknown word, ..) give 17. An empty line has one value, of no form.
-unfoldable pub readLine : List (List ℕ) → List ℕ → Line
-readLine header l =
+unfoldable pub read_line : List (List ℕ) → List ℕ → Line
+read_line header l =
     let vs = values l in
-    cond (every (leb (length l) longestLine ∷ eqb (length vs) (length header) ∷ [])) (line_of (under header vs)) Bad
+    cond (every (leb (length l) longest_line ∷ eqb (length vs) (length header) ∷ [])) (line_of (under header vs)) Bad

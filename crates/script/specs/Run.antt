@@ -4,35 +4,35 @@
 use Rattle.std.specs.Prelude.{ℕ, ◌+◌, ◌-◌, ◌≤◌, ◌<◌, ◌≡◌, Bool, true, false, cond, List, [], ◌∷◌, ◌++◌, eqb, leb, ltb, length, take, drop, replicate}
 use Rattle.guard.specs.declared.Tables.{Tables}
 use Rattle.script.specs.Text.{lines, values, after}
-use Rattle.script.specs.Names.{placeCount, isNames, Ordered}
-use Rattle.script.specs.Line.{longestLine, readLine}
-use Rattle.script.specs.Report.{Bench, answerLine, heading, lineRoom, answered, lastLine, firstBench, below}
+use Rattle.script.specs.Names.{place_count, is_names, Ordered}
+use Rattle.script.specs.Line.{longest_line, read_line}
+use Rattle.script.specs.Report.{Bench, answer_line, heading, line_room, answered, last_line, first_bench, below}
 use Rattle.script.specs.declared.runner.Runner.{Runner}
 use Rattle.script.specs.declared.runner.Ran.{Ran}
 
 -- ---- the phases of a runner: the heading is to come; the names are to come; lines of values; from 3 on the run is over
-abbrev pub atHeading : ℕ
-atHeading = 0
+abbrev pub at_heading : ℕ
+at_heading = 0
 
-abbrev pub atNames : ℕ
-atNames = 1
+abbrev pub at_names : ℕ
+at_names = 1
 
-abbrev pub atLines : ℕ
-atLines = 2
+abbrev pub at_lines : ℕ
+at_lines = 2
 
 abbrev pub bench : Tables → Bool → Bench
 bench t shut = record { tables = t; shut = shut }
 
-abbrev pub benchOf : Runner → Bench
-benchOf r = bench r.tables r.shut
+abbrev pub bench_of : Runner → Bench
+bench_of r = bench r.tables r.shut
 
 -- ---- what is printed, and the bench at the end of it
 pub record Told : Type 0 where
   pub text : List ℕ
   pub bench : Bench
 
-abbrev pub toldFirst : List ℕ → Told → Told
-toldFirst w p = record { text = w ++ p.text; bench = p.bench }
+abbrev pub told_first : List ℕ → Told → Told
+told_first w p = record { text = w ++ p.text; bench = p.bench }
 
 abbrev pub silent : Bench → Told
 silent b = record { text = []; bench = b }
@@ -40,49 +40,49 @@ silent b = record { text = []; bench = b }
 -- the bench after lines of values
 unfoldable pub finally : List (List ℕ) → Bench → List (List ℕ) → Bench
 finally header b [] = b
-finally header b (l ∷ ls) = finally header (answerLine b (readLine header l)).bench ls
+finally header b (l ∷ ls) = finally header (answer_line b (read_line header l)).bench ls
 
 -- .. and after all lines, the names line first
 unfoldable pub closing : List (List ℕ) → Bench
-closing [] = firstBench
-closing (h ∷ ls) = cond (isNames (values h)) (finally (values h) firstBench ls) firstBench
+closing [] = first_bench
+closing (h ∷ ls) = cond (is_names (values h)) (finally (values h) first_bench ls) first_bench
 
 -- n lines are done, the names line as 1; s is what is left, from the beginning of a line on
-unfoldable pub fromLine : List (List ℕ) → Bench → ℕ → List ℕ → Told
-fromLine header b n s =
-    let ls = take (lastLine - n) (lines s) in
+unfoldable pub from_line : List (List ℕ) → Bench → ℕ → List ℕ → Told
+from_line header b n s =
+    let ls = take (last_line - n) (lines s) in
     record { text = answered header b (n + 1) ls; bench = finally header b ls }
 
 -- the names line is to come
-unfoldable pub fromNames : List ℕ → Told
-fromNames s = record { text = below (take lastLine (lines s)); bench = closing (take lastLine (lines s)) }
+unfoldable pub from_names : List ℕ → Told
+from_names s = record { text = below (take last_line (lines s)); bench = closing (take last_line (lines s)) }
 
 -- what a runner that has read the names `header` has yet to tell. The line in which `skip` is set has been answered: what
 -- is left of it is passed over.
 unfoldable pub rest : List (List ℕ) → Runner → List ℕ → Told
 rest header r s =
-    cond (eqb r.phase atHeading) (toldFirst heading (fromNames s))
-    (cond (eqb r.phase atNames) (fromNames s)
-    (cond (eqb r.phase atLines) (fromLine header (benchOf r) r.done (cond r.skip (after 10 s) s))
-    (silent (benchOf r))))
+    cond (eqb r.phase at_heading) (told_first heading (from_names s))
+    (cond (eqb r.phase at_names) (from_names s)
+    (cond (eqb r.phase at_lines) (from_line header (bench_of r) r.done (cond r.skip (after 10 s) s))
+    (silent (bench_of r))))
 
 -- a runner that has done nothing but read the names `header`, if any: until then its bench is the opening one, and then
 -- it knows their order
 pub record Fits (header : List (List ℕ)) (r : Runner) : Type 0 where
-  pub opens : r.phase < atLines → benchOf r ≡ firstBench
-  pub knows : r.phase ≡ atLines → Ordered header r.at
+  pub opens : r.phase < at_lines → bench_of r ≡ first_bench
+  pub knows : r.phase ≡ at_lines → Ordered header r.at
 
 -- the run is over, after a bad first line or with the last line that is read: nothing is left to tell, whatever input
 -- follows (`over-silent`, Proof/Silent)
 unfoldable pub is_over : Runner → Bool
-is_over r = cond (eqb r.phase atLines) (leb lastLine r.done) (ltb atLines r.phase)
+is_over r = cond (eqb r.phase at_lines) (leb last_line r.done) (ltb at_lines r.phase)
 
 -- ---- a call on a piece
 -- whatever input follows, what was left to tell is w and then what is left to tell now
 pub record Onward (end : Bool) (header : List (List ℕ)) (r : Runner) (s w : List ℕ) (r2 : Runner) (s2 : List ℕ) : Type 0 where
   pub known : List (List ℕ)
   pub fits : Fits known r2
-  pub same : (more : List ℕ) → (end ≡ true → more ≡ []) → rest header r (s ++ more) ≡ toldFirst w (rest known r2 (s2 ++ more))
+  pub same : (more : List ℕ) → (end ≡ true → more ≡ []) → rest header r (s ++ more) ≡ told_first w (rest known r2 (s2 ++ more))
 
 abbrev pub Goes : Bool → Runner → List ℕ → List ℕ → Runner → List ℕ → Type 0
 Goes end r s w r2 s2 = (header : List (List ℕ)) → Fits header r → Onward end header r s w r2 s2
@@ -96,12 +96,12 @@ pub record Worked (r : Runner) (piece : List ℕ) (end : Bool) (old new : List �
 
 -- something is left to be done: the heading or the names are to come, or there is input and lines are to be read
 pub data Open (r : Runner) (left : List ℕ) : Type 0 where
-  names-to-come : r.phase < atLines → Open r left
-  line-to-come : r.phase ≡ atLines → r.done < lastLine → 0 < length left → Open r left
+  names_to_come : r.phase < at_lines → Open r left
+  line_to_come : r.phase ≡ at_lines → r.done < last_line → 0 < length left → Open r left
 
 -- no more can be done: nothing is left to be done, or there is no room, or no whole line is left and more input is to come
 abbrev pub Stopped : Runner → List ℕ → Bool → ℕ → Type 0
-Stopped r left end room = Open r left → lineRoom ≤ room → (end ≡ false) × (length left ≤ longestLine) × (atNames ≤ r.phase)
+Stopped r left end room = Open r left → line_room ≤ room → (end ≡ false) × (length left ≤ longest_line) × (at_names ≤ r.phase)
 
 -- where a call on a piece ends
 pub record Finished (r : Runner) (piece : List ℕ) (end : Bool) (old new : List ℕ) (x : Ran) : Type 0 where
@@ -121,10 +121,10 @@ pub data Session (r : Runner) (s : List ℕ) : List ℕ → Runner → List ℕ 
 abbrev pub unbegun : Runner
 unbegun =
     record {
-      tables = firstBench.tables;
+      tables = first_bench.tables;
       shut = false;
-      at = replicate placeCount 0;
-      phase = atHeading;
+      at = replicate place_count 0;
+      phase = at_heading;
       done = 0;
       skip = false;
     }

@@ -32,9 +32,9 @@ values [] = [] ∷ []
 values (b ∷ s) = cond (eqb b 32) ([] ∷ values s) (onto b (values s))
 
 -- decimal digits, and the number that they write
-unfoldable pub allDigits : List ℕ → Bool
-allDigits [] = true
-allDigits (b ∷ s) = every (leb 48 b ∷ leb b 57 ∷ []) && allDigits s
+unfoldable pub all_digits : List ℕ → Bool
+all_digits [] = true
+all_digits (b ∷ s) = every (leb 48 b ∷ leb b 57 ∷ []) && all_digits s
 
 unfoldable pub number : ℕ → List ℕ → ℕ
 number n [] = n

@@ -1,11 +1,11 @@
 // Many lines of values at once: what whole lines ask becomes one batch of requests, the guard runs it with one test of
 // soundness, and the answers are written one behind the other, 17 for a line that asks none.
 ghost use Rattle.std.specs.Prelude.{◌+◌, ◌*◌, ◌≤◌, ◌≡◌, length, take};
-ghost use Rattle.script.specs.Report.{lineRoom, lastLine};
+ghost use Rattle.script.specs.Report.{line_room, last_line};
 ghost use Rattle.script.specs.Private.Slices.{written, Put};
-ghost use Rattle.guard.specs.Batch.{rowLength};
+ghost use Rattle.guard.specs.Batch.{row_length};
 ghost use Rattle.guard.specs.Private.Inside.{row_of};
-ghost use Rattle.script.specs.Private.LineBatch.{one, said, texts, isRequest, isAllowed, numbersOf, Most, Batched};
+ghost use Rattle.script.specs.Private.LineBatch.{one, said, texts, is_request, is_allowed, numbers_of, Most, Batched};
 
 use crate::line::Line;
 use crate::{limits, line, print};
@@ -48,7 +48,7 @@ pub fn most(done: u32, room: usize) -> usize
 
 // A request as a row of numbers from `at` on.
 fn put_row(q: Request, rows: &mut [u32], at: usize) -> usize
-    requires { at + rowLength ≤ length rows.old }
+    requires { at + row_length ≤ length rows.old }
     ensures { Put rows.old at (row_of q) rows.new result }
 {
     rows[at] = q.call;
@@ -69,8 +69,8 @@ fn put_row(q: Request, rows: &mut [u32], at: usize) -> usize
 
 // What a line asks, behind `count` requests; whether it asks one.
 fn load(l: Line, rows: &mut [u32], count: usize) -> bool
-    requires { rowLength * count + rowLength ≤ length rows.old }
-    ensures { (result ≡ isRequest l) × (rows.new ≡ written rows.old (rowLength * count) (numbersOf l)) }
+    requires { row_length * count + row_length ≤ length rows.old }
+    ensures { (result ≡ is_request l) × (rows.new ≡ written rows.old (row_length * count) (numbers_of l)) }
 {
     match l {
         Line::Ask(q) => {
@@ -84,7 +84,7 @@ fn load(l: Line, rows: &mut [u32], count: usize) -> bool
 
 // Whether a line is a `user` line that is allowed. Such a line sets a record between two batches.
 fn is_allowed(l: Line, shut: bool) -> bool
-    ensures { result ≡ isAllowed shut l }
+    ensures { result ≡ is_allowed shut l }
 {
     match l {
         Line::Ask(_) => false,
@@ -102,7 +102,7 @@ pub fn gather(
     rows: &mut [u32],
     marks: &mut [bool],
 ) -> Gathered
-    requires { (most ≤ length marks.old) × (rowLength * most ≤ length rows.old) }
+    requires { (most ≤ length marks.old) × (row_length * most ≤ length rows.old) }
     ensures { Batched at shut s.now most rows.new marks.new result }
 {
     let mut shut = shut;
@@ -145,7 +145,7 @@ fn answer_of(asks: bool, a: u8) -> u8
 
 // The answers to the first `lines` lines, the first of which has number `n`.
 pub fn put_answers(marks: &[bool], answers: &[u8], lines: usize, n: u32, out: &mut [u8]) -> usize
-    requires { (lines ≤ length marks.now) × (lines ≤ length answers.now) × (lineRoom * lines ≤ length out.old) × (n + lines ≤ lastLine + 1) }
+    requires { (lines ≤ length marks.now) × (lines ≤ length answers.now) × (line_room * lines ≤ length out.old) × (n + lines ≤ last_line + 1) }
     ensures { Put out.old 0 (texts n (take lines marks.now) answers.now) out.new result }
 {
     let mut wrote = 0;

@@ -2,7 +2,7 @@
 ghost use Rattle.std.specs.Prelude.{◌-◌, ◌<◌, ◌≡◌, []};
 ghost use Rattle.bitset.specs.Sets.{has};
 ghost use Rattle.script.specs.Line.{Numbers, these, used, asks};
-ghost use Rattle.script.specs.Private.Rows.{no_word, fieldCount, takenAs, takeFrom, ahead, members};
+ghost use Rattle.script.specs.Private.Rows.{no_word, field_count, taken_as, take_from, ahead, members};
 
 use crate::limits;
 use crate::line::Line;
@@ -60,14 +60,14 @@ const USES: [u16; limits::WORDS] = [
 
 pub fn uses(word: u32) -> u16
     requires { word < no_word }
-    ensures { members result 1 fieldCount ≡ used word }
+    ensures { members result 1 field_count ≡ used word }
 {
     USES[word as usize]
 }
 
 // A field i that the word uses must be a number, and any other a dash, which stands as 0.
 fn field(n: u32, given: u16, uses: u16, i: u32) -> Taken
-    ensures { result ≡ takenAs (has uses i) (has given i) n }
+    ensures { result ≡ taken_as (has uses i) (has given i) n }
 {
     let used = bitset::has16(uses, i);
     let number = bitset::has16(given, i);
@@ -82,7 +82,7 @@ fn field(n: u32, given: u16, uses: u16, i: u32) -> Taken
 
 // The first six fields.
 pub fn first(vals: &[u32; limits::PLACES], given: u16, uses: u16) -> Half
-    ensures { (rest : Numbers) → takeFrom uses given vals.now 1 6 rest ≡ ahead result rest }
+    ensures { (rest : Numbers) → take_from uses given vals.now 1 6 rest ≡ ahead result rest }
 {
     let Taken::Number(seat) = field(vals[1], given, uses, 1) else {
         return Half::Fault;
@@ -114,7 +114,7 @@ pub fn first(vals: &[u32; limits::PLACES], given: u16, uses: u16) -> Half
 
 // The others, and what the line asks.
 pub fn second(word: u32, six: Six, vals: &[u32; limits::PLACES], given: u16, uses: u16) -> Line
-    ensures { result ≡ asks word (ahead (Half.Numbers six) (takeFrom uses given vals.now 7 (fieldCount - 6) (these []))) }
+    ensures { result ≡ asks word (ahead (Half.Numbers six) (take_from uses given vals.now 7 (field_count - 6) (these []))) }
 {
     let Taken::Number(name) = field(vals[7], given, uses, 7) else {
         return Line::Bad;

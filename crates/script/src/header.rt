@@ -1,7 +1,7 @@
 // The line of names: each of the twelve once, and any of the optional ones, in any order.
 ghost use Rattle.std.specs.Prelude.{◌≡◌, true};
 ghost use Rattle.script.specs.Text.{values};
-ghost use Rattle.script.specs.Names.{isNames, Ordered};
+ghost use Rattle.script.specs.Names.{is_names, Ordered};
 
 use crate::{limits, text};
 
@@ -15,7 +15,7 @@ pub struct Order {
 
 // `seen` is the set of the names so far, and of what is none: no name of a good line is in it when it comes.
 pub fn header(s: &[u8]) -> Order
-    ensures { (result.good ≡ isNames (values s.now)) × (result.good ≡ true → Ordered (values s.now) result.at) }
+    ensures { (result.good ≡ is_names (values s.now)) × (result.good ≡ true → Ordered (values s.now) result.at) }
 {
     let mut at = [limits::NO_NAME; limits::PLACES];
     let mut seen = bitset::with16(0, limits::NO_NAME as u32);

@@ -1,6 +1,6 @@
 // What stands in a line.
 ghost use Rattle.std.specs.Prelude.{ℕ, ◌≡◌, List, length};
-ghost use Rattle.script.specs.Line.{readLine};
+ghost use Rattle.script.specs.Line.{read_line};
 ghost use Rattle.script.specs.Private.Slices.{before};
 ghost use Rattle.script.specs.Names.{Ordered};
 ghost use Rattle.script.specs.Private.Rows.{blank, IsRow};
@@ -44,7 +44,7 @@ fn empty() -> [u32; limits::PLACES]
 
 // What the line of a row asks.
 fn asked(row: Row, vals: &[u32; limits::PLACES]) -> Line
-    ensures { (h : List (List ℕ)) (at l : List ℕ) → Ordered h at → IsRow at l vals.now row → result ≡ readLine h l }
+    ensures { (h : List (List ℕ)) (at l : List ℕ) → Ordered h at → IsRow at l vals.now row → result ≡ read_line h l }
 {
     if !row.good | (limits::LONGEST < row.len) {
         return Line::Bad;
@@ -62,7 +62,7 @@ fn asked(row: Row, vals: &[u32; limits::PLACES]) -> Line
 
 // The line at the front of `s`, up to byte 10 or the end, under a good header.
 pub fn next(s: &[u8], at: &[u8; limits::PLACES]) -> Front
-    ensures { (result.len ≡ length (before 10 s.now)) × ((h : List (List ℕ)) → Ordered h at.now → result.asked ≡ readLine h (before 10 s.now)) }
+    ensures { (result.len ≡ length (before 10 s.now)) × ((h : List (List ℕ)) → Ordered h at.now → result.asked ≡ read_line h (before 10 s.now)) }
 {
     let mut vals = empty();
     let row = row::read_row(s, at, &mut vals);

@@ -1,7 +1,7 @@
 // The lines of output.
 ghost use Rattle.std.specs.Prelude.{◌+◌, ◌/◌, ◌%◌, ◌<◌, ◌≤◌, ◌≡◌, [], ◌∷◌, length};
 ghost use Rattle.script.specs.Text.{place, decimal};
-ghost use Rattle.script.specs.Report.{heading, lineText, lineRoom, lastLine};
+ghost use Rattle.script.specs.Report.{heading, line_text, line_room, last_line};
 ghost use Rattle.script.specs.Private.Slices.{Numbered, Put};
 
 // A number and its last five digits, the last one in `a`.
@@ -31,7 +31,7 @@ pub fn numeral_of(n: u32) -> Numeral
 
 // The next number: mostly no digit but the last one changes.
 pub fn after(x: Numeral) -> Numeral
-    requires { Numbered x.n x × (x.n ≤ lastLine) }
+    requires { Numbered x.n x × (x.n ≤ last_line) }
     ensures { Numbered (x.n + 1) result }
 {
     if 9 <= x.a {
@@ -97,8 +97,8 @@ fn put_decimal(x: Numeral, out: &mut [u8], at: usize) -> usize
 
 // One line of output: number, space, answer, byte 10.
 pub fn put_line(x: Numeral, a: u8, out: &mut [u8]) -> usize
-    requires { Numbered x.n x × (lineRoom ≤ length out.old) }
-    ensures { Put out.old 0 (lineText x.n a) out.new result }
+    requires { Numbered x.n x × (line_room ≤ length out.old) }
+    ensures { Put out.old 0 (line_text x.n a) out.new result }
 {
     let i = put_decimal(x, out, 0);
     out[i] = b' ';

@@ -1,7 +1,7 @@
 // The answer to a line of values, and the bench after it.
 ghost use Rattle.std.specs.Prelude.{◌≡◌};
-ghost use Rattle.script.specs.Report.{answerLine};
-ghost use Rattle.script.specs.Private.Steps.{saidBy};
+ghost use Rattle.script.specs.Report.{answer_line};
+ghost use Rattle.script.specs.Private.Steps.{said_by};
 
 use crate::limits;
 use crate::line::Line;
@@ -17,7 +17,7 @@ pub struct Reply {
 
 // Sets a user's record, in ranges and before any other word.
 fn set_user(mut t: Tables, shut: bool, user: u32, level: u32, cats: u32, ceiling: u32) -> Reply
-    ensures { saidBy result ≡ answerLine (record { tables = t; shut = shut }) (Line.SetUser user level cats ceiling) }
+    ensures { said_by result ≡ answer_line (record { tables = t; shut = shut }) (Line.SetUser user level cats ceiling) }
 {
     if shut {
         return Reply {
@@ -55,7 +55,7 @@ fn set_user(mut t: Tables, shut: bool, user: u32, level: u32, cats: u32, ceiling
 
 // Answers what a line asks.
 pub fn answer_line(t: Tables, shut: bool, l: Line) -> Reply
-    ensures { saidBy result ≡ answerLine (record { tables = t; shut = shut }) l }
+    ensures { said_by result ≡ answer_line (record { tables = t; shut = shut }) l }
 {
     match l {
         Line::Ask(q) => {

@@ -1,7 +1,7 @@
 // The values of a line, one space apart, each stored under its name.
 ghost use Rattle.std.specs.Prelude.{◌+◌, ◌*◌, ◌≤◌, ◌<◌, ◌≡◌, true, eqb, length, get_or};
 ghost use Rattle.script.specs.Text.{bytes, same};
-ghost use Rattle.script.specs.Names.{placeCount};
+ghost use Rattle.script.specs.Names.{place_count};
 ghost use Rattle.script.specs.Private.Slices.{before};
 ghost use Rattle.script.specs.Private.Rows.{blank, IsFound, fills, IsRow};
 
@@ -169,7 +169,7 @@ fn code_at(s: &[u8], from: usize, i: u32) -> Found
 
 // Whether `j` is the last place with a name.
 fn is_last(at: &[u8; limits::PLACES], j: usize) -> bool
-    requires { j + 1 < placeCount }
+    requires { j + 1 < place_count }
     ensures { result ≡ fills at.now (j + 1) }
 {
     (at[j] % limits::PLACE_COUNT != limits::NO_NAME)

@@ -2,10 +2,10 @@
 // whole lines only, and the host gives what was not used again, in front of the next piece. No line is kept here: one that
 // has passed 255 bytes without byte 10 is answered 17 at once, and passed over to its end.
 ghost use Rattle.std.specs.Prelude.{◌≤◌, ◌<◌, ◌≡◌, length};
-ghost use Rattle.script.specs.Report.{lineRoom, lastLine};
+ghost use Rattle.script.specs.Report.{line_room, last_line};
 ghost use Rattle.script.specs.Private.Slices.{before};
 ghost use Rattle.script.specs.Private.LineBatch.{Lent};
-ghost use Rattle.script.specs.Run.{atNames, atLines, unbegun, is_over, Finished};
+ghost use Rattle.script.specs.Run.{at_names, at_lines, unbegun, is_over, Finished};
 ghost use Rattle.script.specs.Private.Steps.{Spoken, Named, Stepped};
 
 use crate::{batch, header, limits, line, print, reply, text};
@@ -50,7 +50,7 @@ pub struct Ran {
 
 // Answers one line of values.
 fn answer_values(mut r: Runner, s: &[u8], out: &mut [u8]) -> Said
-    requires { (lineRoom ≤ length out.old) × (r.done < lastLine) × (before 10 s.now ≡ s.now) }
+    requires { (line_room ≤ length out.old) × (r.done < last_line) × (before 10 s.now ≡ s.now) }
     ensures { Spoken r s.now out.old out.new result }
 {
     let at = r.at;
@@ -69,7 +69,7 @@ fn answer_values(mut r: Runner, s: &[u8], out: &mut [u8]) -> Said
 
 // Reads the names line.
 fn take_names(mut r: Runner, s: &[u8], out: &mut [u8]) -> Said
-    requires { lineRoom ≤ length out.old }
+    requires { line_room ≤ length out.old }
     ensures { Named r s.now out.old out.new result }
 {
     let order = header::header(s);
@@ -135,7 +135,7 @@ fn idle(runner: Runner) -> Ran
 
 // The names line, once it is there: with its byte 10, or past 255 bytes, or at the end of the input.
 fn names_step(r: Runner, piece: &[u8], end: bool, out: &mut [u8]) -> Ran
-    requires { r.phase ≡ atNames }
+    requires { r.phase ≡ at_names }
     ensures { Stepped r piece.now end out.old out.new result }
 {
     if out.len() < limits::LINE_ROOM {
@@ -165,7 +165,7 @@ fn names_step(r: Runner, piece: &[u8], end: bool, out: &mut [u8]) -> Ran
 
 // One line of values, likewise; or the rest of a line that has been answered.
 fn values_step(mut r: Runner, piece: &[u8], end: bool, out: &mut [u8]) -> Ran
-    requires { r.phase ≡ atLines }
+    requires { r.phase ≡ at_lines }
     ensures { Stepped r piece.now end out.old out.new result }
 {
     if limits::LAST_LINE <= r.done {
@@ -233,7 +233,7 @@ fn one(
     answers: &mut [u8],
     roles: &mut [u8],
 ) -> Ran
-    requires { (atNames ≤ r.phase) × Lent rows.old marks.old answers.old roles.old }
+    requires { (at_names ≤ r.phase) × Lent rows.old marks.old answers.old roles.old }
     ensures { Stepped r piece.now end out.old out.new result }
 {
     if r.phase == AT_NAMES {
@@ -268,7 +268,7 @@ fn one(
 
 // A piece, the heading being written.
 fn work(r: Runner, piece: &[u8], end: bool, out: &mut [u8]) -> Ran
-    requires { atNames ≤ r.phase }
+    requires { at_names ≤ r.phase }
     ensures { Finished r piece.now end out.old out.new result }
 {
     let mut rows = [0u32; limits::BATCH_NUMBERS];

@@ -1,9 +1,9 @@
 // Bytes: where a delimiter stands, and what a value, a name and a word are.
 ghost use Rattle.std.specs.Prelude.{◌+◌, ◌<◌, ◌≤◌, ◌≡◌, length, get_or, take, drop};
-ghost use Rattle.script.specs.Names.{allNames, column};
+ghost use Rattle.script.specs.Names.{all_names, column};
 ghost use Rattle.script.specs.Line.{value_of, words};
 ghost use Rattle.script.specs.Private.Slices.{before, leading};
-ghost use Rattle.script.specs.Private.ShortTexts.{textKey, fourFrom, fourEnd, fiveEnd, word_of, Begins};
+ghost use Rattle.script.specs.Private.ShortTexts.{text_key, four_from, four_end, five_end, word_of, Begins};
 
 use crate::line::Value;
 use crate::{digit, limits};
@@ -87,7 +87,7 @@ pub fn value(s: &[u8]) -> Value
 
 // A text of at most seven bytes as one number, 1 and behind it the bytes; 0 for a longer text.
 fn key(s: &[u8]) -> u64
-    ensures { result ≡ textKey s.now }
+    ensures { result ≡ text_key s.now }
 {
     if 7 < s.len() {
         return 0;
@@ -103,7 +103,7 @@ fn key(s: &[u8]) -> u64
 
 // Which of the names it is.
 pub fn name_at(s: &[u8]) -> u8
-    ensures { result ≡ column s.now allNames }
+    ensures { result ≡ column s.now all_names }
 {
     let k = key(s);
     match k {
@@ -128,7 +128,7 @@ pub fn name_at(s: &[u8]) -> u8
 // Which of the words has the key: `user`, or one more than the request's number. The words have four to six bytes. A match
 // over all of them would be called by the reader of a row; one for each length is short enough to stand in it.
 fn word_of_four(k: u64) -> u32
-    requires { k < fourEnd }
+    requires { k < four_end }
     ensures { result ≡ word_of k }
 {
     match k {
@@ -143,7 +143,7 @@ fn word_of_four(k: u64) -> u32
 }
 
 fn word_of_five(k: u64) -> u32
-    requires { (fourEnd ≤ k) × (k < fiveEnd) }
+    requires { (four_end ≤ k) × (k < five_end) }
     ensures { result ≡ word_of k }
 {
     match k {
@@ -158,7 +158,7 @@ fn word_of_five(k: u64) -> u32
 }
 
 fn word_of_six(k: u64) -> u32
-    requires { fiveEnd ≤ k }
+    requires { five_end ≤ k }
     ensures { result ≡ word_of k }
 {
     match k {
@@ -199,7 +199,7 @@ pub fn byte(s: &[u8], at: usize) -> u64
 // The key of four bytes.
 fn key4(s: &[u8], from: usize) -> u64
     requires { from + 3 < length s.now }
-    ensures { (result ≡ textKey (take 4 (drop from s.now))) × (fourFrom ≤ result) × (result < fourEnd) }
+    ensures { (result ≡ text_key (take 4 (drop from s.now))) × (four_from ≤ result) × (result < four_end) }
 {
     let a = byte(s, from);
     let b = byte(s, from + 1);

@@ -5,9 +5,9 @@ use mathlib.Core.Path.{◌≡◌, refl}
 use mathlib.Core.List.{List, [], ◌∷◌, ◌++◌, map}
 use lib.ListN.{replicate}
 use Rattle.guard.specs.Label.{label}
-use Rattle.guard.specs.Tables.{edition1, noUser}
+use Rattle.guard.specs.Tables.{edition1, no_user}
 use Rattle.guard.specs.Fresh.{fresh}
-use Rattle.guard.specs.Step.{answers, rolesTold}
+use Rattle.guard.specs.Step.{answers, roles_told}
 use Rattle.guard.specs.Kind.{login, take, openr, openw, create, delete, rename}
 use Rattle.guard.specs.Methods.{request}
 use Rattle.guard.specs.declared.User.{User}
@@ -16,11 +16,11 @@ use Rattle.guard.specs.declared.Told.TheVariants.{By, None}
 use Rattle.guard.proofs.Compute.{computing}
 
 -- user 0 has ceiling 3, clearance 3/255; user 1 ceiling 1, clearance 1/0; the rest 0.
-unfoldable pub morningUsers : List User
-morningUsers =
+unfoldable pub morning_users : List User
+morning_users =
     record { ceiling = 3; clearance = label 3 255 }
     ∷ record { ceiling = 1; clearance = label 1 0 }
-    ∷ replicate 14 noUser
+    ∷ replicate 14 no_user
 
 -- one row: a request, and the answer that the paper gives it
 pub record Row : Type 0 where
@@ -51,11 +51,11 @@ morning =
     ∷ row delete 12 0 0 49 0 0 0 0  -- K14 delete by 12 of 49: 0.
     ∷ []
 
-pub morning-answers : answers (fresh morningUsers edition1) (map (λ (r : Row). r.request) morning) ≡ map (λ (r : Row). r.expected) morning
-unfolding computing morningUsers morning
-morning-answers = refl
+pub morning_answers : answers (fresh morning_users edition1) (map (λ (r : Row). r.request) morning) ≡ map (λ (r : Row). r.expected) morning
+unfolding computing morning_users morning
+morning_answers = refl
 
 -- Of these K6 alone is an openw or openr that is done: it tells the keeper of level 3.
-pub morning-roles : rolesTold (fresh morningUsers edition1) (map (λ (r : Row). r.request) morning) ≡ replicate 5 None ++ (By 12 ∷ replicate 8 None)
-unfolding computing morningUsers morning
-morning-roles = refl
+pub morning_roles : roles_told (fresh morning_users edition1) (map (λ (r : Row). r.request) morning) ≡ replicate 5 None ++ (By 12 ∷ replicate 8 None)
+unfolding computing morning_users morning
+morning_roles = refl

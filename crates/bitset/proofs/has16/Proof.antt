@@ -2,13 +2,13 @@
 use borrow.Author.Rules.{rules}
 use native.Mathlib.Omega.{arith}
 use mathlib.Core.Path.{sym}
-use Rattle.bitset.specs.Sets.Laws.{has-past}
+use Rattle.bitset.specs.Sets.Laws.{has_past}
 use Rattle.bitset.proofs.Words.{has_code}
 use Rattle.bitset.proofs.has16.Statement.{statement}
 use Rattle.bitset.proofs.has16.Tie as tie
 
 returns : tie.Need-returns
-returns c = sym (has-past 16 _ _ (omega arith) (omega arith))
+returns c = sym (has_past 16 _ _ (omega arith) (omega arith))
 
 cast-result : tie.Need-overflow-cast-result
 cast-result c = search rules

@@ -2,13 +2,13 @@
 use borrow.Author.Rules.{rules}
 use native.Mathlib.Omega.{arith}
 use mathlib.Core.Path.{sym}
-use Rattle.bitset.specs.Sets.Laws.{has-past}
+use Rattle.bitset.specs.Sets.Laws.{has_past}
 use Rattle.bitset.proofs.Words.{has_code}
 use Rattle.bitset.proofs.has64.Statement.{statement}
 use Rattle.bitset.proofs.has64.Tie as tie
 
 returns : tie.Need-returns
-returns c = sym (has-past 64 _ _ (omega arith) (omega arith))
+returns c = sym (has_past 64 _ _ (omega arith) (omega arith))
 
 shr-result : tie.Need-overflow-shr-result
 shr-result c = search rules

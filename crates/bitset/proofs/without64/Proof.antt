@@ -2,18 +2,18 @@
 use borrow.Author.Rules.{rules}
 use native.Mathlib.Omega.{arith}
 use mathlib.Core.Path.{sym}
-use Rattle.bitset.proofs.Words.{without-code, without-past}
+use Rattle.bitset.proofs.Words.{without_code, without_past}
 use Rattle.bitset.proofs.without64.Statement.{statement}
 use Rattle.bitset.proofs.without64.Tie as tie
 
 returns : tie.Need-returns
-returns c = sym (without-past 64 _ _ (omega arith) (omega arith))
+returns c = sym (without_past 64 _ _ (omega arith) (omega arith))
 
 shl-result : tie.Need-overflow-shl-result
 shl-result c = search rules
 
 returns-2 : tie.Need-returns-2
-returns-2 c = without-code 64 _ _ (omega arith) (omega arith)
+returns-2 c = without_code 64 _ _ (omega arith) (omega arith)
 
 pub without64-spec : {M : Type 1} → statement M
 without64-spec = tie.close (tie.spec returns shl-result returns-2)

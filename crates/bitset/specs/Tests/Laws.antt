@@ -1,13 +1,13 @@
 -- Laws of the tests.
 --     decide, clash, is_false, both                             a test is true or false, never both; two tests that imply each other are one
---     not-of-true, not_of_false, of-not-true, of-not-false      a negated test
---     Each, every-i, every-e, every-at                          a list of tests, by index, and against the list of the facts
---     implies-i, implies-e                                      one test implies another
+--     not_of_true, not_of_false, of_not_true, of_not_false      a negated test
+--     Each, every_i, every_e, every_at                          a list of tests, by index, and against the list of the facts
+--     implies_i, implies_e                                      one test implies another
 --     or_l, or_r, or-true, or-false                             one test or another
---     either_l, either_r, either-e, either-none, either-no-l, either-no-r
+--     either_l, either_r, either_e, either_none, either_no_l, either_no_r
 --     none_below                                                no number is below 0
---     all_none, all_more, all-i, all-e, all-cong                a test met below n
---     some-none, some_more, some-i, some-e, some-no-i, some-no-e, some-cong
+--     all_none, all_more, all_i, all_e, all_cong                a test met below n
+--     some_none, some_more, some_i, some_e, some_no_i, some_no_e, some_cong
 -- Assumes nothing.
 use Rattle.std.specs.Prelude.{ℕ, zero, suc, ◌+◌, ◌<◌, Bool, true, false, not, ◌&&◌, ◌||◌, List, [], ◌∷◌, ◌⊎◌, ◌≡◌, refl, get_or}
 use Rattle.std.proofs.Common.{true≢false, inl, inr, ⊎_elim, sym, ◌∙◌, add-one, arith}
@@ -30,19 +30,19 @@ pub both : (a b : Bool) → (a ≡ true → b ≡ true) → (b ≡ true → a �
 both true b f g = sym (f refl)
 both false b f g = sym (is_false b (λ h. clash false (g h) refl))
 
-pub not-of-true : (a : Bool) → a ≡ true → not a ≡ false
-not-of-true a h = rw h
+pub not_of_true : (a : Bool) → a ≡ true → not a ≡ false
+not_of_true a h = rw h
 
 pub not_of_false : (a : Bool) → a ≡ false → not a ≡ true
 not_of_false a h = rw h
 
-pub of-not-true : (a : Bool) → not a ≡ true → a ≡ false
-of-not-true true h = sym h
-of-not-true false h = refl
+pub of_not_true : (a : Bool) → not a ≡ true → a ≡ false
+of_not_true true h = sym h
+of_not_true false h = refl
 
-pub of-not-false : (a : Bool) → not a ≡ false → a ≡ true
-of-not-false true h = refl
-of-not-false false h = sym h
+pub of_not_false : (a : Bool) → not a ≡ false → a ≡ true
+of_not_false true h = refl
+of_not_false false h = sym h
 
 -- ---- every
 
@@ -51,35 +51,35 @@ abbrev pub Each : List Bool → Type 0
 Each [] = Unit {0}
 Each (b ∷ bs) = (b ≡ true) × Each bs
 
-pub every-i : (l : List Bool) → Each l → every l ≡ true
+pub every_i : (l : List Bool) → Each l → every l ≡ true
 unfolding every
-every-i [] f = refl
-every-i (b ∷ bs) f = (and-eq-true_iff b (every bs)).1 (f.0, every-i bs f.1)
+every_i [] f = refl
+every_i (b ∷ bs) f = (and-eq-true_iff b (every bs)).1 (f.0, every_i bs f.1)
 
-pub every-e : (l : List Bool) → every l ≡ true → Each l
+pub every_e : (l : List Bool) → every l ≡ true → Each l
 unfolding every
-every-e [] h = tt
-every-e (b ∷ bs) h = let (p, q) = (and-eq-true_iff b (every bs)).0 h in (p, every-e bs q)
+every_e [] h = tt
+every_e (b ∷ bs) h = let (p, q) = (and-eq-true_iff b (every bs)).0 h in (p, every_e bs q)
 
 each_at : (l : List Bool) → Each l → (i : ℕ) → get_or l i true ≡ true
 each_at [] f i = refl
 each_at (b ∷ bs) f zero = f.0
 each_at (b ∷ bs) f (suc i) = each_at bs f.1 i
 
-pub every-at : (l : List Bool) → every l ≡ true → (i : ℕ) → get_or l i true ≡ true
-every-at l h = each_at l (every-e l h)
+pub every_at : (l : List Bool) → every l ≡ true → (i : ℕ) → get_or l i true ≡ true
+every_at l h = each_at l (every_e l h)
 
 -- ---- implies and either
 
-pub implies-i : (a b : Bool) → (a ≡ true → b ≡ true) → implies a b ≡ true
+pub implies_i : (a b : Bool) → (a ≡ true → b ≡ true) → implies a b ≡ true
 unfolding implies
-implies-i true b f = f refl
-implies-i false b f = refl
+implies_i true b f = f refl
+implies_i false b f = refl
 
-pub implies-e : (a b : Bool) → implies a b ≡ true → a ≡ true → b ≡ true
+pub implies_e : (a b : Bool) → implies a b ≡ true → a ≡ true → b ≡ true
 unfolding implies
-implies-e true b h k = h
-implies-e false b h k = absurd (clash false k refl)
+implies_e true b h k = h
+implies_e false b h k = absurd (clash false k refl)
 
 pub or_l : (a b : Bool) → a ≡ true → (a || b) ≡ true
 or_l a b h = rw h
@@ -95,9 +95,9 @@ pub or-false : (a : Bool) → (a || false) ≡ a
 or-false true = refl
 or-false false = refl
 
-pub or-e : (a b : Bool) → (a || b) ≡ true → (a ≡ true) ⊎ (b ≡ true)
-or-e true b h = inl refl
-or-e false b h = inr h
+pub or_e : (a b : Bool) → (a || b) ≡ true → (a ≡ true) ⊎ (b ≡ true)
+or_e true b h = inl refl
+or_e false b h = inr h
 
 pub either_l : (a b : Bool) → a ≡ true → either a b ≡ true
 unfolding either
@@ -107,19 +107,19 @@ pub either_r : (a b : Bool) → b ≡ true → either a b ≡ true
 unfolding either
 either_r = or_r
 
-pub either-e : (a b : Bool) → either a b ≡ true → (a ≡ true) ⊎ (b ≡ true)
+pub either_e : (a b : Bool) → either a b ≡ true → (a ≡ true) ⊎ (b ≡ true)
 unfolding either
-either-e = or-e
+either_e = or_e
 
-pub either-none : (a b : Bool) → a ≡ false → b ≡ false → either a b ≡ false
+pub either_none : (a b : Bool) → a ≡ false → b ≡ false → either a b ≡ false
 unfolding either
-either-none a b h k = rw h k
+either_none a b h k = rw h k
 
-pub either-no-l : (a b : Bool) → either a b ≡ false → a ≡ false
-either-no-l a b h = is_false a (λ k. clash (either a b) (either_l a b k) h)
+pub either_no_l : (a b : Bool) → either a b ≡ false → a ≡ false
+either_no_l a b h = is_false a (λ k. clash (either a b) (either_l a b k) h)
 
-pub either-no-r : (a b : Bool) → either a b ≡ false → b ≡ false
-either-no-r a b h = is_false b (λ k. clash (either a b) (either_r a b k) h)
+pub either_no_r : (a b : Bool) → either a b ≡ false → b ≡ false
+either_no_r a b h = is_false b (λ k. clash (either a b) (either_r a b k) h)
 
 -- ---- all and some
 
@@ -142,47 +142,47 @@ pub all_more : (n : ℕ) (p : ℕ → Bool) → all (n + 1) p ≡ (all n p && p 
 unfolding all
 all_more n p = rw add-one
 
-pub all-i : (n : ℕ) (p : ℕ → Bool) → ((k : ℕ) → k < n → p k ≡ true) → all n p ≡ true
+pub all_i : (n : ℕ) (p : ℕ → Bool) → ((k : ℕ) → k < n → p k ≡ true) → all n p ≡ true
 unfolding all
-all-i zero p f = refl
-all-i (suc n) p f = (and-eq-true_iff (all n p) (p n)).1 (all-i n p (λ k l. f k (omega arith)), f n (omega arith))
+all_i zero p f = refl
+all_i (suc n) p f = (and-eq-true_iff (all n p) (p n)).1 (all_i n p (λ k l. f k (omega arith)), f n (omega arith))
 
-pub all-e : (n : ℕ) (p : ℕ → Bool) → all n p ≡ true → (k : ℕ) → k < n → p k ≡ true
+pub all_e : (n : ℕ) (p : ℕ → Bool) → all n p ≡ true → (k : ℕ) → k < n → p k ≡ true
 unfolding all
-all-e zero p h k l = absurd (none_below k l)
-all-e (suc n) p h k l = let (u, v) = (and-eq-true_iff (all n p) (p n)).0 h in ⊎_elim (all-e n p u k) (λ e. rw e v) (below n k l)
+all_e zero p h k l = absurd (none_below k l)
+all_e (suc n) p h k l = let (u, v) = (and-eq-true_iff (all n p) (p n)).0 h in ⊎_elim (all_e n p u k) (λ e. rw e v) (below n k l)
 
-pub all-cong : (n : ℕ) (p q : ℕ → Bool) → ((k : ℕ) → k < n → p k ≡ q k) → all n p ≡ all n q
-all-cong n p q f =
-    both (all n p) (all n q) (λ h. all-i n q (λ k l. sym (f k l) ∙ all-e n p h k l))
-    (λ h. all-i n p (λ k l. f k l ∙ all-e n q h k l))
+pub all_cong : (n : ℕ) (p q : ℕ → Bool) → ((k : ℕ) → k < n → p k ≡ q k) → all n p ≡ all n q
+all_cong n p q f =
+    both (all n p) (all n q) (λ h. all_i n q (λ k l. sym (f k l) ∙ all_e n p h k l))
+    (λ h. all_i n p (λ k l. f k l ∙ all_e n q h k l))
 
-pub some-none : (p : ℕ → Bool) → some 0 p ≡ false
+pub some_none : (p : ℕ → Bool) → some 0 p ≡ false
 unfolding some
-some-none p = refl
+some_none p = refl
 
 pub some_more : (n : ℕ) (p : ℕ → Bool) → some (n + 1) p ≡ (some n p || p n)
 unfolding some
 some_more n p = rw add-one
 
-pub some-i : (n : ℕ) (p : ℕ → Bool) (k : ℕ) → k < n → p k ≡ true → some n p ≡ true
+pub some_i : (n : ℕ) (p : ℕ → Bool) (k : ℕ) → k < n → p k ≡ true → some n p ≡ true
 unfolding some
-some-i zero p k l h = absurd (none_below k l)
-some-i (suc n) p k l h = ⊎_elim (λ m. rw (some-i n p k m h)) (λ e. or_r (some n p) (p n) (rw e at h)) (below n k l)
+some_i zero p k l h = absurd (none_below k l)
+some_i (suc n) p k l h = ⊎_elim (λ m. rw (some_i n p k m h)) (λ e. or_r (some n p) (p n) (rw e at h)) (below n k l)
 
-pub some-e : (n : ℕ) (p : ℕ → Bool) → some n p ≡ true → (k : ℕ) × (k < n) × (p k ≡ true)
+pub some_e : (n : ℕ) (p : ℕ → Bool) → some n p ≡ true → (k : ℕ) × (k < n) × (p k ≡ true)
 unfolding some
-some-e zero p h = absurd (clash false h refl)
-some-e (suc n) p h =
-    ⊎_elim (λ m. let (k, l, e) = some-e n p m in (k, omega arith, e)) (λ e. (n, omega arith, e)) (or-e (some n p) (p n) h)
+some_e zero p h = absurd (clash false h refl)
+some_e (suc n) p h =
+    ⊎_elim (λ m. let (k, l, e) = some_e n p m in (k, omega arith, e)) (λ e. (n, omega arith, e)) (or_e (some n p) (p n) h)
 
-pub some-no-i : (n : ℕ) (p : ℕ → Bool) → ((k : ℕ) → k < n → p k ≡ false) → some n p ≡ false
-some-no-i n p f = is_false (some n p) (λ h. let (k, l, e) = some-e n p h in clash (p k) e (f k l))
+pub some_no_i : (n : ℕ) (p : ℕ → Bool) → ((k : ℕ) → k < n → p k ≡ false) → some n p ≡ false
+some_no_i n p f = is_false (some n p) (λ h. let (k, l, e) = some_e n p h in clash (p k) e (f k l))
 
-pub some-no-e : (n : ℕ) (p : ℕ → Bool) → some n p ≡ false → (k : ℕ) → k < n → p k ≡ false
-some-no-e n p h k l = is_false (p k) (λ e. clash (some n p) (some-i n p k l e) h)
+pub some_no_e : (n : ℕ) (p : ℕ → Bool) → some n p ≡ false → (k : ℕ) → k < n → p k ≡ false
+some_no_e n p h k l = is_false (p k) (λ e. clash (some n p) (some_i n p k l e) h)
 
-pub some-cong : (n : ℕ) (p q : ℕ → Bool) → ((k : ℕ) → k < n → p k ≡ q k) → some n p ≡ some n q
-some-cong n p q f =
-    both (some n p) (some n q) (λ h. let (k, l, e) = some-e n p h in some-i n q k l (sym (f k l) ∙ e))
-    (λ h. let (k, l, e) = some-e n q h in some-i n p k l (f k l ∙ e))
+pub some_cong : (n : ℕ) (p q : ℕ → Bool) → ((k : ℕ) → k < n → p k ≡ q k) → some n p ≡ some n q
+some_cong n p q f =
+    both (some n p) (some n q) (λ h. let (k, l, e) = some_e n p h in some_i n q k l (sym (f k l) ∙ e))
+    (λ h. let (k, l, e) = some_e n q h in some_i n p k l (f k l ∙ e))

@@ -1,10 +1,10 @@
 -- What is below a role: the walk of specs/Below, which stops after sixteen ties, is the paper's "to any depth".
---     Below, below-trans              below, with no bound on the number of ties; what is below what is below
---     below-iff                       the walk is that
+--     Below, below_trans              below, with no bound on the number of ties; what is below what is below
+--     below_iff                       the walk is that
 --     below_more                      with no tie less
---     Meets, meets-iff                a role that meets a test itself, or by one below it
---     meets-more, meets-same          .. with no tie less and no test less; by the same ties and tests
---     meets-alone                     .. where it has no juniors
+--     Meets, meets_iff                a role that meets a test itself, or by one below it
+--     meets_more, meets_same          .. with no tie less and no test less; by the same ties and tests
+--     meets_alone                     .. where it has no juniors
 -- Assumes nothing.
 use Prim.Native.Nat.{ℕ, zero, suc, ◌+◌, ◌-◌, ◌≤◌, ◌<◌}
 use mathlib.Core.Path.{◌≡◌, refl, sym, ◌∙◌}
@@ -14,8 +14,8 @@ use native.Mathlib.Decide.{dec_le}
 use native.Mathlib.Omega.{arith}
 use lib.Dec.{leb}
 use borrow.Author.Tests.{leb-true, leb-false, le-leb, lt-leb}
-use Rattle.bitset.specs.Tests.Laws.{both, either_l, either_r, either-e, every-i, every-at, some-i, some-e}
-use Rattle.guard.specs.Below.{belowWithin, below, orBelow}
+use Rattle.bitset.specs.Tests.Laws.{both, either_l, either_r, either_e, every_i, every_at, some_i, some_e}
+use Rattle.guard.specs.Below.{below_within, below, or_below}
 use Rattle.guard.proofs.Laws.Pigeons.{Meet, pigeons}
 
 -- b is a junior of a, or below one of its juniors; no role in between is past the tables'
@@ -33,15 +33,15 @@ cut : (ℕ → ℕ) → ℕ → ℕ → ℕ → ℕ
 cut f i j k = cond (leb k i) (f k) (f (k + (j - i)))
 
 module _ (junior : ℕ → ℕ → Bool) where
-  pub below-trans : {a b c : ℕ} → b < 16 → Below junior a b → Below junior b c → Below junior a c
-  below-trans l (direct h) g = through _ l h g
-  below-trans l (through m k h f) g = through m k h (below-trans l f g)
+  pub below_trans : {a b c : ℕ} → b < 16 → Below junior a b → Below junior b c → Below junior a c
+  below_trans l (direct h) g = through _ l h g
+  below_trans l (through m k h f) g = through m k h (below_trans l f g)
 
-  within-e : (n a b : ℕ) → belowWithin junior n a b ≡ true → Below junior a b
-  unfolding belowWithin
-  within-e zero a b h = absurd (true≢false (sym h))
-  within-e (suc n) a b h =
-      ⊎_elim direct (λ s. let (m, l, k) = some-e 16 _ s in through m l (every-at _ k 0) (within-e n m b (every-at _ k 1))) (either-e _ _ h)
+  within_e : (n a b : ℕ) → below_within junior n a b ≡ true → Below junior a b
+  unfolding below_within
+  within_e zero a b h = absurd (true≢false (sym h))
+  within_e (suc n) a b h =
+      ⊎_elim direct (λ s. let (m, l, k) = some_e 16 _ s in through m l (every_at _ k 0) (within_e n m b (every_at _ k 1))) (either_e _ _ h)
 
   -- ---- a chain of ties, by its places: the first is a, the last is b, and each is a junior of the one before
   record Chain (n a b : ℕ) : Type 0 where
@@ -51,33 +51,33 @@ module _ (junior : ℕ → ℕ → Bool) where
     small : (i : ℕ) → i < n → at i < 16
     tied : (i : ℕ) → i < n → junior (at i) (at (suc i)) ≡ true
 
-  chain-of : {a b : ℕ} → a < 16 → Below junior a b → (n : ℕ) × Chain (suc n) a b
+  chain_of : {a b : ℕ} → a < 16 → Below junior a b → (n : ℕ) × Chain (suc n) a b
   unfolding push
-  chain-of {a} {b} l (direct h) = (0, record { at = push a (λ i. b); first = refl; last = refl; small = one-small; tied = one-tied })
+  chain_of {a} {b} l (direct h) = (0, record { at = push a (λ i. b); first = refl; last = refl; small = one_small; tied = one_tied })
     where
-      one-small : (i : ℕ) → i < 1 → push a (λ i. b) i < 16
-      one-small zero k = l
-      one-small (suc i) k = absurd (past i k)
+      one_small : (i : ℕ) → i < 1 → push a (λ i. b) i < 16
+      one_small zero k = l
+      one_small (suc i) k = absurd (past i k)
         where
           past : (i : ℕ) → suc i < 1 → ⊥
           past i k = omega arith
 
-      one-tied : (i : ℕ) → i < 1 → junior (push a (λ i. b) i) b ≡ true
-      one-tied zero k = h
-      one-tied (suc i) k = absurd (past i k)
+      one_tied : (i : ℕ) → i < 1 → junior (push a (λ i. b) i) b ≡ true
+      one_tied zero k = h
+      one_tied (suc i) k = absurd (past i k)
         where
           past : (i : ℕ) → suc i < 1 → ⊥
           past i k = omega arith
-  chain-of {a} {b} l (through m s h f) =
-      let (n, c) = chain-of s f in (suc n, record { at = push a c.at; first = refl; last = c.last; small = more-small n c; tied = more-tied n c })
+  chain_of {a} {b} l (through m s h f) =
+      let (n, c) = chain_of s f in (suc n, record { at = push a c.at; first = refl; last = c.last; small = more_small n c; tied = more_tied n c })
     where
-      more-small : (n : ℕ) (c : Chain (suc n) m b) (i : ℕ) → i < suc (suc n) → push a c.at i < 16
-      more-small n c zero k = l
-      more-small n c (suc i) k = c.small i (omega arith)
+      more_small : (n : ℕ) (c : Chain (suc n) m b) (i : ℕ) → i < suc (suc n) → push a c.at i < 16
+      more_small n c zero k = l
+      more_small n c (suc i) k = c.small i (omega arith)
 
-      more-tied : (n : ℕ) (c : Chain (suc n) m b) (i : ℕ) → i < suc (suc n) → junior (push a c.at i) (c.at i) ≡ true
-      more-tied n c zero k = rw c.first h
-      more-tied n c (suc i) k = c.tied i (omega arith)
+      more_tied : (n : ℕ) (c : Chain (suc n) m b) (i : ℕ) → i < suc (suc n) → junior (push a c.at i) (c.at i) ≡ true
+      more_tied n c zero k = rw c.first h
+      more_tied n c (suc i) k = c.tied i (omega arith)
 
   -- of a chain that comes to one place twice, what lies between is left out
   shorter : (n a b : ℕ) (c : Chain n a b) (i j : ℕ) → i < j → j < n → c.at i ≡ c.at j → Chain (n - (j - i)) a b
@@ -130,30 +130,30 @@ module _ (junior : ℕ → ℕ → Bool) where
               let left : suc n - (j - i) ≡ suc (n - (j - i)) = omega arith in
               less (n - (j - i)) a b (omega arith) (rw left at (shorter (suc n) a b c i j x (omega arith) same))
 
-  chain-within : (n k a b : ℕ) → n ≤ k → Chain (suc n) a b → belowWithin junior (suc k) a b ≡ true
-  unfolding belowWithin
-  chain-within zero k a b l c = either_l _ _ (rw (c.first, c.last) at (c.tied 0 (omega arith)))
-  chain-within (suc n) zero a b l c = absurd (none n l)
+  chain_within : (n k a b : ℕ) → n ≤ k → Chain (suc n) a b → below_within junior (suc k) a b ≡ true
+  unfolding below_within
+  chain_within zero k a b l c = either_l _ _ (rw (c.first, c.last) at (c.tied 0 (omega arith)))
+  chain_within (suc n) zero a b l c = absurd (none n l)
     where
       none : (n : ℕ) → suc n ≤ 0 → ⊥
       none n l = omega arith
-  chain-within (suc n) (suc k) a b l c =
-      either_r _ _ (some-i 16 _ (c.at 1) (c.small 1 (omega arith)) (every-i _ (rw c.first at (c.tied 0 (omega arith)), (chain-within n k (c.at 1) b (omega arith) rest, tt))))
+  chain_within (suc n) (suc k) a b l c =
+      either_r _ _ (some_i 16 _ (c.at 1) (c.small 1 (omega arith)) (every_i _ (rw c.first at (c.tied 0 (omega arith)), (chain_within n k (c.at 1) b (omega arith) rest, tt))))
     where
       rest : Chain (suc n) (c.at 1) b
       rest = record { at = λ i. c.at (suc i); first = refl; last = c.last; small = λ i h. c.small (suc i) (omega arith); tied = λ i h. c.tied (suc i) (omega arith) }
 
   -- "to any depth"
-  pub below-e : (a b : ℕ) → below junior a b ≡ true → Below junior a b
+  pub below_e : (a b : ℕ) → below junior a b ≡ true → Below junior a b
   unfolding below
-  below-e a b h = within-e _ a b h
+  below_e a b h = within_e _ a b h
 
-  pub below-i : (a b : ℕ) → a < 16 → Below junior a b → below junior a b ≡ true
+  pub below_i : (a b : ℕ) → a < 16 → Below junior a b → below junior a b ≡ true
   unfolding below
-  below-i a b l h = let (n, c) = chain-of l h in let (m, k, d) = short n n a b (omega arith) c in chain-within m 15 a b k d
+  below_i a b l h = let (n, c) = chain_of l h in let (m, k, d) = short n n a b (omega arith) c in chain_within m 15 a b k d
 
-  pub below-iff : (a b : ℕ) → a < 16 → below junior a b ≡ true ↔ Below junior a b
-  below-iff a b l = (below-e a b, below-i a b l)
+  pub below_iff : (a b : ℕ) → a < 16 → below junior a b ≡ true ↔ Below junior a b
+  below_iff a b l = (below_e a b, below_i a b l)
 
 -- with no tie less, no less is below
 pub below_more : (old new : ℕ → ℕ → Bool) → ((a b : ℕ) → a < 16 → b < 16 → old a b ≡ true → new a b ≡ true)
@@ -167,12 +167,12 @@ pub data Meets (junior : ℕ → ℕ → Bool) (p : ℕ → Bool) : ℕ → Type
   by : {a : ℕ} (m : ℕ) → m < 16 → junior a m ≡ true → Meets junior p m → Meets junior p a
 
 module _ (junior : ℕ → ℕ → Bool) (p : ℕ → Bool) where
-  from-below : {a b : ℕ} → b < 16 → Below junior a b → p b ≡ true → Meets junior p a
-  from-below l (direct h) met = by _ l h (itself met)
-  from-below l (through m k h f) met = by m k h (from-below l f met)
+  from_below : {a b : ℕ} → b < 16 → Below junior a b → p b ≡ true → Meets junior p a
+  from_below l (direct h) met = by _ l h (itself met)
+  from_below l (through m k h f) met = by m k h (from_below l f met)
 
-  pub meets-e : (a : ℕ) → orBelow junior p a ≡ true → Meets junior p a
-  meets-e a h = ⊎_elim itself (λ s. let (b, l, k) = some-e 16 _ s in from-below l (below-e junior a b (every-at _ k 0)) (every-at _ k 1)) (either-e _ _ h)
+  pub meets_e : (a : ℕ) → or_below junior p a ≡ true → Meets junior p a
+  meets_e a h = ⊎_elim itself (λ s. let (b, l, k) = some_e 16 _ s in from_below l (below_e junior a b (every_at _ k 0)) (every_at _ k 1)) (either_e _ _ h)
 
   -- the one that meets it
   meeting : (a : ℕ) → Meets junior p a → (p a ≡ true) ⊎ ((b : ℕ) × (b < 16) × Below junior a b × (p b ≡ true))
@@ -180,32 +180,32 @@ module _ (junior : ℕ → ℕ → Bool) (p : ℕ → Bool) where
   meeting a (by m l h f) =
       ⊎_elim (λ met. inr (m, l, direct h, met)) (λ (b, k, g, met). inr (b, k, through m l h g, met)) (meeting m f)
 
-  pub meets-i : (a : ℕ) → a < 16 → Meets junior p a → orBelow junior p a ≡ true
-  meets-i a l f =
-      ⊎_elim (either_l _ _) (λ (b, k, g, met). either_r _ _ (some-i 16 _ b k (every-i _ (below-i junior a b l g, (met, tt))))) (meeting a f)
+  pub meets_i : (a : ℕ) → a < 16 → Meets junior p a → or_below junior p a ≡ true
+  meets_i a l f =
+      ⊎_elim (either_l _ _) (λ (b, k, g, met). either_r _ _ (some_i 16 _ b k (every_i _ (below_i junior a b l g, (met, tt))))) (meeting a f)
 
-  pub meets-iff : (a : ℕ) → a < 16 → orBelow junior p a ≡ true ↔ Meets junior p a
-  meets-iff a l = (meets-e a, meets-i a l)
+  pub meets_iff : (a : ℕ) → a < 16 → or_below junior p a ≡ true ↔ Meets junior p a
+  meets_iff a l = (meets_e a, meets_i a l)
 
 -- with no tie less, and what met the first test meets the second
-pub meets-more : (old new : ℕ → ℕ → Bool) (p q : ℕ → Bool) → ((a b : ℕ) → a < 16 → b < 16 → old a b ≡ true → new a b ≡ true)
-    → ((a : ℕ) → a < 16 → p a ≡ true → q a ≡ true) → (a : ℕ) → a < 16 → orBelow old p a ≡ true → orBelow new q a ≡ true
-meets-more old new p q ties tests a l h = meets-i _ _ a l (go a l (meets-e _ _ a h))
+pub meets_more : (old new : ℕ → ℕ → Bool) (p q : ℕ → Bool) → ((a b : ℕ) → a < 16 → b < 16 → old a b ≡ true → new a b ≡ true)
+    → ((a : ℕ) → a < 16 → p a ≡ true → q a ≡ true) → (a : ℕ) → a < 16 → or_below old p a ≡ true → or_below new q a ≡ true
+meets_more old new p q ties tests a l h = meets_i _ _ a l (go a l (meets_e _ _ a h))
   where
     go : (a : ℕ) → a < 16 → Meets old p a → Meets new q a
     go a l (itself h) = itself (tests a l h)
     go a l (by m k h f) = by m k (ties a m l k h) (go m k f)
 
 -- the same ties and the same tests
-pub meets-same : (old new : ℕ → ℕ → Bool) (p q : ℕ → Bool) → ((a b : ℕ) → a < 16 → b < 16 → old a b ≡ new a b) → ((a : ℕ) → a < 16 → p a ≡ q a)
-    → (a : ℕ) → a < 16 → orBelow old p a ≡ orBelow new q a
-meets-same old new p q ties tests a l =
-    both _ _ (meets-more old new p q (λ a b c d e. sym (ties a b c d) ∙ e) (λ a c e. sym (tests a c) ∙ e) a l)
-    (meets-more new old q p (λ a b c d e. ties a b c d ∙ e) (λ a c e. tests a c ∙ e) a l)
+pub meets_same : (old new : ℕ → ℕ → Bool) (p q : ℕ → Bool) → ((a b : ℕ) → a < 16 → b < 16 → old a b ≡ new a b) → ((a : ℕ) → a < 16 → p a ≡ q a)
+    → (a : ℕ) → a < 16 → or_below old p a ≡ or_below new q a
+meets_same old new p q ties tests a l =
+    both _ _ (meets_more old new p q (λ a b c d e. sym (ties a b c d) ∙ e) (λ a c e. sym (tests a c) ∙ e) a l)
+    (meets_more new old q p (λ a b c d e. ties a b c d ∙ e) (λ a c e. tests a c ∙ e) a l)
 
 -- without juniors it meets the test by itself
-pub meets-alone : (junior : ℕ → ℕ → Bool) (p : ℕ → Bool) (a : ℕ) → ((m : ℕ) → junior a m ≡ true → ⊥) → orBelow junior p a ≡ p a
-meets-alone junior p a none = both _ _ (λ h. go (meets-e _ _ a h)) (either_l _ _)
+pub meets_alone : (junior : ℕ → ℕ → Bool) (p : ℕ → Bool) (a : ℕ) → ((m : ℕ) → junior a m ≡ true → ⊥) → or_below junior p a ≡ p a
+meets_alone junior p a none = both _ _ (λ h. go (meets_e _ _ a h)) (either_l _ _)
   where
     go : Meets junior p a → p a ≡ true
     go (itself h) = h

@@ -1,6 +1,6 @@
 -- The firms of users and roles.
---     user-firm-small, role-firm-small     there are two firms
---     firm-of-user                         a role whose firm a user is of is of the user's firm
+--     user_firm_small, role_firm_small     there are two firms
+--     firm_of_user                         a role whose firm a user is of is of the user's firm
 -- Assumes nothing.
 use Prim.Native.Nat.{ℕ, ◌%◌, ◌≤◌}
 use mathlib.Core.Path.{◌≡◌, sym}
@@ -8,19 +8,19 @@ use mathlib.Core.Bool.{Bool, true, false, cond}
 use native.Mathlib.Omega.{arith}
 use lib.Dec.{leb, eqb}
 use borrow.Author.Tests.{eqb-true, eq-eqb}
-use Rattle.guard.specs.Private.Firm.{agents, userFirm, roleFirm}
+use Rattle.guard.specs.Private.Firm.{agents, user_firm, role_firm}
 
 small : (b : Bool) → cond b 1 0 ≤ agents
 small true = omega arith
 small false = omega arith
 
-pub user-firm-small : (u : ℕ) → userFirm u ≤ agents
-unfolding userFirm
-user-firm-small u = small (leb 8 u)
+pub user_firm_small : (u : ℕ) → user_firm u ≤ agents
+unfolding user_firm
+user_firm_small u = small (leb 8 u)
 
-pub role-firm-small : (r : ℕ) → roleFirm r ≤ agents
-unfolding roleFirm
-role-firm-small r = small (leb 2 (r % 4))
+pub role_firm_small : (r : ℕ) → role_firm r ≤ agents
+unfolding role_firm
+role_firm_small r = small (leb 2 (r % 4))
 
-pub firm-of-user : (u r : ℕ) → eqb (userFirm u) (roleFirm r) ≡ true → eqb (roleFirm r) (userFirm u) ≡ true
-firm-of-user u r h = eq-eqb (roleFirm r) (userFirm u) (sym (eqb-true (userFirm u) (roleFirm r) h))
+pub firm_of_user : (u r : ℕ) → eqb (user_firm u) (role_firm r) ≡ true → eqb (role_firm r) (user_firm u) ≡ true
+firm_of_user u r h = eq-eqb (role_firm r) (user_firm u) (sym (eqb-true (user_firm u) (role_firm r) h))

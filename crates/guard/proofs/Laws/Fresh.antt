@@ -7,13 +7,13 @@ use mathlib.Core.List.{List, [], ◌∷◌}
 use lib.Dec.{eqb}
 use lib.ListN.{length, replicate}
 use Rattle.bitset.specs.Tests.{every, all}
-use Rattle.bitset.specs.Tests.Laws.{Each, every-i, every-at}
+use Rattle.bitset.specs.Tests.Laws.{Each, every_i, every_at}
 use Rattle.guard.proofs.Compute.{computing}
-use Rattle.guard.specs.Level.{userCount, sessionCount, roleCount, entityCount}
-use Rattle.guard.specs.Tables.{edition1, noUser, sessionAt, role_at, entityAt}
-use Rattle.guard.specs.Sound.{roleInRange, usersInRange, editionInRange, fieldsInRangeIn, rootsAsSaid, keepersAsSaid, entitiesPlaced, objectsUnshared, deadAreEmpty, deadAreUnused, rightsWithin, readingWithin, writingWithin, opensBacked, tiesJoin, noneBelowItself, sound, soundIn}
+use Rattle.guard.specs.Level.{user_count, session_count, role_count, entity_count}
+use Rattle.guard.specs.Tables.{edition1, no_user, session_at, role_at, entity_at}
+use Rattle.guard.specs.Sound.{role_in_range, users_in_range, edition_in_range, fields_in_range_in, roots_as_said, keepers_as_said, entities_placed, objects_unshared, dead_are_empty, dead_are_unused, rights_within, reading_within, writing_within, opens_backed, ties_join, none_below_itself, sound, sound_in}
 use Rattle.guard.specs.Fresh.{fresh, build}
-use Rattle.guard.specs.Private.InForce.{sessionInRange, entityInRange, fieldsInRange}
+use Rattle.guard.specs.Private.InForce.{session_in_range, entity_in_range, fields_in_range}
 use Rattle.guard.specs.declared.User.{User}
 use Rattle.guard.specs.declared.Tables.{Tables}
 use Rattle.guard.specs.declared.Outcome.{Outcome}
@@ -24,67 +24,67 @@ outcome t n = record { tables = t; answer = n; role = None }
 
 -- all that soundness asks beside the users and the edition does not look at them: by computing
 module _ (us : List User) (edition : ℕ) where
-  sessions-in-range : all sessionCount (λ s. sessionInRange (sessionAt (fresh us edition) s)) ≡ true
+  sessions_in_range : all session_count (λ s. session_in_range (session_at (fresh us edition) s)) ≡ true
   unfolding computing
-  sessions-in-range = refl
+  sessions_in_range = refl
 
-  roles-in-range : all roleCount (λ r. roleInRange (role_at (fresh us edition) r)) ≡ true
+  roles_in_range : all role_count (λ r. role_in_range (role_at (fresh us edition) r)) ≡ true
   unfolding computing
-  roles-in-range = refl
+  roles_in_range = refl
 
-  entities-in-range : all entityCount (λ e. entityInRange (entityAt (fresh us edition) e)) ≡ true
+  entities_in_range : all entity_count (λ e. entity_in_range (entity_at (fresh us edition) e)) ≡ true
   unfolding computing
-  entities-in-range = refl
+  entities_in_range = refl
 
-  sessions-counted : eqb (length (fresh us edition).sessions) sessionCount ≡ true
+  sessions_counted : eqb (length (fresh us edition).sessions) session_count ≡ true
   unfolding computing
-  sessions-counted = refl
+  sessions_counted = refl
 
-  roles-counted : eqb (length (fresh us edition).roles) roleCount ≡ true
+  roles_counted : eqb (length (fresh us edition).roles) role_count ≡ true
   unfolding computing
-  roles-counted = refl
+  roles_counted = refl
 
-  entities-counted : eqb (length (fresh us edition).entities) entityCount ≡ true
+  entities_counted : eqb (length (fresh us edition).entities) entity_count ≡ true
   unfolding computing
-  entities-counted = refl
+  entities_counted = refl
 
-  fields : usersInRange us ≡ true → editionInRange edition ≡ true → fieldsInRange (fresh us edition) ≡ true
-  unfolding fieldsInRangeIn fresh
+  fields : users_in_range us ≡ true → edition_in_range edition ≡ true → fields_in_range (fresh us edition) ≡ true
+  unfolding fields_in_range_in fresh
   fields h k =
-      every-i _
-      (h, (sessions-counted, (sessions-in-range, (roles-counted, (roles-in-range, (entities-counted, (entities-in-range, (k, tt))))))))
+      every_i _
+      (h, (sessions_counted, (sessions_in_range, (roles_counted, (roles_in_range, (entities_counted, (entities_in_range, (k, tt))))))))
 
   others : Each
-      (rootsAsSaid (fresh us edition)
-      ∷ keepersAsSaid (fresh us edition)
-      ∷ entitiesPlaced (fresh us edition)
-      ∷ objectsUnshared (fresh us edition)
-      ∷ deadAreEmpty (fresh us edition)
-      ∷ deadAreUnused (fresh us edition)
-      ∷ rightsWithin (fresh us edition)
-      ∷ readingWithin (fresh us edition)
-      ∷ writingWithin (fresh us edition)
-      ∷ opensBacked (fresh us edition)
-      ∷ tiesJoin (fresh us edition)
-      ∷ noneBelowItself (fresh us edition)
+      (roots_as_said (fresh us edition)
+      ∷ keepers_as_said (fresh us edition)
+      ∷ entities_placed (fresh us edition)
+      ∷ objects_unshared (fresh us edition)
+      ∷ dead_are_empty (fresh us edition)
+      ∷ dead_are_unused (fresh us edition)
+      ∷ rights_within (fresh us edition)
+      ∷ reading_within (fresh us edition)
+      ∷ writing_within (fresh us edition)
+      ∷ opens_backed (fresh us edition)
+      ∷ ties_join (fresh us edition)
+      ∷ none_below_itself (fresh us edition)
       ∷ [])
   unfolding computing
   others = (refl, (refl, (refl, (refl, (refl, (refl, (refl, (refl, (refl, (refl, (refl, (refl, tt))))))))))))
 
-pub fresh-sound : (us : List User) (edition : ℕ) → usersInRange us ≡ true → editionInRange edition ≡ true → sound (fresh us edition) ≡ true
-unfolding soundIn
-fresh-sound us edition h k = every-i _ (fields us edition h k, others us edition)
+pub fresh_sound : (us : List User) (edition : ℕ) → users_in_range us ≡ true → edition_in_range edition ≡ true → sound (fresh us edition) ≡ true
+unfolding sound_in
+fresh_sound us edition h k = every_i _ (fields us edition h k, others us edition)
 
-no-users : (usersInRange (replicate userCount noUser) ≡ true) × (editionInRange edition1 ≡ true)
+no_users : (users_in_range (replicate user_count no_user) ≡ true) × (edition_in_range edition1 ≡ true)
 unfolding computing
-no-users = (refl, refl)
+no_users = (refl, refl)
 
 -- whatever users and edition are handed in, the tables handed back are sound
-pub build-sound : (us : List User) (edition : ℕ) → sound (build us edition).tables ≡ true
+pub build_sound : (us : List User) (edition : ℕ) → sound (build us edition).tables ≡ true
 unfolding build
-build-sound us edition = go (every (usersInRange us ∷ editionInRange edition ∷ [])) refl
+build_sound us edition = go (every (users_in_range us ∷ edition_in_range edition ∷ [])) refl
   where
-    go : (b : Bool) → every (usersInRange us ∷ editionInRange edition ∷ []) ≡ b
-        → sound (cond b (outcome (fresh us edition) 0) (outcome (fresh (replicate userCount noUser) edition1) 2)).tables ≡ true
-    go true h = fresh-sound us edition (every-at _ h 0) (every-at _ h 1)
-    go false h = fresh-sound (replicate userCount noUser) edition1 no-users.0 no-users.1
+    go : (b : Bool) → every (users_in_range us ∷ edition_in_range edition ∷ []) ≡ b
+        → sound (cond b (outcome (fresh us edition) 0) (outcome (fresh (replicate user_count no_user) edition1) 2)).tables ≡ true
+    go true h = fresh_sound us edition (every_at _ h 0) (every_at _ h 1)
+    go false h = fresh_sound (replicate user_count no_user) edition1 no_users.0 no_users.1

@@ -10,7 +10,7 @@ use lib.Dec.{eqb}
 use native.Mathlib.Omega.{arith}
 use borrow.Author.Tests.{eqb-true, eqb-false}
 use Rattle.bitset.specs.Tests.{some}
-use Rattle.bitset.specs.Tests.Laws.{decide, some-e, some-no-e}
+use Rattle.bitset.specs.Tests.Laws.{decide, some_e, some_no_e}
 
 abbrev pub Meet : (ℕ → ℕ) → ℕ → Type 0
 Meet g n = (i : ℕ) × (j : ℕ) × (i < j) × (j ≤ n) × (g i ≡ g j)
@@ -19,17 +19,17 @@ Meet g n = (i : ℕ) × (j : ℕ) × (i < j) × (j ≤ n) × (g i ≡ g j)
 squeeze : ℕ → ℕ → ℕ → ℕ
 squeeze n v a = cond (eqb a n) v a
 
-squeeze-below : (n v a : ℕ) → v < suc n → a < suc n → (a ≡ v → ⊥) → squeeze n v a < n
+squeeze_below : (n v a : ℕ) → v < suc n → a < suc n → (a ≡ v → ⊥) → squeeze n v a < n
 unfolding squeeze
-squeeze-below n v a hv ha other = go (eqb a n) refl
+squeeze_below n v a hv ha other = go (eqb a n) refl
   where
     go : (b : Bool) → eqb a n ≡ b → cond b v a < n
     go true e = omega (arith, eqb-true a n e)
     go false e = omega (arith, eqb-false a n e)
 
-squeeze-apart : (n v a b : ℕ) → (a ≡ v → ⊥) → (b ≡ v → ⊥) → squeeze n v a ≡ squeeze n v b → a ≡ b
+squeeze_apart : (n v a b : ℕ) → (a ≡ v → ⊥) → (b ≡ v → ⊥) → squeeze n v a ≡ squeeze n v b → a ≡ b
 unfolding squeeze
-squeeze-apart n v a b oa ob h = go (eqb a n) refl (eqb b n) refl h
+squeeze_apart n v a b oa ob h = go (eqb a n) refl (eqb b n) refl h
   where
     go : (p : Bool) → eqb a n ≡ p → (q : Bool) → eqb b n ≡ q → cond p v a ≡ cond q v b → a ≡ b
     go true e true f h = omega (arith, eqb-true a n e, eqb-true b n f)
@@ -48,14 +48,14 @@ pigeons (suc n) g f = ⊎_elim hit (λ h. miss h (pigeons n (λ k. squeeze n (g 
     test k = eqb (g k) (g (suc n))
 
     hit : some (suc n) test ≡ true → Meet g (suc n)
-    hit h = let (k, l, e) = some-e (suc n) test h in (k, suc n, l, omega arith, eqb-true (g k) (g (suc n)) e)
+    hit h = let (k, l, e) = some_e (suc n) test h in (k, suc n, l, omega arith, eqb-true (g k) (g (suc n)) e)
 
     other : some (suc n) test ≡ false → (k : ℕ) → k < suc n → g k ≡ g (suc n) → ⊥
-    other h k l = eqb-false (g k) (g (suc n)) (some-no-e (suc n) test h k l)
+    other h k l = eqb-false (g k) (g (suc n)) (some_no_e (suc n) test h k l)
 
     below : some (suc n) test ≡ false → (k : ℕ) → k ≤ n → squeeze n (g (suc n)) (g k) < n
-    below h k l = squeeze-below n (g (suc n)) (g k) (f (suc n) (omega arith)) (f k (omega arith)) (other h k (omega arith))
+    below h k l = squeeze_below n (g (suc n)) (g k) (f (suc n) (omega arith)) (f k (omega arith)) (other h k (omega arith))
 
     miss : some (suc n) test ≡ false → Meet (λ k. squeeze n (g (suc n)) (g k)) n → Meet g (suc n)
     miss h (i, j, l, m, e) =
-        (i, j, l, omega arith, squeeze-apart n (g (suc n)) (g i) (g j) (other h i (omega arith)) (other h j (omega arith)) e)
+        (i, j, l, omega arith, squeeze_apart n (g (suc n)) (g i) (g j) (other h i (omega arith)) (other h j (omega arith)) e)

@@ -2,11 +2,11 @@
 --     applying        the numbers that apply to each request, in the order of the nineteen, as the papers' lines have them
 --     order, place    the order of all numbers
 --     apart, rising   .. with 1 and 2 before them they are distinct and none is 0, and they rise in that order
---     answer-none, answer-leads   0 exactly when no condition is met, and n exactly when n's is met and none before it
---     answer-lowest, answer-met   the answer is the first number of the order that applies and whose condition is met
+--     answer_none, answer_leads   0 exactly when no condition is met, and n exactly when n's is met and none before it
+--     answer_lowest, answer_met   the answer is the first number of the order that applies and whose condition is met
 --     numbered        the rule at each number that has a name (Kind) is the request of that name
---     unknown-answer  a request of none of the nineteen kinds: 2 on sound tables
---     unsound-answer  unsound tables: 1, whatever is asked
+--     unknown_answer  a request of none of the nineteen kinds: 2 on sound tables
+--     unsound_answer  unsound tables: 1, whatever is asked
 -- Assumes nothing.
 use Prim.Native.Nat.{ℕ, suc, ◌≤◌}
 use mathlib.Core.Path.{◌≡◌, refl}
@@ -19,14 +19,14 @@ use borrow.Author.Tests.{le-ltb}
 use Rattle.bitset.specs.Tests.{every}
 use Rattle.guard.specs.Sound.{sound}
 use Rattle.guard.specs.Refusals.{Refusal, ◌when◌, first}
-use Rattle.guard.specs.Requests.{Rule, fieldInRangeIn, requestCount, login, logout, take, drop, openr, openw, close, create, delete, rename, grant, revoke, list, unlist, make, unmake, share, join, unjoin, unknown, rules, ruleOf}
-use Rattle.guard.specs.Step.{inRangesIn, answer, answer_in}
+use Rattle.guard.specs.Requests.{Rule, field_in_range_in, request_count, login, logout, take, drop, openr, openw, close, create, delete, rename, grant, revoke, list, unlist, make, unmake, share, join, unjoin, unknown, rules, rule_of}
+use Rattle.guard.specs.Step.{in_ranges_in, answer, answer_in}
 use Rattle.guard.specs.Kind as kind
-use Rattle.guard.specs.Private.InForce.{fieldInRange, inRanges}
+use Rattle.guard.specs.Private.InForce.{field_in_range, in_ranges}
 use Rattle.guard.specs.declared.Tables.{Tables}
 use Rattle.guard.specs.declared.Request.{Request}
-use Rattle.guard.proofs.Laws.Refusals.{conditionOf, distinct, first-none, Leads, first-leads, first-met, risingFrom, first-lowest}
-use Rattle.guard.proofs.Laws.Step.{each-rule}
+use Rattle.guard.proofs.Laws.Refusals.{condition_of, distinct, first_none, Leads, first_leads, first_met, rising_from, first_lowest}
+use Rattle.guard.proofs.Laws.Step.{each_rule}
 
 abbrev numbers : Tables → Request → Rule → List ℕ
 numbers t q r = map (λ (c : Refusal). c.number) (r.refusals t q)
@@ -59,13 +59,13 @@ applying t q = refl
 
 -- the whole list of a request, from which its answer is taken
 abbrev pub conditions : Rule → Tables → Request → List Refusal
-conditions r t q = 1 when not (sound t) ∷ 2 when not (inRanges q) ∷ r.refusals t q
+conditions r t q = 1 when not (sound t) ∷ 2 when not (in_ranges q) ∷ r.refusals t q
 
 -- the numbers of each list are distinct, and none is 0
-apart : (t : Tables) (q : Request) → distinct (conditions (ruleOf q) t q) ≡ true
+apart : (t : Tables) (q : Request) → distinct (conditions (rule_of q) t q) ≡ true
 unfolding rules login logout take drop openr openw close create delete rename grant revoke list unlist make unmake share join unjoin unknown
 apart t q =
-    each-rule (λ r. distinct (conditions r t q) ≡ true)
+    each_rule (λ r. distinct (conditions r t q) ≡ true)
     (refl, (refl, (refl, (refl, (refl, (refl, (refl, (refl, (refl, (refl, (refl, (refl, (refl, (refl, (refl, (refl, (refl, (refl, (refl, tt)))))))))))))))))))
     refl
     q
@@ -83,33 +83,33 @@ abbrev pub place : ℕ → ℕ
 place = place_in order
 
 -- .. and they rise in that order
-rising : (t : Tables) (q : Request) → risingFrom place 0 (conditions (ruleOf q) t q) ≡ true
+rising : (t : Tables) (q : Request) → rising_from place 0 (conditions (rule_of q) t q) ≡ true
 unfolding rules login logout take drop openr openw close create delete rename grant revoke list unlist make unmake share join unjoin unknown
 rising t q =
-    each-rule (λ r. risingFrom place 0 (conditions r t q) ≡ true)
+    each_rule (λ r. rising_from place 0 (conditions r t q) ≡ true)
     (refl, (refl, (refl, (refl, (refl, (refl, (refl, (refl, (refl, (refl, (refl, (refl, (refl, (refl, (refl, (refl, (refl, (refl, (refl, tt)))))))))))))))))))
     refl
     q
 
 -- Otherwise the answer is the lowest number below that applies to the request and whose condition is met. No number is
 -- given otherwise.
-pub answer-met : (t : Tables) (q : Request) → (answer t q ≡ 0 → ⊥) → conditionOf (answer t q) (conditions (ruleOf q) t q) ≡ true
+pub answer_met : (t : Tables) (q : Request) → (answer t q ≡ 0 → ⊥) → condition_of (answer t q) (conditions (rule_of q) t q) ≡ true
 unfolding answer_in
-answer-met t q h = first-met (conditions (ruleOf q) t q) (apart t q) h
+answer_met t q h = first_met (conditions (rule_of q) t q) (apart t q) h
 
-pub answer-lowest : (t : Tables) (q : Request) (n : ℕ) → conditionOf n (conditions (ruleOf q) t q) ≡ true → place (answer t q) ≤ place n
+pub answer_lowest : (t : Tables) (q : Request) (n : ℕ) → condition_of n (conditions (rule_of q) t q) ≡ true → place (answer t q) ≤ place n
 unfolding answer_in
-answer-lowest t q n h = first-lowest place (conditions (ruleOf q) t q) (rising t q) n h
+answer_lowest t q n h = first_lowest place (conditions (rule_of q) t q) (rising t q) n h
 
 -- Answer 0 means done: exactly when no condition is met; and the answer is n exactly when n's condition is met and none before
 -- it in the list.
-pub answer-none : (t : Tables) (q : Request) → (answer t q ≡ 0 ↔ ((n : ℕ) → conditionOf n (conditions (ruleOf q) t q) ≡ false))
+pub answer_none : (t : Tables) (q : Request) → (answer t q ≡ 0 ↔ ((n : ℕ) → condition_of n (conditions (rule_of q) t q) ≡ false))
 unfolding answer_in
-answer-none t q = first-none (conditions (ruleOf q) t q) (apart t q)
+answer_none t q = first_none (conditions (rule_of q) t q) (apart t q)
 
-pub answer-leads : (t : Tables) (q : Request) (n : ℕ) → (n ≡ 0 → ⊥) → (answer t q ≡ n ↔ Leads n (conditions (ruleOf q) t q))
+pub answer_leads : (t : Tables) (q : Request) (n : ℕ) → (n ≡ 0 → ⊥) → (answer t q ≡ n ↔ Leads n (conditions (rule_of q) t q))
 unfolding answer_in
-answer-leads t q n h = first-leads (conditions (ruleOf q) t q) (apart t q) n h
+answer_leads t q n h = first_leads (conditions (rule_of q) t q) (apart t q) n h
 
 -- ---- the names of the numbers
 pub numbered :
@@ -136,19 +136,19 @@ unfolding rules
 numbered = (refl, refl, refl, refl, refl, refl, refl, refl, refl, refl, refl, refl, refl, refl, refl, refl, refl, refl, refl)
 
 -- ---- a request of none of the nineteen kinds
-pub unknown-rule : (q : Request) → requestCount ≤ q.call → ruleOf q ≡ unknown
-unfolding ruleOf rules
-unknown-rule q h = get_or-eq_default rules unknown h
+pub unknown_rule : (q : Request) → request_count ≤ q.call → rule_of q ≡ unknown
+unfolding rule_of rules
+unknown_rule q h = get_or-eq_default rules unknown h
 
-unknown-out : (q : Request) → requestCount ≤ q.call → every (map (fieldInRange q) unknown.uses) ≡ false
-unfolding every unknown fieldInRangeIn
-unknown-out q h = rw (le-ltb q.call requestCount h) (and-false (ltb q.seat 16))
+unknown_out : (q : Request) → request_count ≤ q.call → every (map (field_in_range q) unknown.uses) ≡ false
+unfolding every unknown field_in_range_in
+unknown_out q h = rw (le-ltb q.call request_count h) (and-false (ltb q.seat 16))
 
-pub unknown-answer : (t : Tables) (q : Request) → requestCount ≤ q.call → sound t ≡ true → answer t q ≡ 2
-unfolding answer_in inRangesIn first
-unknown-answer t q h s = rw (s, unknown-rule q h, unknown-out q h)
+pub unknown_answer : (t : Tables) (q : Request) → request_count ≤ q.call → sound t ≡ true → answer t q ≡ 2
+unfolding answer_in in_ranges_in first
+unknown_answer t q h s = rw (s, unknown_rule q h, unknown_out q h)
 
 -- 1 the tables are not sound: before all others
-pub unsound-answer : (t : Tables) (q : Request) → sound t ≡ false → answer t q ≡ 1
+pub unsound_answer : (t : Tables) (q : Request) → sound t ≡ false → answer t q ≡ 1
 unfolding answer_in first
-unsound-answer t q s = rw s
+unsound_answer t q s = rw s

@@ -1,5 +1,5 @@
 -- How many numbers below n meet a test.
---     count, count_none, count-more, count-le, at_most_one
+--     count, count_none, count_more, count_le, at_most_one
 --     once      the count is 1 where one number meets the test and no other does
 -- Assumes nothing.
 use Prim.Native.Nat.{ℕ, zero, suc, ◌+◌, ◌≤◌, ◌<◌}
@@ -11,7 +11,7 @@ use native.Mathlib.Omega.{arith}
 use lib.Dec.{eqb}
 use borrow.Author.Tests.{eqb-true, eq-eqb}
 use Rattle.bitset.specs.Tests.{all, implies}
-use Rattle.bitset.specs.Tests.Laws.{both, is_false, all-i, all-e, implies-i, implies-e}
+use Rattle.bitset.specs.Tests.Laws.{both, is_false, all_i, all_e, implies_i, implies_e}
 
 unfoldable pub count : ℕ → (ℕ → Bool) → ℕ
 count zero p = 0
@@ -21,18 +21,18 @@ pub count_none : (p : ℕ → Bool) → count 0 p ≡ 0
 unfolding count
 count_none p = refl
 
-pub count-more : (n : ℕ) (p : ℕ → Bool) → count (n + 1) p ≡ count n p + cond (p n) 1 0
+pub count_more : (n : ℕ) (p : ℕ → Bool) → count (n + 1) p ≡ count n p + cond (p n) 1 0
 unfolding count
-count-more n p = rw add-one
+count_more n p = rw add-one
 
 pub at_most_one : (b : Bool) (n : ℕ) → n ≡ cond b 1 0 → n ≤ 1
 at_most_one true n e = omega arith
 at_most_one false n e = omega arith
 
-pub count-le : (n : ℕ) (p : ℕ → Bool) → count n p ≤ n
+pub count_le : (n : ℕ) (p : ℕ → Bool) → count n p ≤ n
 unfolding count
-count-le zero p = omega arith
-count-le (suc n) p = omega (arith, count-le n p, at_most_one (p n) _ refl)
+count_le zero p = omega arith
+count_le (suc n) p = omega (arith, count_le n p, at_most_one (p n) _ refl)
 
 met : (n : ℕ) (p : ℕ → Bool) (i : ℕ) → i < n → p i ≡ true → 1 ≤ count n p
 unfolding count
@@ -71,8 +71,8 @@ alone (suc n) p i l h f = go (dec_lt i n) (λ k. alone n p i k h (λ j b. f j (o
         rw (rw e at h, unmet n p (λ j b. is_false (p j) (λ m. absurd (omega (arith, f j (omega arith) m)))))
 
 pub once : (n : ℕ) (p : ℕ → Bool) (i : ℕ) → i < n → p i ≡ true → eqb (count n p) 1 ≡ all n (λ k. implies (p k) (eqb k i))
-once n p i l h = both _ _ (λ one. all-i n _ (λ k b. implies-i _ _ (λ m. eq-eqb k i (only one k b m (dec_lt k i) (dec_lt i k)))))
-    (λ a. eq-eqb _ _ (alone n p i l h (λ k b m. eqb-true k i (implies-e _ _ (all-e n _ a k b) m))))
+once n p i l h = both _ _ (λ one. all_i n _ (λ k b. implies_i _ _ (λ m. eq-eqb k i (only one k b m (dec_lt k i) (dec_lt i k)))))
+    (λ a. eq-eqb _ _ (alone n p i l h (λ k b m. eqb-true k i (implies_e _ _ (all_e n _ a k b) m))))
   where
     only : eqb (count n p) 1 ≡ true → (k : ℕ) → k < n → p k ≡ true → Dec (k < i) → Dec (i < k) → k ≡ i
     only one k b m (yes d) f = absurd (omega (arith, eqb-true (count n p) 1 one, two n p k i d l m h))

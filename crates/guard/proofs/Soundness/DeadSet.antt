@@ -1,6 +1,6 @@
 -- A loop that counts down and collects what is dead, each turn pushing up by one what it has.
 --     Pushed, pushed_none, pushed_more      what the loop has collected
---     pushed-all                            the complement of what it has at the end
+--     pushed_all                            the complement of what it has at the end
 -- Assumes nothing.
 use Prim.Native.Nat.{ℕ, zero, suc, ◌+◌, ◌*◌, ◌-◌, ◌/◌, ◌%◌, ◌^◌, ◌≤◌, ◌<◌}
 use mathlib.Core.Bool.{Bool, true, false, not, cond, not-not}
@@ -12,11 +12,11 @@ use lib.Dec.{ltb}
 use lib.Pow.{pow_mono, shl_exact}
 use borrow.Author.Tests.{eq-eqb, ne_eqb, ltb-true, ltb-false}
 use Rattle.bitset.specs.Sets.{has, minus}
-use Rattle.bitset.specs.Sets.Laws.{has-minus}
+use Rattle.bitset.specs.Sets.Laws.{has_minus}
 use Rattle.bitset.specs.Tests.{all}
-use Rattle.bitset.specs.Tests.Laws.{all-e}
+use Rattle.bitset.specs.Tests.Laws.{all_e}
 use Rattle.bitset.proofs.Words.{complement}
-use Rattle.guard.proofs.Soundness.Members.{has-half}
+use Rattle.guard.proofs.Soundness.Members.{has_half}
 
 -- the members of s are the numbers from i on, counted from i, that f does not tell
 pub record Pushed (f : ℕ → Bool) (i s : ℕ) : Type 0 where
@@ -49,7 +49,7 @@ pushed f i s b l h e =
     at (suc k) m =
         let half : (s * 2 + b) / 2 ≡ s = omega (arith, bit (f i) b e) in
         let here : i + 1 + k ≡ i + suc k = omega arith in
-        sym (has-half (s * 2 + b) k) ∙ rw half (h.at k (omega arith)) ∙ ap (λ (n : ℕ). not (f n)) here
+        sym (has_half (s * 2 + b) k) ∙ rw half (h.at k (omega arith)) ∙ ap (λ (n : ℕ). not (f n)) here
 
 top : (x : Bool) (v : ℕ) → v ≤ 16777216 → x ≡ ltb v 16777216 → v / 2 ^ 24 ≡ cond x 0 1
 top true v l e = omega (arith, ltb-true v 16777216 (sym e))
@@ -67,9 +67,9 @@ pushed_more f i s v l h m e =
 -- ---- the complement
 ones : (k : ℕ) → k < 64 → has 18446744073709551615 k ≡ true
 unfolding has all
-ones = all-e 64 _ refl
+ones = all_e 64 _ refl
 
-pub pushed-all : (f : ℕ → Bool) (s : ℕ) → Pushed f 0 s → (k : ℕ) → k < 64 → has (18446744073709551615 - s) k ≡ f k
-pushed-all f s h k l =
+pub pushed_all : (f : ℕ → Bool) (s : ℕ) → Pushed f 0 s → (k : ℕ) → k < 64 → has (18446744073709551615 - s) k ≡ f k
+pushed_all f s h k l =
     let here : 0 + k ≡ k = omega arith in
-    rw (complement 64 s h.small, has-minus, ones k l, h.at k l, here) (not-not (f k))
+    rw (complement 64 s h.small, has_minus, ones k l, h.at k l, here) (not-not (f k))

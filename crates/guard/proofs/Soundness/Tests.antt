@@ -1,13 +1,13 @@
 -- Tests as code makes them.
---     cond_yes, cond_no, yes-e, no-e, and-two, two-miss, two-last, unless      against what a contract lists
---     agree-e                                                         two tests that compute alike on a table
+--     cond_yes, cond_no, yes_e, no_e, and_two, two_miss, two_last, unless      against what a contract lists
+--     agree_e                                                         two tests that compute alike on a table
 -- Assumes nothing.
 use Prim.Native.Nat.{ℕ, ◌<◌}
 use mathlib.Core.Bool.{Bool, true, false, not, ◌&&◌, ◌||◌, cond, and-true}
 use mathlib.Core.List.{[], ◌∷◌}
 use mathlib.Core.Path.{◌≡◌, refl, sym}
 use Rattle.bitset.specs.Tests.{every, implies, all}
-use Rattle.bitset.specs.Tests.Laws.{of-not-true, of-not-false, all-e}
+use Rattle.bitset.specs.Tests.Laws.{of_not_true, of_not_false, all_e}
 
 pub cond_yes : (b x y z : Bool) → b ≡ true → x ≡ y → x ≡ cond b y z
 cond_yes b x y z h e = rw h e
@@ -15,23 +15,23 @@ cond_yes b x y z h e = rw h e
 pub cond_no : (b x y z : Bool) → b ≡ false → x ≡ z → x ≡ cond b y z
 cond_no b x y z h e = rw h e
 
-pub yes-e : (b x y : Bool) → b ≡ true → cond b x y ≡ true → x ≡ true
-yes-e b x y h k = rw h at k
+pub yes_e : (b x y : Bool) → b ≡ true → cond b x y ≡ true → x ≡ true
+yes_e b x y h k = rw h at k
 
-pub no-e : (b x y : Bool) → b ≡ false → cond b x y ≡ true → y ≡ true
-no-e b x y h k = rw h at k
+pub no_e : (b x y : Bool) → b ≡ false → cond b x y ≡ true → y ≡ true
+no_e b x y h k = rw h at k
 
-pub and-two : (a b x y : Bool) → a ≡ x → b ≡ y → (a && b) ≡ every (x ∷ y ∷ [])
+pub and_two : (a b x y : Bool) → a ≡ x → b ≡ y → (a && b) ≡ every (x ∷ y ∷ [])
 unfolding every
-and-two a b x y p q = simp (p, q, and-true)
+and_two a b x y p q = simp (p, q, and-true)
 
-pub two-miss : (a x y : Bool) → a ≡ x → not a ≡ true → false ≡ every (x ∷ y ∷ [])
+pub two_miss : (a x y : Bool) → a ≡ x → not a ≡ true → false ≡ every (x ∷ y ∷ [])
 unfolding every
-two-miss a x y e h = rw (← e, of-not-true a h)
+two_miss a x y e h = rw (← e, of_not_true a h)
 
-pub two-last : (a b x y : Bool) → a ≡ x → not a ≡ false → b ≡ y → b ≡ every (x ∷ y ∷ [])
+pub two_last : (a b x y : Bool) → a ≡ x → not a ≡ false → b ≡ y → b ≡ every (x ∷ y ∷ [])
 unfolding every
-two-last a b x y e h f = rw (← e, of-not-false a h, f) (simp and-true)
+two_last a b x y e h f = rw (← e, of_not_false a h, f) (simp and-true)
 
 pub unless : (a b y : Bool) → b ≡ y → (not a || b) ≡ implies a y
 unfolding implies
@@ -42,10 +42,10 @@ abbrev agree : Bool → Bool → Bool
 agree true b = b
 agree false b = not b
 
-agree-true : (a b : Bool) → agree a b ≡ true → a ≡ b
-agree-true true b h = sym h
-agree-true false true h = h
-agree-true false false h = refl
+agree_true : (a b : Bool) → agree a b ≡ true → a ≡ b
+agree_true true b h = sym h
+agree_true false true h = h
+agree_true false false h = refl
 
-pub agree-e : (n : ℕ) (p q : ℕ → Bool) → all n (λ k. agree (p k) (q k)) ≡ true → (k : ℕ) → k < n → p k ≡ q k
-agree-e n p q h k l = agree-true (p k) (q k) (all-e n _ h k l)
+pub agree_e : (n : ℕ) (p q : ℕ → Bool) → all n (λ k. agree (p k) (q k)) ≡ true → (k : ℕ) → k < n → p k ≡ q k
+agree_e n p q h k l = agree_true (p k) (q k) (all_e n _ h k l)

@@ -1,7 +1,7 @@
 -- The parts of the test, in its order, against `sound`: what sound tables pass, and that tables which pass all are sound.
---     usersTest, entitiesTest, chainsTest, namesTest, rolesTest, tiesTest, sessionsTest      the parts
---     Taken, LiveRoles, Sized, keys-small, numbers                                           what the later parts rest on
---     edition-pass, users-pass, entities-pass, chains-pass, names-pass, roles-pass, ties-pass, sessions-pass          what sound tables pass
+--     users_test, entities_test, chains_test, names_test, roles_test, ties_test, sessions_test      the parts
+--     Taken, LiveRoles, Sized, keys_small, numbers                                           what the later parts rest on
+--     edition_pass, users_pass, entities_pass, chains_pass, names_pass, roles_pass, ties_pass, sessions_pass          what sound tables pass
 --     refuted, met, decided                    a part that fails, one that is met, and the last part, which decides
 -- Assumes nothing.
 use Prim.Native.Nat.{ℕ, ◌%◌, ◌≤◌, ◌<◌}
@@ -12,66 +12,66 @@ use native.Mathlib.Omega.{arith}
 use lib.ListN.{length, get_or}
 use borrow.Author.Tests.{eq-eqb}
 use Rattle.bitset.specs.Tests.{every, all}
-use Rattle.bitset.specs.Tests.Laws.{both, clash, is_false, of-not-true, of-not-false, every-i, every-at, all-i, all-e}
+use Rattle.bitset.specs.Tests.Laws.{both, clash, is_false, of_not_true, of_not_false, every_i, every_at, all_i, all_e}
 use Rattle.bitset.specs.Sets.{has}
-use Rattle.guard.specs.Level.{sessionLevel, isRoot}
-use Rattle.guard.specs.Tables.{noUser, sessionAt, role_at, entityAt}
-use Rattle.guard.specs.Label.{allCategories}
-use Rattle.guard.specs.Sound.{usersInRangeIn, editionInRange, sound}
-use Rattle.guard.specs.Private.Tested.{parentByKey, liveByKey, grantableIn, ends, entityTest, ownKey, roleTest, sessionTest}
-use Rattle.guard.specs.Private.Scan.{Keys, Grants, tieTest, opensGiven}
-use Rattle.guard.specs.Private.InForce.{userInRange}
+use Rattle.guard.specs.Level.{session_level, is_root}
+use Rattle.guard.specs.Tables.{no_user, session_at, role_at, entity_at}
+use Rattle.guard.specs.Label.{all_categories}
+use Rattle.guard.specs.Sound.{users_in_range_in, edition_in_range, sound}
+use Rattle.guard.specs.Private.Tested.{parent_by_key, live_by_key, grantable_in, ends, entity_test, own_key, role_test, session_test}
+use Rattle.guard.specs.Private.Scan.{Keys, Grants, tie_test, opens_given}
+use Rattle.guard.specs.Private.InForce.{user_in_range}
 use Rattle.guard.specs.declared.Tables.{Tables}
-use Rattle.guard.proofs.Laws.Sound.{formed-e, backed-e, sound-i}
+use Rattle.guard.proofs.Laws.Sound.{formed_e, backed_e, sound_i}
 use Rattle.guard.proofs.Laws.Sound.Facts.{Formed, RoleOk, EntityOk, parent_in}
-use Rattle.guard.proofs.Given.{opens-right}
-use Rattle.guard.proofs.Soundness.Climb.{climbs-root, climbs-on}
+use Rattle.guard.proofs.Given.{opens_right}
+use Rattle.guard.proofs.Soundness.Climb.{climbs_root, climbs_on}
 use Rattle.guard.proofs.Soundness.EntityFacts.{Settled, Known, settled, test_of, known}
-use Rattle.guard.proofs.Soundness.Keys.{chains-as, own-e, own-i, live-of-key, key-small}
-use Rattle.guard.proofs.Soundness.Grants.{role-e, role-i}
-use Rattle.guard.proofs.Soundness.Ties.{ties-e, ties-i}
-use Rattle.guard.proofs.Soundness.Opens.{Labels, session-e, session-i}
+use Rattle.guard.proofs.Soundness.Keys.{chains_as, own_e, own_i, live_of_key, key_small}
+use Rattle.guard.proofs.Soundness.Grants.{role_e, role_i}
+use Rattle.guard.proofs.Soundness.Ties.{ties_e, ties_i}
+use Rattle.guard.proofs.Soundness.Opens.{Labels, session_e, session_i}
 
-abbrev pub usersTest : Tables → Bool
-usersTest t = all 16 (λ u. userInRange (get_or t.users u noUser))
+abbrev pub users_test : Tables → Bool
+users_test t = all 16 (λ u. user_in_range (get_or t.users u no_user))
 
-abbrev pub entitiesTest : Tables → Bool
-entitiesTest t = all 64 (λ e. entityTest e (entityAt t e) (entityAt t ((entityAt t e).parent % 64)))
+abbrev pub entities_test : Tables → Bool
+entities_test t = all 64 (λ e. entity_test e (entity_at t e) (entity_at t ((entity_at t e).parent % 64)))
 
-abbrev pub chainsTest : List ℕ → Bool
-chainsTest keys = all 64 (ends (parentByKey keys) 16)
+abbrev pub chains_test : List ℕ → Bool
+chains_test keys = all 64 (ends (parent_by_key keys) 16)
 
-abbrev pub namesTest : List ℕ → Bool
-namesTest keys = all 64 (ownKey keys)
+abbrev pub names_test : List ℕ → Bool
+names_test keys = all 64 (own_key keys)
 
-abbrev pub rolesTest : Tables → ℕ → Bool
-rolesTest t live = all 16 (λ r. roleTest (grantableIn live r) r (role_at t r))
+abbrev pub roles_test : Tables → ℕ → Bool
+roles_test t live = all 16 (λ r. role_test (grantable_in live r) r (role_at t r))
 
-abbrev pub tiesTest : List ℕ → ℕ → Bool
-tiesTest grants roles = all 16 (tieTest grants roles)
+abbrev pub ties_test : List ℕ → ℕ → Bool
+ties_test grants roles = all 16 (tie_test grants roles)
 
-abbrev pub sessionsTest : Tables → List ℕ → List ℕ → ℕ → Bool
-sessionsTest t labels grants roles =
-    all 16 (λ s. every (sessionTest labels roles t.edition (sessionLevel s) (sessionAt t s) ∷ opensGiven grants (sessionAt t s) ∷ []))
+abbrev pub sessions_test : Tables → List ℕ → List ℕ → ℕ → Bool
+sessions_test t labels grants roles =
+    all 16 (λ s. every (session_test labels roles t.edition (session_level s) (session_at t s) ∷ opens_given grants (session_at t s) ∷ []))
 
 -- the set of the live entities, as the code takes it from the keys
 abbrev pub Taken : List ℕ → ℕ → Type 0
-Taken keys live = (e : ℕ) → e < 64 → has live e ≡ liveByKey keys e
+Taken keys live = (e : ℕ) → e < 64 → has live e ≡ live_by_key keys e
 
 -- the set of the live roles
 abbrev pub LiveRoles : Tables → ℕ → Type 0
 LiveRoles t roles = (k : ℕ) → k < 16 → has roles k ≡ (role_at t k).live
 
-settled-by : (t : Tables) → entitiesTest t ≡ true → (k : ℕ) → k < 64 → Settled t k (entityAt t k)
-settled-by t e k l = settled t k _ l (all-e 64 _ e k l)
+settled_by : (t : Tables) → entities_test t ≡ true → (k : ℕ) → k < 64 → Settled t k (entity_at t k)
+settled_by t e k l = settled t k _ l (all_e 64 _ e k l)
 
 -- ---- what the set of the live entities rests on
-pub keys-small : (t : Tables) (keys : List ℕ) → Keys t.entities keys → entitiesTest t ≡ true → (e : ℕ) → e < 64 → get_or keys e 0 ≤ 16777216
-keys-small t keys K h = key-small t keys K (λ k l. known t k _ (settled-by t h k l))
+pub keys_small : (t : Tables) (keys : List ℕ) → Keys t.entities keys → entities_test t ≡ true → (e : ℕ) → e < 64 → get_or keys e 0 ≤ 16777216
+keys_small t keys K h = key_small t keys K (λ k l. known t k _ (settled_by t h k l))
 
 -- ---- what sound tables pass
-settled-of : (t : Tables) (e : ℕ) → EntityOk allCategories t.entities e (entityAt t e) → Settled t e (entityAt t e)
-settled-of t e ok = record {
+settled_of : (t : Tables) (e : ℕ) → EntityOk all_categories t.entities e (entity_at t e) → Settled t e (entity_at t e)
+settled_of t e ok = record {
   range = ok.range;
   root = ok.root;
   mark = ok.mark;
@@ -81,49 +81,49 @@ settled-of t e ok = record {
 }
 
 module _ (t : Tables) (h : sound t ≡ true) where
-  ok : Formed allCategories t
-  ok = formed-e t h
+  ok : Formed all_categories t
+  ok = formed_e t h
 
-  pub numbers : (e : ℕ) → e < 64 → Known e (entityAt t e)
-  numbers e l = known t e _ (settled-of t e (ok.entity e l))
+  pub numbers : (e : ℕ) → e < 64 → Known e (entity_at t e)
+  numbers e l = known t e _ (settled_of t e (ok.entity e l))
 
-  pub edition-pass : editionInRange t.edition ≡ true
-  edition-pass = ok.edition
+  pub edition_pass : edition_in_range t.edition ≡ true
+  edition_pass = ok.edition
 
-  pub users-pass : usersTest t ≡ true
-  unfolding usersInRangeIn
-  users-pass = every-at _ ok.users 1
+  pub users_pass : users_test t ≡ true
+  unfolding users_in_range_in
+  users_pass = every_at _ ok.users 1
 
-  pub entities-pass : entitiesTest t ≡ true
-  entities-pass = all-i 64 _ (λ e l. test_of t e _ (settled-of t e (ok.entity e l)))
+  pub entities_pass : entities_test t ≡ true
+  entities_pass = all_i 64 _ (λ e l. test_of t e _ (settled_of t e (ok.entity e l)))
 
-  pub chains-pass : (keys : List ℕ) → Keys t.entities keys → chainsTest keys ≡ true
-  chains-pass keys K = chains-as t keys K numbers ∙ all-i 64 _ (λ e l. go e l (entityAt t e).live refl (isRoot e) refl)
+  pub chains_pass : (keys : List ℕ) → Keys t.entities keys → chains_test keys ≡ true
+  chains_pass keys K = chains_as t keys K numbers ∙ all_i 64 _ (λ e l. go e l (entity_at t e).live refl (is_root e) refl)
     where
-      go : (e : ℕ) → e < 64 → (b : Bool) → (entityAt t e).live ≡ b → (r : Bool) → isRoot e ≡ r → ends (parent_in t.entities) 16 e ≡ true
-      go e l b live true r = climbs-root _ _ 16 e r
+      go : (e : ℕ) → e < 64 → (b : Bool) → (entity_at t e).live ≡ b → (r : Bool) → is_root e ≡ r → ends (parent_in t.entities) 16 e ≡ true
+      go e l b live true r = climbs_root _ _ 16 e r
       go e l true live false r = ((ok.entity e l).placed live r).inside.chain
-      go e l false dead false r = climbs-on _ _ 16 e (omega arith) r ∙ rw ((numbers e l).dead dead).0 (climbs-root _ _ 15 0 refl)
+      go e l false dead false r = climbs_on _ _ 16 e (omega arith) r ∙ rw ((numbers e l).dead dead).0 (climbs_root _ _ 15 0 refl)
 
-  pub names-pass : (keys : List ℕ) → Keys t.entities keys → namesTest keys ≡ true
-  names-pass keys K = all-i 64 _ (λ e l. own-i t keys K numbers e l (λ live other. ((ok.entity e l).placed live other).ownName))
+  pub names_pass : (keys : List ℕ) → Keys t.entities keys → names_test keys ≡ true
+  names_pass keys K = all_i 64 _ (λ e l. own_i t keys K numbers e l (λ live other. ((ok.entity e l).placed live other).own_name))
 
-  pub roles-pass : (keys : List ℕ) (live : ℕ) → Keys t.entities keys → Taken keys live → rolesTest t live ≡ true
-  roles-pass keys live K L = all-i 16 _ (λ r l. role-i t live (λ e k. L e k ∙ live-of-key t keys K numbers e k) r _ (ok.role r l))
+  pub roles_pass : (keys : List ℕ) (live : ℕ) → Keys t.entities keys → Taken keys live → roles_test t live ≡ true
+  roles_pass keys live K L = all_i 16 _ (λ r l. role_i t live (λ e k. L e k ∙ live_of_key t keys K numbers e k) r _ (ok.role r l))
 
-  pub ties-pass : (grants : List ℕ) (roles : ℕ) → Grants t.roles grants → LiveRoles t roles → tiesTest grants roles ≡ true
-  ties-pass grants roles G R = ties-i t ok.role grants G roles R ok.ties
+  pub ties_pass : (grants : List ℕ) (roles : ℕ) → Grants t.roles grants → LiveRoles t roles → ties_test grants roles ≡ true
+  ties_pass grants roles G R = ties_i t ok.role grants G roles R ok.ties
 
-  pub sessions-pass : (labels grants : List ℕ) (roles : ℕ) → Labels t labels → Grants t.roles grants → LiveRoles t roles → sessionsTest t labels grants roles ≡ true
-  sessions-pass labels grants roles L G R =
-      all-i 16 _ (λ s l. every-i _ (session-i t labels L numbers roles R s _ (ok.session s l), ((opens-right t ok.role ok.ties grants G s).1 (backed-e _ t h s l), tt)))
+  pub sessions_pass : (labels grants : List ℕ) (roles : ℕ) → Labels t labels → Grants t.roles grants → LiveRoles t roles → sessions_test t labels grants roles ≡ true
+  sessions_pass labels grants roles L G R =
+      all_i 16 _ (λ s l. every_i _ (session_i t labels L numbers roles R s _ (ok.session s l), ((opens_right t ok.role ok.ties grants G s).1 (backed_e _ t h s l), tt)))
 
 -- ---- a part that fails, and one that is met
 pub refuted : (t : Tables) (r p : Bool) → r ≡ p → (sound t ≡ true → p ≡ true) → not r ≡ true → false ≡ sound t
-refuted t r p e f h = sym (is_false (sound t) (λ k. clash p (f k) (sym e ∙ of-not-true r h)))
+refuted t r p e f h = sym (is_false (sound t) (λ k. clash p (f k) (sym e ∙ of_not_true r h)))
 
 pub met : (r p : Bool) → r ≡ p → not r ≡ false → p ≡ true
-met r p e h = sym e ∙ of-not-false r h
+met r p e h = sym e ∙ of_not_false r h
 
 -- ---- tables that pass are sound
 pub record Sized (t : Tables) : Type 0 where
@@ -133,19 +133,19 @@ pub record Sized (t : Tables) : Type 0 where
   pub entities : length t.entities ≡ 64
 
 passed : (t : Tables) (keys labels grants : List ℕ) (live roles : ℕ) → Sized t → Keys t.entities keys → Grants t.roles grants → Taken keys live → Labels t labels → LiveRoles t roles
-    → editionInRange t.edition ≡ true → usersTest t ≡ true → entitiesTest t ≡ true → chainsTest keys ≡ true → namesTest keys ≡ true → rolesTest t live ≡ true → tiesTest grants roles ≡ true → sessionsTest t labels grants roles ≡ true
-    → Formed allCategories t
-unfolding usersInRangeIn
+    → edition_in_range t.edition ≡ true → users_test t ≡ true → entities_test t ≡ true → chains_test keys ≡ true → names_test keys ≡ true → roles_test t live ≡ true → ties_test grants roles ≡ true → sessions_test t labels grants roles ≡ true
+    → Formed all_categories t
+unfolding users_in_range_in
 passed t keys labels grants live roles size K G L B R d u e c n r x s =
     record {
       edition = d;
-      users = every-i _ (eq-eqb _ _ size.users, (u, tt));
-      manySessions = size.sessions;
-      manyRoles = size.roles;
-      manyEntities = size.entities;
-      session = λ k l. session-e t labels B numbers' roles R k _ (every-at _ (all-e 16 _ s k l) 0);
+      users = every_i _ (eq-eqb _ _ size.users, (u, tt));
+      many_sessions = size.sessions;
+      many_roles = size.roles;
+      many_entities = size.entities;
+      session = λ k l. session_e t labels B numbers' roles R k _ (every_at _ (all_e 16 _ s k l) 0);
       role = role';
-      ties = ties-e t role' grants G roles R x;
+      ties = ties_e t role' grants G roles R x;
       entity = λ k l.
           let set = settled' k l in
           record {
@@ -156,28 +156,28 @@ passed t keys labels grants live roles size K G L B R d u e c n r x s =
             placed = λ live other.
                 record {
                   named = set.named live other;
-                  inside = record { parent = set.fits live other; chain = all-e 64 _ (sym (chains-as t keys K numbers') ∙ c) k l };
-                  ownName = own-e t keys K numbers' k l (all-e 64 _ n k l) live other;
+                  inside = record { parent = set.fits live other; chain = all_e 64 _ (sym (chains_as t keys K numbers') ∙ c) k l };
+                  own_name = own_e t keys K numbers' k l (all_e 64 _ n k l) live other;
                 };
           };
     }
   where
-    settled' : (k : ℕ) → k < 64 → Settled t k (entityAt t k)
-    settled' = settled-by t e
+    settled' : (k : ℕ) → k < 64 → Settled t k (entity_at t k)
+    settled' = settled_by t e
 
-    numbers' : (k : ℕ) → k < 64 → Known k (entityAt t k)
+    numbers' : (k : ℕ) → k < 64 → Known k (entity_at t k)
     numbers' k l = known t k _ (settled' k l)
 
     role' : (k : ℕ) → k < 16 → RoleOk t.entities k (role_at t k)
-    role' k l = role-e t live (λ f b. L f b ∙ live-of-key t keys K numbers' f b) k _ (all-e 16 _ r k l)
+    role' k l = role_e t live (λ f b. L f b ∙ live_of_key t keys K numbers' f b) k _ (all_e 16 _ r k l)
 
 pub decided : (t : Tables) (keys grants labels : List ℕ) (live roles : ℕ) → Sized t → Keys t.entities keys → Grants t.roles grants → Taken keys live → Labels t labels → LiveRoles t roles
-    → editionInRange t.edition ≡ true → usersTest t ≡ true → entitiesTest t ≡ true → chainsTest keys ≡ true → namesTest keys ≡ true → rolesTest t live ≡ true → tiesTest grants roles ≡ true
-    → (r : Bool) → r ≡ sessionsTest t labels grants roles → r ≡ sound t
-decided t keys grants labels live roles size K G L B R d u e c n p x r s = both r (sound t) forth (λ h. s ∙ sessions-pass t h labels grants roles B G R)
+    → edition_in_range t.edition ≡ true → users_test t ≡ true → entities_test t ≡ true → chains_test keys ≡ true → names_test keys ≡ true → roles_test t live ≡ true → ties_test grants roles ≡ true
+    → (r : Bool) → r ≡ sessions_test t labels grants roles → r ≡ sound t
+decided t keys grants labels live roles size K G L B R d u e c n p x r s = both r (sound t) forth (λ h. s ∙ sessions_pass t h labels grants roles B G R)
   where
     forth : r ≡ true → sound t ≡ true
     forth h =
-        let all-met = sym s ∙ h in
-        let ok = passed t keys labels grants live roles size K G L B R d u e c n p x all-met in
-        sound-i t ok (λ y l. (opens-right t ok.role ok.ties grants G y).0 (every-at _ (all-e 16 _ all-met y l) 1))
+        let all_met = sym s ∙ h in
+        let ok = passed t keys labels grants live roles size K G L B R d u e c n p x all_met in
+        sound_i t ok (λ y l. (opens_right t ok.role ok.ties grants G y).0 (every_at _ (all_e 16 _ all_met y l) 1))

@@ -3,16 +3,16 @@
 use Rattle.std.specs.Prelude.{ℕ, ◌≤◌, ◌<◌, ◌≡◌, Bool, true, false, not, cond, List, [], ◌∷◌, map, ◌⊎◌, leb, eqb, get_or}
 use Rattle.bitset.specs.Tests.{every, either}
 use Rattle.bitset.specs.Sets.{has, contains, with, without}
-use Rattle.guard.specs.Level.{userCount, sessionCount, roleCount, entityCount, isRoot}
-use Rattle.guard.specs.Tables.{noSession, noRole, noEntity, userAt, sessionAt, role_at, entityAt, hasRight, read, write, execute, own}
+use Rattle.guard.specs.Level.{user_count, session_count, role_count, entity_count, is_root}
+use Rattle.guard.specs.Tables.{no_session, no_role, no_entity, user_at, session_at, role_at, entity_at, has_right, read, write, execute, own}
 use Rattle.guard.specs.Chain.{reaches}
-use Rattle.guard.specs.Sound.{topName}
-use Rattle.guard.specs.Edits.{takeRole, dropRole, openReading, openWriting, closeBoth, put_in, renameTo, markAs}
+use Rattle.guard.specs.Sound.{top_name}
+use Rattle.guard.specs.Edits.{take_role, drop_role, open_reading, open_writing, close_both, put_in, rename_to, mark_as}
 use Rattle.guard.specs.Refusals.{◌when◌, first}
-use Rattle.guard.specs.Conditions.{nameTaken, hasChildren, roleTied, closesCycle, recordedParent}
-use Rattle.guard.specs.Requests.{Rule, loggedIn, created}
+use Rattle.guard.specs.Conditions.{name_taken, has_children, role_tied, closes_cycle, recorded_parent}
+use Rattle.guard.specs.Requests.{Rule, logged_in, created}
 use Rattle.guard.specs.Kind as kind
-use Rattle.guard.specs.Private.InForce.{fieldInRange, inRanges}
+use Rattle.guard.specs.Private.InForce.{field_in_range, in_ranges}
 use Rattle.guard.specs.declared.User.{User}
 use Rattle.guard.specs.declared.Session.{Session}
 use Rattle.guard.specs.declared.Role.{Role}
@@ -28,7 +28,7 @@ use Rattle.guard.specs.declared.view.View.{View}
 
 -- the answer of a rule on sound tables
 unfoldable pub number : Rule → Tables → Request → ℕ
-number rule t q = first (2 when not (every (map (fieldInRange q) rule.uses)) ∷ rule.refusals t q)
+number rule t q = first (2 when not (every (map (field_in_range q) rule.uses)) ∷ rule.refusals t q)
 
 -- ---- the numbers of a request, looked up
 -- a number for an index: itself below the end, and some number below it otherwise
@@ -37,28 +37,28 @@ pub record Below (end n i : ℕ) : Type 0 where
   pub same : n < end → i ≡ n
 
 pub record Placed (q : Request) (p : Places) : Type 0 where
-  pub seat : Below sessionCount q.seat p.seat
-  pub user : Below userCount q.user p.user
-  pub role : Below roleCount q.role p.role
-  pub entity : Below entityCount q.entity p.entity
-  pub parent : Below entityCount q.parent p.parent
-  pub junior : Below roleCount q.junior p.junior
-  pub fits : p.fits ≡ inRanges q
+  pub seat : Below session_count q.seat p.seat
+  pub user : Below user_count q.user p.user
+  pub role : Below role_count q.role p.role
+  pub entity : Below entity_count q.entity p.entity
+  pub parent : Below entity_count q.parent p.parent
+  pub junior : Below role_count q.junior p.junior
+  pub fits : p.fits ≡ in_ranges q
 
 -- ---- what a kind asks of the tables beside the records that it concerns
 -- openr and openw ask for the way up
-unfoldable pub asksWay : ℕ → Bool
-asksWay call = either (eqb call kind.openr) (eqb call kind.openw)
+unfoldable pub asks_way : ℕ → Bool
+asks_way call = either (eqb call kind.openr) (eqb call kind.openw)
 
 -- create and rename ask for a name among the children, delete for a child
-unfoldable pub asksName : ℕ → Bool
-asksName call = either (eqb call kind.create) (eqb call kind.rename)
+unfoldable pub asks_name : ℕ → Bool
+asks_name call = either (eqb call kind.create) (eqb call kind.rename)
 
 -- these, grant, revoke and share ask for rights
-unfoldable pub asksRights : ℕ → Bool
-asksRights call =
-    either (asksWay call)
-    (either (asksName call)
+unfoldable pub asks_rights : ℕ → Bool
+asks_rights call =
+    either (asks_way call)
+    (either (asks_name call)
     (either (eqb call kind.delete) (either (eqb call kind.grant) (either (eqb call kind.revoke) (eqb call kind.share)))))
 
 -- ---- the view, from the records and what the scans tell
@@ -81,38 +81,38 @@ view_of at session user role alive entity parent found edition =
 -- ---- what a request looks at: v holds the records that q concerns, and of what q asks of the tables the answers
 -- the entities on which session x has each right
 pub record RightsOf (t : Tables) (x : ℕ) (g : Rights) : Type 0 where
-  pub reads : (e : ℕ) → e < entityCount → has g.reads e ≡ hasRight t x read e
-  pub writes : (e : ℕ) → e < entityCount → has g.writes e ≡ hasRight t x write e
-  pub executes : (e : ℕ) → e < entityCount → has g.executes e ≡ hasRight t x execute e
-  pub owns : (e : ℕ) → e < entityCount → has g.owns e ≡ hasRight t x own e
+  pub reads : (e : ℕ) → e < entity_count → has g.reads e ≡ has_right t x read e
+  pub writes : (e : ℕ) → e < entity_count → has g.writes e ≡ has_right t x write e
+  pub executes : (e : ℕ) → e < entity_count → has g.executes e ≡ has_right t x execute e
+  pub owns : (e : ℕ) → e < entity_count → has g.owns e ≡ has_right t x own e
 
 pub record Seen (t : Tables) (q : Request) (v : View) : Type 0 where
   pub edition : v.edition ≡ t.edition
-  pub session : q.seat < sessionCount → v.session ≡ sessionAt t q.seat
-  pub user : q.user < userCount → v.user ≡ userAt t q.user
-  pub live : q.role < roleCount → v.live ≡ (role_at t q.role).live
-  pub users : q.role < roleCount → v.users ≡ (role_at t q.role).users
-  pub juniors : q.role < roleCount → v.juniors ≡ (role_at t q.role).juniors
-  pub alive : q.junior < roleCount → v.alive ≡ (role_at t q.junior).live
-  pub entity : q.entity < entityCount → v.entity ≡ entityAt t q.entity
-  pub inside : q.entity < entityCount → (entityAt t q.entity).parent < entityCount
-  pub parent : q.call ≡ kind.create → q.parent < entityCount → v.parent ≡ entityAt t q.parent
-  pub outer : eqb q.call kind.create ≡ false → q.entity < entityCount → v.parent ≡ entityAt t (recordedParent t q)
-  pub rights : asksRights q.call ≡ true → q.seat < sessionCount → RightsOf t q.seat v.found.rights
-  pub reached : asksWay q.call ≡ true → q.seat < sessionCount → q.entity < entityCount → v.found.reached ≡ reaches t q.seat q.entity
-  pub created : q.call ≡ kind.create → q.parent < entityCount → 1 ≤ q.name → q.name ≤ topName → v.found.kin ≡ nameTaken t q q.parent
-  pub renamed : q.call ≡ kind.rename → q.entity < entityCount → 1 ≤ q.name → q.name ≤ topName
-      → v.found.kin ≡ nameTaken t q (recordedParent t q)
-  pub deleted : q.call ≡ kind.delete → q.entity < entityCount → isRoot q.entity ≡ false → v.found.kin ≡ hasChildren t q
-  pub unmade : q.call ≡ kind.unmake → q.role < roleCount → v.found.kin ≡ roleTied t q
-  pub joined : q.call ≡ kind.join → q.role < roleCount → q.junior < roleCount → v.found.kin ≡ closesCycle t q
+  pub session : q.seat < session_count → v.session ≡ session_at t q.seat
+  pub user : q.user < user_count → v.user ≡ user_at t q.user
+  pub live : q.role < role_count → v.live ≡ (role_at t q.role).live
+  pub users : q.role < role_count → v.users ≡ (role_at t q.role).users
+  pub juniors : q.role < role_count → v.juniors ≡ (role_at t q.role).juniors
+  pub alive : q.junior < role_count → v.alive ≡ (role_at t q.junior).live
+  pub entity : q.entity < entity_count → v.entity ≡ entity_at t q.entity
+  pub inside : q.entity < entity_count → (entity_at t q.entity).parent < entity_count
+  pub parent : q.call ≡ kind.create → q.parent < entity_count → v.parent ≡ entity_at t q.parent
+  pub outer : eqb q.call kind.create ≡ false → q.entity < entity_count → v.parent ≡ entity_at t (recorded_parent t q)
+  pub rights : asks_rights q.call ≡ true → q.seat < session_count → RightsOf t q.seat v.found.rights
+  pub reached : asks_way q.call ≡ true → q.seat < session_count → q.entity < entity_count → v.found.reached ≡ reaches t q.seat q.entity
+  pub created : q.call ≡ kind.create → q.parent < entity_count → 1 ≤ q.name → q.name ≤ top_name → v.found.kin ≡ name_taken t q q.parent
+  pub renamed : q.call ≡ kind.rename → q.entity < entity_count → 1 ≤ q.name → q.name ≤ top_name
+      → v.found.kin ≡ name_taken t q (recorded_parent t q)
+  pub deleted : q.call ≡ kind.delete → q.entity < entity_count → is_root q.entity ≡ false → v.found.kin ≡ has_children t q
+  pub unmade : q.call ≡ kind.unmake → q.role < role_count → v.found.kin ≡ role_tied t q
+  pub joined : q.call ≡ kind.join → q.role < role_count → q.junior < role_count → v.found.kin ≡ closes_cycle t q
   pub untied : q.call ≡ kind.unjoin → v.found.kin ≡ false
 
 -- ---- what is stored where the answer is 0
 -- which records a kind changes: a session; an entity, with a role (create) or every role and session (delete); a role, with
 -- every session (revoke, unmake, unjoin)
-unfoldable pub changeOf : ℕ → Change
-changeOf call =
+unfoldable pub change_of : ℕ → Change
+change_of call =
     cond (leb call kind.close) ASession (cond (either (leb call kind.rename) (eqb call kind.share)) AnEntity ARole)
 
 -- the kinds that change an entity
@@ -120,65 +120,65 @@ abbrev pub OfEntity : ℕ → Type 0
 OfEntity call = ((kind.create ≤ call) × (call ≤ kind.rename)) ⊎ (call ≡ kind.share)
 
 -- the requests on a role after which opens end that are no longer backed
-unfoldable pub endsOpens : ℕ → Bool
-endsOpens call = either (either (eqb call kind.revoke) (eqb call kind.unmake)) (eqb call kind.unjoin)
+unfoldable pub ends_opens : ℕ → Bool
+ends_opens call = either (either (eqb call kind.revoke) (eqb call kind.unmake)) (eqb call kind.unjoin)
 
 -- the acting session s after a request of the first seven kinds; `keep` is what a drop leaves of its opens
-unfoldable pub sessionAfter : (Session → Session) → Request → Session → Session
-sessionAfter keep q s =
+unfoldable pub session_after : (Session → Session) → Request → Session → Session
+session_after keep q s =
     get_or
-    (loggedIn q
-    ∷ noSession
-    ∷ takeRole q.role s
-    ∷ keep (dropRole q.role s)
-    ∷ openReading q.entity s
-    ∷ openWriting q.entity s
+    (logged_in q
+    ∷ no_session
+    ∷ take_role q.role s
+    ∷ keep (drop_role q.role s)
+    ∷ open_reading q.entity s
+    ∷ open_writing q.entity s
     ∷ [])
-    q.call (closeBoth q.entity s)
+    q.call (close_both q.entity s)
 
 -- the entity f after create, delete, share or rename
-unfoldable pub entityAfter : Request → Entity → Entity
-entityAfter q f =
+unfoldable pub entity_after : Request → Entity → Entity
+entity_after q f =
     cond (eqb q.call kind.create) (created q)
-    (cond (eqb q.call kind.delete) noEntity (cond (eqb q.call kind.share) (markAs q.shared f) (renameTo q.name f)))
+    (cond (eqb q.call kind.delete) no_entity (cond (eqb q.call kind.share) (mark_as q.shared f) (rename_to q.name f)))
 
 -- the entities of one right after grant or revoke, where it is named
-unfoldable pub setAfter : Bool → Bool → ℕ → ℕ → ℕ
-setAfter given named e s = cond named (put_in given e s) s
+unfoldable pub set_after : Bool → Bool → ℕ → ℕ → ℕ
+set_after given named e s = cond named (put_in given e s) s
 
 -- the role p after grant or revoke of the rights named
-unfoldable pub grantedAfter : Bool → ℕ → ℕ → Role → Role
-grantedAfter given named e p =
+unfoldable pub granted_after : Bool → ℕ → ℕ → Role → Role
+granted_after given named e p =
     record {
       live = p.live;
       users = p.users;
       juniors = p.juniors;
-      reads = setAfter given (contains named read) e p.reads;
-      writes = setAfter given (contains named write) e p.writes;
-      executes = setAfter given (contains named execute) e p.executes;
-      owns = setAfter given (contains named own) e p.owns;
+      reads = set_after given (contains named read) e p.reads;
+      writes = set_after given (contains named write) e p.writes;
+      executes = set_after given (contains named execute) e p.executes;
+      owns = set_after given (contains named own) e p.owns;
     }
 
 -- the users that a role lists after list, unlist or make
-unfoldable pub usersAfter : Request → ℕ → ℕ
-usersAfter q users =
+unfoldable pub users_after : Request → ℕ → ℕ
+users_after q users =
     cond (eqb q.call kind.list) (with users q.user) (cond (eqb q.call kind.unlist) (without users q.user) users)
 
 -- the juniors of a role after join or unjoin
-unfoldable pub juniorsAfter : Request → ℕ → ℕ
-juniorsAfter q juniors =
+unfoldable pub juniors_after : Request → ℕ → ℕ
+juniors_after q juniors =
     cond (eqb q.call kind.join) (with juniors q.junior) (cond (eqb q.call kind.unjoin) (without juniors q.junior) juniors)
 
 -- the role p after grant, revoke, unmake, list, unlist, make, join or unjoin
-unfoldable pub roleAfter : Request → Role → Role
-roleAfter q p =
-    cond (eqb q.call kind.grant) (grantedAfter true q.rights q.entity p)
-    (cond (eqb q.call kind.revoke) (grantedAfter false q.rights q.entity p)
-    (cond (eqb q.call kind.unmake) noRole
+unfoldable pub role_after : Request → Role → Role
+role_after q p =
+    cond (eqb q.call kind.grant) (granted_after true q.rights q.entity p)
+    (cond (eqb q.call kind.revoke) (granted_after false q.rights q.entity p)
+    (cond (eqb q.call kind.unmake) no_role
     (record {
       live = true;
-      users = usersAfter q p.users;
-      juniors = juniorsAfter q p.juniors;
+      users = users_after q p.users;
+      juniors = juniors_after q p.juniors;
       reads = p.reads;
       writes = p.writes;
       executes = p.executes;

@@ -2,10 +2,10 @@
 ghost use Rattle.std.specs.Prelude.{ℕ, ◌<◌, ◌≡◌, List, [], ◌∷◌, leb, eqb, get_or};
 ghost use Rattle.bitset.specs.Tests.{every, all};
 ghost use Rattle.bitset.specs.Sets.{has};
-ghost use Rattle.guard.specs.Level.{sessionCount, entityCount, sessionLevel, entityLevel};
-ghost use Rattle.guard.specs.Tables.{noSession, noEntity};
-ghost use Rattle.guard.specs.Private.Tested.{packedLabel, labelNumber, dominated, members, openLevels, openLabels, sessionTest};
-ghost use Rattle.guard.specs.Private.Scan.{Gathered, opensGiven};
+ghost use Rattle.guard.specs.Level.{session_count, entity_count, session_level, entity_level};
+ghost use Rattle.guard.specs.Tables.{no_session, no_entity};
+ghost use Rattle.guard.specs.Private.Tested.{packed_label, label_number, dominated, members, open_levels, open_labels, session_test};
+ghost use Rattle.guard.specs.Private.Scan.{Gathered, opens_given};
 
 use super::record::{is_empty_session, session_in_range};
 use crate::scan::{GRANTS, Rights};
@@ -21,13 +21,13 @@ const LAST_SET: u32 = SETS - 1;
 const DEAD: u32 = 16777216;
 
 fn packed(a: Label) -> u32
-    ensures { result ≡ packedLabel a }
+    ensures { result ≡ packed_label a }
 {
     (a.grade as u32) * SETS + (a.cats as u32)
 }
 
 fn label_of(n: Entity) -> u32
-    ensures { result ≡ labelNumber n }
+    ensures { result ≡ label_number n }
 {
     if !n.live {
         return DEAD;
@@ -36,7 +36,7 @@ fn label_of(n: Entity) -> u32
 }
 
 pub fn labels(entities: [Entity; ENTITIES]) -> [u32; ENTITIES]
-    ensures { (e : ℕ) → e < entityCount → get_or result e 0 ≡ labelNumber (get_or entities e noEntity) }
+    ensures { (e : ℕ) → e < entity_count → get_or result e 0 ≡ label_number (get_or entities e no_entity) }
 {
     let mut a = [0u32; ENTITIES];
     let mut e: usize = 0;
@@ -86,7 +86,7 @@ fn equals_each(labels: &[u32; ENTITIES], label: u32, set: u64) -> bool
 // The entities of at least a level.
 fn from_level(level: u32) -> u64
     requires { level < 4 }
-    ensures { (e : ℕ) → e < entityCount → has result e ≡ leb level (entityLevel e) }
+    ensures { (e : ℕ) → e < entity_count → has result e ≡ leb level (entity_level e) }
 {
     if level == 0 {
         return 0xffff_ffff_ffff_ffff;
@@ -103,7 +103,7 @@ fn from_level(level: u32) -> u64
 // The entities of at most a level.
 pub fn to_level(level: u32) -> u64
     requires { level < 4 }
-    ensures { (e : ℕ) → e < entityCount → has result e ≡ leb (entityLevel e) level }
+    ensures { (e : ℕ) → e < entity_count → has result e ≡ leb (entity_level e) level }
 {
     if level == 0 {
         return 0xffff;
@@ -120,7 +120,7 @@ pub fn to_level(level: u32) -> u64
 // Whether what `s`, at a level, has open is of the levels that it may have open: for reading, in edition 2, of any.
 fn levels_allowed(edition: u8, level: u32, s: Session) -> bool
     requires { level < 4 }
-    ensures { result ≡ openLevels edition level s }
+    ensures { result ≡ open_levels edition level s }
 {
     ((edition != EDITION_1) | bitset::contains64(from_level(level), s.reading))
         & bitset::contains64(to_level(level), s.writing)
@@ -128,7 +128,7 @@ fn levels_allowed(edition: u8, level: u32, s: Session) -> bool
 
 // Whether it has the labels that `s` may have open.
 fn labels_allowed(labels: &[u32; ENTITIES], s: Session) -> bool
-    ensures { result ≡ openLabels labels.now s }
+    ensures { result ≡ open_labels labels.now s }
 {
     if !dominates_each(labels, s.label, s.reading) {
         return false;
@@ -139,7 +139,7 @@ fn labels_allowed(labels: &[u32; ENTITIES], s: Session) -> bool
 // Whether `s`, at a level, is as soundness asks in the edition; `roles` are the live ones.
 fn session_ok(labels: &[u32; ENTITIES], roles: u16, edition: u8, level: u32, s: Session) -> bool
     requires { level < 4 }
-    ensures { result ≡ sessionTest labels.now roles edition level s }
+    ensures { result ≡ session_test labels.now roles edition level s }
 {
     if !s.live {
         return is_empty_session(s);
@@ -163,7 +163,7 @@ fn session_sound(
     s: Session,
 ) -> bool
     requires { level < 4 }
-    ensures { (grants : List ℕ) → Gathered grants s.roles rights → result ≡ every (sessionTest labels.now roles edition level s ∷ opensGiven grants s ∷ []) }
+    ensures { (grants : List ℕ) → Gathered grants s.roles rights → result ≡ every (session_test labels.now roles edition level s ∷ opens_given grants s ∷ []) }
 {
     if !session_ok(labels, roles, edition, level, s) {
         return false;
@@ -179,7 +179,7 @@ pub fn sessions_ok(
     roles: u16,
     edition: u8,
 ) -> bool
-    ensures { result ≡ all sessionCount (λ s. every (sessionTest labels.now roles edition (sessionLevel s) (get_or sessions s noSession) ∷ opensGiven grants.now (get_or sessions s noSession) ∷ [])) }
+    ensures { result ≡ all session_count (λ s. every (session_test labels.now roles edition (session_level s) (get_or sessions s no_session) ∷ opens_given grants.now (get_or sessions s no_session) ∷ [])) }
 {
     let mut held: u16 = 0;
     let mut rights = scan::gather(grants, 0);

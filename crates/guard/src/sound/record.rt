@@ -3,12 +3,12 @@
 // 65,535, is not tested.
 ghost use Rattle.std.specs.Prelude.{◌%◌, ◌≡◌, get_or};
 ghost use Rattle.bitset.specs.Tests.{all};
-ghost use Rattle.guard.specs.Level.{userCount, entityCount};
-ghost use Rattle.guard.specs.Tables.{noUser, noEntity};
-ghost use Rattle.guard.specs.Label.{sameLabel, no_label};
-ghost use Rattle.guard.specs.Sound.{editionInRange, isRootRecord, isEmptyEntity, isEmptySession};
-ghost use Rattle.guard.specs.Private.Tested.{fits, entityFits, entityTest};
-ghost use Rattle.guard.specs.Private.InForce.{userInRange, sessionInRange};
+ghost use Rattle.guard.specs.Level.{user_count, entity_count};
+ghost use Rattle.guard.specs.Tables.{no_user, no_entity};
+ghost use Rattle.guard.specs.Label.{same_label, no_label};
+ghost use Rattle.guard.specs.Sound.{edition_in_range, is_root_record, is_empty_entity, is_empty_session};
+ghost use Rattle.guard.specs.Private.Tested.{fits, entity_fits, entity_test};
+ghost use Rattle.guard.specs.Private.InForce.{user_in_range, session_in_range};
 
 use crate::sizes::{
     CONTAINER, EDITION_1, EDITION_2, ENTITIES, LEVEL_ENTITIES, SHARED, TOP_LEVEL, USERS,
@@ -23,25 +23,25 @@ const ENTITY_COUNT: u8 = ENTITIES as u8;
 const LEVEL: u8 = LEVEL_ENTITIES as u8;
 
 fn is_no_label(a: Label) -> bool
-    ensures { result ≡ sameLabel a no_label }
+    ensures { result ≡ same_label a no_label }
 {
     (a.grade == 0) & (a.cats == 0)
 }
 
 fn user_in_range(u: User) -> bool
-    ensures { result ≡ userInRange u }
+    ensures { result ≡ user_in_range u }
 {
     (u.ceiling <= TOP_LEVEL) & labels::in_range(u.clearance)
 }
 
 pub fn edition_in_range(edition: u8) -> bool
-    ensures { result ≡ editionInRange edition }
+    ensures { result ≡ edition_in_range edition }
 {
     (EDITION_1 <= edition) & (edition <= EDITION_2)
 }
 
 pub fn users_in_range(users: [User; USERS]) -> bool
-    ensures { result ≡ all userCount (λ u. userInRange (get_or users u noUser)) }
+    ensures { result ≡ all user_count (λ u. user_in_range (get_or users u no_user)) }
 {
     let mut u: usize = 0;
     while u < USERS {
@@ -54,13 +54,13 @@ pub fn users_in_range(users: [User; USERS]) -> bool
 }
 
 pub fn session_in_range(s: Session) -> bool
-    ensures { result ≡ sessionInRange s }
+    ensures { result ≡ session_in_range s }
 {
     (s.user < USER_COUNT) & labels::in_range(s.label)
 }
 
 pub fn is_empty_session(s: Session) -> bool
-    ensures { result ≡ isEmptySession s }
+    ensures { result ≡ is_empty_session s }
 {
     (s.user == 0)
         & (is_no_label(s.label) & ((s.roles == 0) & ((s.reading == 0) & (s.writing == 0))))
@@ -68,20 +68,20 @@ pub fn is_empty_session(s: Session) -> bool
 
 // In its ranges, and with the mark 0 if it is an object: a mark is at most the kind, which is at most 1.
 fn entity_fits(n: Entity) -> bool
-    ensures { result ≡ entityFits n }
+    ensures { result ≡ entity_fits n }
 {
     (n.kind <= CONTAINER)
         & ((n.shared <= n.kind) & ((n.parent < ENTITY_COUNT) & labels::in_range(n.label)))
 }
 
 fn is_root_record(e: u8, n: Entity) -> bool
-    ensures { result ≡ isRootRecord e n }
+    ensures { result ≡ is_root_record e n }
 {
     n.live & ((n.kind == CONTAINER) & (is_no_label(n.label) & ((n.name == 0) & (n.parent == e))))
 }
 
 fn is_empty_entity(n: Entity) -> bool
-    ensures { result ≡ isEmptyEntity n }
+    ensures { result ≡ is_empty_entity n }
 {
     (n.kind == 0) & ((n.parent == 0) & ((n.name == 0) & (is_no_label(n.label) & (n.shared == 0))))
 }
@@ -99,7 +99,7 @@ fn fits_in(e: u8, n: Entity, p: Entity) -> bool
 // siblings and its chain of parents. One that is not live is no root and is empty; its ranges follow, and those of a root but
 // for its mark.
 fn entity_ok(e: u8, n: Entity, p: Entity) -> bool
-    ensures { result ≡ entityTest e n p }
+    ensures { result ≡ entity_test e n p }
 {
     if !n.live {
         return (e % LEVEL != 0) & is_empty_entity(n);
@@ -111,7 +111,7 @@ fn entity_ok(e: u8, n: Entity, p: Entity) -> bool
 }
 
 pub fn entities_ok(entities: [Entity; ENTITIES]) -> bool
-    ensures { result ≡ all entityCount (λ e. entityTest e (get_or entities e noEntity) (get_or entities ((get_or entities e noEntity).parent % 64) noEntity)) }
+    ensures { result ≡ all entity_count (λ e. entity_test e (get_or entities e no_entity) (get_or entities ((get_or entities e no_entity).parent % 64) no_entity)) }
 {
     let mut e: u8 = 0;
     while e < ENTITY_COUNT {

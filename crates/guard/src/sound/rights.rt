@@ -2,10 +2,10 @@
 ghost use Rattle.std.specs.Prelude.{ℕ, ◌<◌, ◌≡◌, true, cond, eqb, get_or};
 ghost use Rattle.bitset.specs.Tests.{all};
 ghost use Rattle.bitset.specs.Sets.{has, with};
-ghost use Rattle.guard.specs.Level.{roleCount, roleLevel};
-ghost use Rattle.guard.specs.Tables.{noRole};
-ghost use Rattle.guard.specs.Private.Tested.{grantableIn, roleTest};
-ghost use Rattle.guard.specs.Private.Scan.{tieTest};
+ghost use Rattle.guard.specs.Level.{role_count, role_level};
+ghost use Rattle.guard.specs.Tables.{no_role};
+ghost use Rattle.guard.specs.Private.Tested.{grantable_in, role_test};
+ghost use Rattle.guard.specs.Private.Scan.{tie_test};
 
 use super::opens::to_level;
 use crate::scan::GRANTS;
@@ -33,7 +33,7 @@ fn bound(live: bool, set: u64) -> u64
 
 // Whether the role `r`, whose record is `p`, is as soundness asks; `set` are the live entities of at most its level.
 fn role_ok(set: u64, r: u8, p: Role) -> bool
-    ensures { result ≡ roleTest (has set) r p }
+    ensures { result ≡ role_test (has set) r p }
 {
     if !p.live & ((r % LEVEL == 0) | (p.users != 0) | (p.juniors != 0)) {
         return false;
@@ -43,7 +43,7 @@ fn role_ok(set: u64, r: u8, p: Role) -> bool
 
 // `set`, and `r` where it is live.
 fn listed(set: u16, r: u8, live: bool) -> u16
-    requires { r < roleCount }
+    requires { r < role_count }
     ensures { result ≡ cond live (with set r) set }
 {
     if !live {
@@ -54,8 +54,8 @@ fn listed(set: u16, r: u8, live: bool) -> u16
 
 // The roles, where `live` are the live entities.
 pub fn roles_ok(roles: [Role; ROLES], live: u64) -> Roles
-    ensures ok_value { result.ok ≡ all roleCount (λ k. roleTest (grantableIn live k) k (get_or roles k noRole)) }
-    ensures k_value { result.ok ≡ true → (k : ℕ) → k < roleCount → has result.live k ≡ (get_or roles k noRole).live }
+    ensures ok_value { result.ok ≡ all role_count (λ k. role_test (grantable_in live k) k (get_or roles k no_role)) }
+    ensures k_value { result.ok ≡ true → (k : ℕ) → k < role_count → has result.live k ≡ (get_or roles k no_role).live }
 {
     let mut found: u16 = 0;
     let mut r: u8 = 0;
@@ -77,7 +77,7 @@ pub fn roles_ok(roles: [Role; ROLES], live: u64) -> Roles
 // The roles of a level.
 fn of_level(level: u32) -> u16
     requires { level < 4 }
-    ensures { (j : ℕ) → j < roleCount → has result j ≡ eqb (roleLevel j) level }
+    ensures { (j : ℕ) → j < role_count → has result j ≡ eqb (role_level j) level }
 {
     if level == 0 {
         return 0x000f;
@@ -93,8 +93,8 @@ fn of_level(level: u32) -> u16
 
 // Whether the ties of role `r` join it to roles of its level among those that are live, and it is not below itself.
 fn tie_ok(grants: &[u64; GRANTS], live: u16, r: u32) -> bool
-    requires { r < roleCount }
-    ensures { result ≡ tieTest grants.now live r }
+    requires { r < role_count }
+    ensures { result ≡ tie_test grants.now live r }
 {
     let juniors = scan::juniors(grants, r as usize);
     if juniors == 0 {
@@ -109,7 +109,7 @@ fn tie_ok(grants: &[u64; GRANTS], live: u16, r: u32) -> bool
 
 // Every role so.
 pub fn ties_ok(grants: &[u64; GRANTS], live: u16) -> bool
-    ensures { result ≡ all roleCount (tieTest grants.now live) }
+    ensures { result ≡ all role_count (tie_test grants.now live) }
 {
     let mut r = 0u32;
     while r < ROLE_END {

@@ -2,8 +2,8 @@
 ghost use Rattle.std.specs.Prelude.{ℕ, ◌≤◌, ◌<◌, ◌≡◌, cond, eqb, get_or};
 ghost use Rattle.bitset.specs.Tests.{all};
 ghost use Rattle.bitset.specs.Sets.{has};
-ghost use Rattle.guard.specs.Level.{entityCount, entitiesPerLevel};
-ghost use Rattle.guard.specs.Private.Tested.{key_of, ownKey, ends, parentByKey, liveByKey};
+ghost use Rattle.guard.specs.Level.{entity_count, entities_per_level};
+ghost use Rattle.guard.specs.Private.Tested.{key_of, own_key, ends, parent_by_key, live_by_key};
 ghost use Rattle.guard.specs.Private.Scan.{Keys};
 
 use crate::Entity;
@@ -40,8 +40,8 @@ pub fn keys(entities: [Entity; ENTITIES]) -> [u32; ENTITIES]
 
 // The entities that are live: of a key, bit 24 alone tells it.
 pub fn live_set(keys: &[u32; ENTITIES]) -> u64
-    requires { (e : ℕ) → e < entityCount → get_or keys.now e 0 ≤ 16777216 }
-    ensures { (e : ℕ) → e < entityCount → has result e ≡ liveByKey keys.now e }
+    requires { (e : ℕ) → e < entity_count → get_or keys.now e 0 ≤ 16777216 }
+    ensures { (e : ℕ) → e < entity_count → has result e ≡ live_by_key keys.now e }
 {
     let mut dead: u64 = 0;
     let mut e = ENTITIES;
@@ -60,8 +60,8 @@ fn counted(a: u32, b: u32) -> u32
 
 // Whether `e` has no name, or no other entity of its level has its key.
 fn has_own_key(keys: &[u32; ENTITIES], e: usize) -> bool
-    requires { e < entityCount }
-    ensures { result ≡ ownKey keys.now e }
+    requires { e < entity_count }
+    ensures { result ≡ own_key keys.now e }
 {
     let k = keys[e];
     if k % NAMES == 0 {
@@ -79,7 +79,7 @@ fn has_own_key(keys: &[u32; ENTITIES], e: usize) -> bool
 }
 
 pub fn have_own_keys(keys: &[u32; ENTITIES]) -> bool
-    ensures { result ≡ all entityCount (ownKey keys.now) }
+    ensures { result ≡ all entity_count (own_key keys.now) }
 {
     let mut e: usize = 0;
     while e < ENTITIES {
@@ -92,8 +92,8 @@ pub fn have_own_keys(keys: &[u32; ENTITIES]) -> bool
 }
 
 fn ends_at_root(keys: &[u32; ENTITIES], e: usize) -> bool
-    requires { e < entityCount }
-    ensures { result ≡ ends (parentByKey keys.now) entitiesPerLevel e }
+    requires { e < entity_count }
+    ensures { result ≡ ends (parent_by_key keys.now) entities_per_level e }
 {
     let mut at = e;
     let mut left = LEVEL_ENTITIES;
@@ -108,7 +108,7 @@ fn ends_at_root(keys: &[u32; ENTITIES], e: usize) -> bool
 }
 
 pub fn end_at_root(keys: &[u32; ENTITIES]) -> bool
-    ensures { result ≡ all entityCount (ends (parentByKey keys.now) entitiesPerLevel) }
+    ensures { result ≡ all entity_count (ends (parent_by_key keys.now) entities_per_level) }
 {
     let mut e: usize = 0;
     while e < ENTITIES {

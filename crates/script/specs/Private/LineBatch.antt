@@ -2,36 +2,36 @@
 -- cite them.
 use Rattle.std.specs.Prelude.{ℕ, ◌+◌, ◌-◌, ◌*◌, ◌≤◌, ◌<◌, ◌≡◌, Bool, true, false, not, List, [], ◌∷◌, ◌++◌, length, take, drop, get_or}
 use Rattle.guard.specs.Step.{run, answers}
-use Rattle.guard.specs.Batch.{rowLength, requests}
+use Rattle.guard.specs.Batch.{row_length, requests}
 use Rattle.guard.specs.Private.Inside.{row_of}
 use Rattle.guard.specs.declared.Tables.{Tables}
-use Rattle.script.specs.Report.{unreadAnswer, lineText, lineRoom, lastLine}
+use Rattle.script.specs.Report.{unread_answer, line_text, line_room, last_line}
 use Rattle.script.specs.Names.{Ordered}
-use Rattle.script.specs.Run.{bench, toldFirst, fromLine}
+use Rattle.script.specs.Run.{bench, told_first, from_line}
 use Rattle.script.specs.declared.line.Line.{Line}
 use Rattle.script.specs.declared.line.Line.TheVariants.{Ask, SetUser, Bad}
 use Rattle.script.specs.declared.batch.Gathered.{Gathered}
 
 -- how many lines a batch takes
-abbrev pub batchLines : ℕ
-batchLines = 256
+abbrev pub batch_lines : ℕ
+batch_lines = 256
 
 -- ---- what a line adds to a batch
-unfoldable pub isRequest : Line → Bool
-isRequest (Ask q) = true
-isRequest (SetUser user level cats ceiling) = false
-isRequest Bad = false
+unfoldable pub is_request : Line → Bool
+is_request (Ask q) = true
+is_request (SetUser user level cats ceiling) = false
+is_request Bad = false
 
-unfoldable pub numbersOf : Line → List ℕ
-numbersOf (Ask q) = row_of q
-numbersOf (SetUser user level cats ceiling) = []
-numbersOf Bad = []
+unfoldable pub numbers_of : Line → List ℕ
+numbers_of (Ask q) = row_of q
+numbers_of (SetUser user level cats ceiling) = []
+numbers_of Bad = []
 
 -- A `user` line that is allowed is in no batch: it sets a record between two requests.
-unfoldable pub isAllowed : Bool → Line → Bool
-isAllowed shut (Ask q) = false
-isAllowed shut (SetUser user level cats ceiling) = not shut
-isAllowed shut Bad = false
+unfoldable pub is_allowed : Bool → Line → Bool
+is_allowed shut (Ask q) = false
+is_allowed shut (SetUser user level cats ceiling) = not shut
+is_allowed shut Bad = false
 
 -- ---- the output for lines
 -- `marks` tells of each line whether it asks a request; how many do
@@ -46,25 +46,25 @@ asked (m ∷ ms) = one m + asked ms
 -- from number n on, given the answers to their requests: 17 where a line asks none
 unfoldable pub said : Bool → ℕ → ℕ
 said true a = a
-said false a = unreadAnswer
+said false a = unread_answer
 
 unfoldable pub texts : ℕ → List Bool → List ℕ → List ℕ
 texts n [] given = []
-texts n (m ∷ ms) given = lineText n (said m (get_or given 0 0)) ++ texts (n + 1) ms (drop (one m) given)
+texts n (m ∷ ms) given = line_text n (said m (get_or given 0 0)) ++ texts (n + 1) ms (drop (one m) given)
 
 -- ---- batches
 -- room for a batch: its requests as rows, of each line whether it asks one, the answers, and the roles told, which are not printed
 pub record Lent (rows : List ℕ) (marks : List Bool) (answers roles : List ℕ) : Type 0 where
-  pub rowsRoom : length rows ≡ rowLength * batchLines
-  pub marksRoom : length marks ≡ batchLines
-  pub answersRoom : length answers ≡ batchLines
-  pub rolesRoom : length roles ≡ batchLines
+  pub rows_room : length rows ≡ row_length * batch_lines
+  pub marks_room : length marks ≡ batch_lines
+  pub answers_room : length answers ≡ batch_lines
+  pub roles_room : length roles ≡ batch_lines
 
 -- how many lines a batch may take: with room for their answers, and none after the last line that is read
 pub record Most (done room m : ℕ) : Type 0 where
-  pub fits : m ≤ batchLines
-  pub space : lineRoom * m ≤ room
-  pub last : m ≤ lastLine - done
+  pub fits : m ≤ batch_lines
+  pub space : line_room * m ≤ room
+  pub last : m ≤ last_line - done
 
 -- whole lines at the front of s, `shut` telling whether `user` is shut out before them. Whatever input follows, what was left
 -- to tell is what the guard answers to their requests, with 17 where a line asks none, and then what is left to tell behind
@@ -74,9 +74,9 @@ pub record Batched (at : List ℕ) (shut : Bool) (s : List ℕ) (most : ℕ) (ro
   pub within : g.used ≤ length s
   pub moves : 0 < g.lines → 0 < g.used
   pub marked : g.lines ≤ length marks
-  pub stored : rowLength * g.count ≤ length rows
+  pub stored : row_length * g.count ≤ length rows
   pub count : g.count ≡ asked (take g.lines marks)
-  pub goes : (header : List (List ℕ)) → Ordered header at → (t : Tables) (n : ℕ) → n + g.lines ≤ lastLine → (more : List ℕ)
-      → fromLine header (bench t shut) n (s ++ more)
-      ≡ toldFirst (texts (n + 1) (take g.lines marks) (answers t (requests g.count rows)))
-      (fromLine header (bench (run t (requests g.count rows)) g.shut) (n + g.lines) (drop g.used s ++ more))
+  pub goes : (header : List (List ℕ)) → Ordered header at → (t : Tables) (n : ℕ) → n + g.lines ≤ last_line → (more : List ℕ)
+      → from_line header (bench t shut) n (s ++ more)
+      ≡ told_first (texts (n + 1) (take g.lines marks) (answers t (requests g.count rows)))
+      (from_line header (bench (run t (requests g.count rows)) g.shut) (n + g.lines) (drop g.used s ++ more))

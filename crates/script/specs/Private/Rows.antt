@@ -3,7 +3,7 @@
 use Rattle.std.specs.Prelude.{ℕ, zero, suc, ◌+◌, ◌%◌, ◌≡◌, Bool, true, false, not, cond, ◌&&◌, List, [], ◌∷◌, eqb, leb, ltb, length, get_or, set, drop, replicate}
 use Rattle.bitset.specs.Sets.{has, with}
 use Rattle.script.specs.Text.{bytes, same, values}
-use Rattle.script.specs.Names.{placeCount, column}
+use Rattle.script.specs.Names.{place_count, column}
 use Rattle.script.specs.Line.{value_of, words, Numbers, unreadable, joined}
 use Rattle.script.specs.Private.Slices.{leading}
 use Rattle.script.specs.declared.line.Value.{Value}
@@ -51,7 +51,7 @@ no_word = 20
 
 -- the row of no values: no word, and 0 under each other name
 unfoldable pub blank : List ℕ
-blank = set (replicate placeCount 0) 0 no_word
+blank = set (replicate place_count 0) 0 no_word
 
 -- of the first j values the numbers, each under its name; the set of their names; and whether each has a form
 unfoldable pub gathered : List ℕ → List (List ℕ) → ℕ → List ℕ
@@ -67,16 +67,16 @@ fine at vs zero = true
 fine at vs (suc j) = fine at vs j && leb (code_in at vs j) 100000
 
 -- what is none of the names has the place behind the last: how many names there are, and how many behind `call`
-abbrev pub nameCount : ℕ
-nameCount = 14
+abbrev pub name_count : ℕ
+name_count = 14
 
-abbrev pub fieldCount : ℕ
-fieldCount = 13
+abbrev pub field_count : ℕ
+field_count = 13
 
 -- so many values are as many as there are names: a name stands at the last place, and none at the next
 unfoldable pub fills : List ℕ → ℕ → Bool
 fills at zero = false
-fills at (suc j) = ltb (suc j) placeCount && (not (eqb (name_at at j) nameCount) && eqb (name_at at (suc j)) nameCount)
+fills at (suc j) = ltb (suc j) place_count && (not (eqb (name_at at j) name_count) && eqb (name_at at (suc j)) name_count)
 
 -- the row of a line l: good where it has as many values as there are names, each of a form
 pub record IsRow (at l vals : List ℕ) (r : Row) : Type 0 where
@@ -87,20 +87,20 @@ pub record IsRow (at l vals : List ℕ) (r : Row) : Type 0 where
 
 -- ---- fields
 -- what a field is taken as, by whether the word uses it and whether its value is a number
-unfoldable pub takenAs : Bool → Bool → ℕ → Taken
-takenAs true true n = Number n
-takenAs true false n = Fault
-takenAs false true n = Fault
-takenAs false false n = Number n
+unfoldable pub taken_as : Bool → Bool → ℕ → Taken
+taken_as true true n = Number n
+taken_as true false n = Fault
+taken_as false true n = Fault
+taken_as false false n = Number n
 
 unfoldable pub joins : Taken → Numbers → Numbers
 joins (Number n) rest = joined n rest
 joins Fault rest = unreadable
 
 -- n fields of a row from name i on, in front of the rest; `uses` is the set of the used ones, `given` that of the numbers
-unfoldable pub takeFrom : ℕ → ℕ → List ℕ → ℕ → ℕ → Numbers → Numbers
-takeFrom uses given vals i zero rest = rest
-takeFrom uses given vals i (suc n) rest = joins (takenAs (has uses i) (has given i) (get_or vals i 0)) (takeFrom uses given vals (suc i) n rest)
+unfoldable pub take_from : ℕ → ℕ → List ℕ → ℕ → ℕ → Numbers → Numbers
+take_from uses given vals i zero rest = rest
+take_from uses given vals i (suc n) rest = joins (taken_as (has uses i) (has given i) (get_or vals i 0)) (take_from uses given vals (suc i) n rest)
 
 -- numbers in front of the rest, and the first six so
 unfoldable pub front : List ℕ → Numbers → Numbers

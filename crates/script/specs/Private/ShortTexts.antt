@@ -9,18 +9,18 @@ packed n [] = n
 packed n (b ∷ s) = packed (256 * n + b) s
 
 -- 1 and behind it up to seven bytes; 0 for more
-unfoldable pub textKey : List ℕ → ℕ
-textKey s = cond (leb (length s) 7) (packed 1 s) 0
+unfoldable pub text_key : List ℕ → ℕ
+text_key s = cond (leb (length s) 7) (packed 1 s) 0
 
 -- where the keys of texts of four bytes begin and end, and where those of five end
-abbrev pub fourFrom : ℕ
-fourFrom = 4294967296
+abbrev pub four_from : ℕ
+four_from = 4294967296
 
-abbrev pub fourEnd : ℕ
-fourEnd = 8589934592
+abbrev pub four_end : ℕ
+four_end = 8589934592
 
-abbrev pub fiveEnd : ℕ
-fiveEnd = 2199023255552
+abbrev pub five_end : ℕ
+five_end = 2199023255552
 
 -- the place of the first k among numbers, or how many there are
 abbrev pub spot : ℕ → List ℕ → ℕ
@@ -29,10 +29,10 @@ spot k (n ∷ ns) = cond (eqb k n) 0 (suc (spot k ns))
 
 -- which of the words has the key k
 unfoldable pub word_of : ℕ → ℕ
-word_of k = spot k (map textKey words)
+word_of k = spot k (map text_key words)
 
 -- s begins with n bytes that are the word w, and a space behind them; where w is no word nothing is said of s
 pub record Begins (s : List ℕ) (w n : ℕ) : Type 0 where
   pub within : n < 7
-  pub word : w < no_word → w ≡ word_of (textKey (take n s))
+  pub word : w < no_word → w ≡ word_of (text_key (take n s))
   pub space : w < no_word → get_or s n 0 ≡ 32

@@ -2,10 +2,10 @@
 -- step, which does at most one line.
 use Rattle.std.specs.Prelude.{ℕ, ◌+◌, ◌-◌, ◌≤◌, ◌≡◌, Bool, false, List, length, drop}
 use Rattle.script.specs.Text.{values}
-use Rattle.script.specs.Names.{isNames, Ordered}
-use Rattle.script.specs.Line.{readLine}
-use Rattle.script.specs.Report.{Answered, unreadAnswer, answerLine, lineText}
-use Rattle.script.specs.Run.{atNames, atLines, bench, benchOf, Worked, Stopped}
+use Rattle.script.specs.Names.{is_names, Ordered}
+use Rattle.script.specs.Line.{read_line}
+use Rattle.script.specs.Report.{Answered, unread_answer, answer_line, line_text}
+use Rattle.script.specs.Run.{at_names, at_lines, bench, bench_of, Worked, Stopped}
 use Rattle.script.specs.Private.Slices.{Put}
 use Rattle.script.specs.declared.line.Line.{Line}
 use Rattle.script.specs.declared.runner.Runner.{Runner}
@@ -14,16 +14,16 @@ use Rattle.script.specs.declared.runner.Said.{Said}
 use Rattle.script.specs.declared.runner.Ran.{Ran}
 
 -- the phase of a run that is over
-abbrev pub atEnd : ℕ
-atEnd = 3
+abbrev pub at_end : ℕ
+at_end = 3
 
-abbrev pub saidBy : Reply → Answered
-saidBy a = record { bench = bench a.tables a.shut; answer = a.answer }
+abbrev pub said_by : Reply → Answered
+said_by a = record { bench = bench a.tables a.shut; answer = a.answer }
 
 -- ---- one line of values, by what it asks
-unfoldable pub afterLine : Runner → Line → Runner
-afterLine r asked =
-    let said = answerLine (benchOf r) asked in
+unfoldable pub after_line : Runner → Line → Runner
+after_line r asked =
+    let said = answer_line (bench_of r) asked in
     record {
       tables = said.bench.tables;
       shut = said.bench.shut;
@@ -34,27 +34,27 @@ afterLine r asked =
     }
 
 unfoldable pub text_of : Runner → Line → List ℕ
-text_of r asked = lineText (r.done + 1) (answerLine (benchOf r) asked).answer
+text_of r asked = line_text (r.done + 1) (answer_line (bench_of r) asked).answer
 
 pub record Spoken (r : Runner) (l old new : List ℕ) (x : Said) : Type 0 where
   pub asked : Line
-  pub read : (header : List (List ℕ)) → Ordered header r.at → asked ≡ readLine header l
-  pub next : x.runner ≡ afterLine r asked
+  pub read : (header : List (List ℕ)) → Ordered header r.at → asked ≡ read_line header l
+  pub next : x.runner ≡ after_line r asked
   pub puts : Put old 0 (text_of r asked) new x.wrote
 
 -- ---- the names line
-abbrev pub withNames : Runner → List ℕ → Runner
-withNames r at = record { tables = r.tables; shut = r.shut; at = at; phase = atLines; done = 1; skip = false }
+abbrev pub with_names : Runner → List ℕ → Runner
+with_names r at = record { tables = r.tables; shut = r.shut; at = at; phase = at_lines; done = 1; skip = false }
 
 abbrev pub over : Runner → Runner
-over r = record { tables = r.tables; shut = r.shut; at = r.at; phase = atEnd; done = r.done; skip = r.skip }
+over r = record { tables = r.tables; shut = r.shut; at = r.at; phase = at_end; done = r.done; skip = r.skip }
 
 pub data Named (r : Runner) (l old : List ℕ) : List ℕ → Said → Type 0 where
-  good : (at : List ℕ) → Ordered (values l) at → Named r l old old (record { runner = withNames r at; wrote = 0 })
-  bad : {new : List ℕ} {n : ℕ} → isNames (values l) ≡ false → Put old 0 (lineText 1 unreadAnswer) new n → Named r l old new (record { runner = over r; wrote = n })
+  good : (at : List ℕ) → Ordered (values l) at → Named r l old old (record { runner = with_names r at; wrote = 0 })
+  bad : {new : List ℕ} {n : ℕ} → is_names (values l) ≡ false → Put old 0 (line_text 1 unread_answer) new n → Named r l old new (record { runner = over r; wrote = n })
 
 -- ---- where a step of a call on a piece ends
 pub record Stepped (r : Runner) (piece : List ℕ) (end : Bool) (old new : List ℕ) (x : Ran) : Type 0 where
   pub did : Worked r piece end old new x
-  pub begun : atNames ≤ x.runner.phase
+  pub begun : at_names ≤ x.runner.phase
   pub stops : x.used ≡ 0 → Stopped x.runner (drop x.used piece) end (length old - x.wrote)

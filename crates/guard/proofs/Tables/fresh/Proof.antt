@@ -5,10 +5,10 @@ use mathlib.Core.List.{[], ◌∷◌}
 use lib.ListN.{length}
 use borrow.Author.Tests.{eq-eqb}
 use Rattle.bitset.specs.Tests.{every}
-use Rattle.guard.specs.Sound.{usersInRange, usersInRangeIn, editionInRange}
+use Rattle.guard.specs.Sound.{users_in_range, users_in_range_in, edition_in_range}
 use Rattle.guard.specs.Fresh.{fresh, build}
 use Rattle.guard.proofs.Soundness.Loops.{long}
-use Rattle.guard.proofs.Soundness.Tests.{and-two}
+use Rattle.guard.proofs.Soundness.Tests.{and_two}
 use Rattle.guard.proofs.Filling.{every_two}
 use borrow.Author.Rules.{rules}
 use Rattle.guard.proofs.Tables.fresh.Statement.{statement}
@@ -21,10 +21,10 @@ abbrev start : tie.After-edition-in-range → tie.Start
 start c = c.before.before.before
 
 tested : (c : tie.After-edition-in-range)
-    → (c.before.users-in-range.result && c.edition-in-range.result) ≡ every (usersInRange (start c).args.users ∷ editionInRange (start c).args.edition ∷ [])
-unfolding usersInRangeIn
+    → (c.before.users-in-range.result && c.edition-in-range.result) ≡ every (users_in_range (start c).args.users ∷ edition_in_range (start c).args.edition ∷ [])
+unfolding users_in_range_in
 tested c =
-    and-two _ _ _ _ (c.before.users-in-range.ensures ∙ sym (every_two _ _ (eq-eqb _ _ (many (start c))))) c.edition-in-range.ensures
+    and_two _ _ _ _ (c.before.users-in-range.ensures ∙ sym (every_two _ _ (eq-eqb _ _ (many (start c))))) c.edition-in-range.ensures
 
 fresh-over-requires : tie.Need-fresh-over-requires
 fresh-over-requires c κs = search rules

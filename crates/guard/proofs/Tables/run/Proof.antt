@@ -8,32 +8,32 @@ use mathlib.Core.Logic.{⊎_elim}
 use native.Mathlib.Omega.{arith}
 use lib.ListN.{length, set, length-set, length-append, length-replicate, length-drop}
 use borrow.Author.Tests.{not-true, not-false}
-use Rattle.guard.specs.Label.{allCategories}
+use Rattle.guard.specs.Label.{all_categories}
 use Rattle.guard.specs.Sound.{sound}
-use Rattle.guard.specs.Requests.{ruleOf}
-use Rattle.guard.specs.Told.{roleByte}
-use Rattle.guard.specs.Step.{roleOpening}
+use Rattle.guard.specs.Requests.{rule_of}
+use Rattle.guard.specs.Told.{role_byte}
+use Rattle.guard.specs.Step.{role_opening}
 use Rattle.guard.specs.Kind as kind
-use Rattle.guard.specs.Batch.{batchCount}
+use Rattle.guard.specs.Batch.{batch_count}
 use Rattle.guard.specs.Private.Inside.{number, Placed, OfEntity}
 use Rattle.guard.specs.Private.Scan.{Keys, Grants}
-use Rattle.guard.specs.Private.InForce.{inRanges}
+use Rattle.guard.specs.Private.InForce.{in_ranges}
 use Rattle.guard.specs.declared.Tables.{Tables}
 use Rattle.guard.specs.declared.Request.{Request}
 use Rattle.guard.specs.declared.change.Change.TheVariants.{Session as ASession, Entity as AnEntity, Role as ARole}
-use Rattle.guard.proofs.Laws.Sound.{Formed, formed-e}
-use Rattle.guard.proofs.Ranges.{in-create, in-delete}
-use Rattle.guard.proofs.Logs.{batch-room, batch-space, batch-rows, set-again}
-use Rattle.guard.proofs.Columns.{keys-set, keys-other, grants-other, grants-role, grants-each}
+use Rattle.guard.proofs.Laws.Sound.{Formed, formed_e}
+use Rattle.guard.proofs.Ranges.{in_create, in_delete}
+use Rattle.guard.proofs.Logs.{batch_room, batch_space, batch_rows, set_again}
+use Rattle.guard.proofs.Columns.{keys_set, keys_other, grants_other, grants_role, grants_each}
 use Rattle.guard.proofs.Seen.{parent_in, seen_of}
-use Rattle.guard.proofs.Answers.{done-in-range}
-use Rattle.guard.proofs.Stored.{told, session-stored, create-stored, delete-stored, alone-stored, role-stored, loss-stored, loses, no-loss}
-use Rattle.guard.proofs.Turns.{Held, held_none, held_more, held-length, held-roles, held_all, no-batch, unsound-batch, Stepped, refuses, does, opens-nothing, opens_by}
+use Rattle.guard.proofs.Answers.{done_in_range}
+use Rattle.guard.proofs.Stored.{told, session_stored, create_stored, delete_stored, alone_stored, role_stored, loss_stored, loses, no_loss}
+use Rattle.guard.proofs.Turns.{Held, held_none, held_more, held_length, held_roles, held_all, no_batch, unsound_batch, Stepped, refuses, does, opens_nothing, opens_by}
 use Rattle.guard.proofs.Tables.run.Statement.{statement}
 use Rattle.guard.proofs.Tables.run.Tie as tie
 
 abbrev invariant-loop : tie.invariant-loop
-invariant-loop rows answers₀ roles₀ self₀ count keys₀ grants₀ i₀ answers roles self keys grants i = (i ≤ count) × (count ≡ batchCount rows answers₀ roles₀) × Held self₀ rows answers₀ roles₀ i self answers roles keys grants
+invariant-loop rows answers₀ roles₀ self₀ count keys₀ grants₀ i₀ answers roles self keys grants i = (i ≤ count) × (count ≡ batch_count rows answers₀ roles₀) × Held self₀ rows answers₀ roles₀ i self answers roles keys grants
 
 abbrev decreases-loop : tie.decreases-loop
 decreases-loop rows answers₀ roles₀ self₀ count keys₀ grants₀ i₀ answers roles self keys grants i = count - i
@@ -51,21 +51,21 @@ entered c = c.before.before.before.before
 abbrev rows_at : At tie.After-count → List ℕ
 rows_at c = (entered c).args.rows.now
 
-abbrev old-at : At tie.After-count → List ℕ
-old-at c = (entered c).args.answers.now
+abbrev old_at : At tie.After-count → List ℕ
+old_at c = (entered c).args.answers.now
 
-abbrev old-roles-at : At tie.After-count → List ℕ
-old-roles-at c = (entered c).args.roles.now
+abbrev old_roles_at : At tie.After-count → List ℕ
+old_roles_at c = (entered c).args.roles.now
 
 -- the batch has room for its answers and for its roles
-room : (c : At tie.After-count) → c.count.result ≤ length (old-at c)
-room c = omega (arith, c.count.ensures, batch-room (length (rows_at c)) (length (old-at c)) (length (old-roles-at c)))
+room : (c : At tie.After-count) → c.count.result ≤ length (old_at c)
+room c = omega (arith, c.count.ensures, batch_room (length (rows_at c)) (length (old_at c)) (length (old_roles_at c)))
 
-space : (c : At tie.After-count) → c.count.result ≤ length (old-roles-at c)
-space c = omega (arith, c.count.ensures, batch-space (length (rows_at c)) (length (old-at c)) (length (old-roles-at c)))
+space : (c : At tie.After-count) → c.count.result ≤ length (old_roles_at c)
+space c = omega (arith, c.count.ensures, batch_space (length (rows_at c)) (length (old_at c)) (length (old_roles_at c)))
 
-sound-at : (c : At tie.Else2) → sound (entered (counted c.before)).args.t1 ≡ true
-sound-at c = sym c.before.sound-by.ensures ∙ not-false _ c.if2.false
+sound_at : (c : At tie.Else2) → sound (entered (counted c.before)).args.t1 ≡ true
+sound_at c = sym c.before.sound-by.ensures ∙ not-false _ c.if2.false
 
 abbrev looked : At tie.After-parent-of → At tie.After-look-up
 looked c = c.before.before.before.before.before.before
@@ -74,7 +74,7 @@ abbrev turn_at : At tie.After-look-up → At tie.In-loop
 turn_at c = c.before.before
 
 parent_place : (c : At tie.After-parent-of) → c.parent_of.result < 64
-parent_place c = parent_in _ (turn_at (looked c)).before.loop.inv.2.isSound _ _ (looked c).look_up.ensures _ c.parent_of.ensures
+parent_place c = parent_in _ (turn_at (looked c)).before.loop.inv.2.is_sound _ _ (looked c).look_up.ensures _ c.parent_of.ensures
 
 abbrev place : At tie.After-seen → At tie.After-look-up
 place c = looked c.before.before.before.before.before
@@ -95,82 +95,82 @@ abbrev rows_of : At tie.In-loop → List ℕ
 rows_of c = rows_at (began c)
 
 abbrev old_of : At tie.In-loop → List ℕ
-old_of c = old-at (began c)
+old_of c = old_at (began c)
 
-abbrev old-roles-of : At tie.In-loop → List ℕ
-old-roles-of c = old-roles-at (began c)
+abbrev old_roles_of : At tie.In-loop → List ℕ
+old_roles_of c = old_roles_at (began c)
 
 within : (c : At tie.In-loop) → c.before.loop.i < length (old_of c)
 within c = omega (arith, c.loop-test.true, room (began c))
 
-within-roles : (c : At tie.In-loop) → c.before.loop.i < length (old-roles-of c)
-within-roles c = omega (arith, c.loop-test.true, space (began c))
+within_roles : (c : At tie.In-loop) → c.before.loop.i < length (old_roles_of c)
+within_roles c = omega (arith, c.loop-test.true, space (began c))
 
 -- ---- the decision
 sure : (c : At tie.After-seen) → sound (tables c) ≡ true
-sure c = (turn_at (place c)).before.loop.inv.2.isSound
+sure c = (turn_at (place c)).before.loop.inv.2.is_sound
 
-keys-at : (c : At tie.After-seen) → Keys (tables c).entities (turn_at (place c)).before.loop.keys
-keys-at c = (turn_at (place c)).before.loop.inv.2.keys
+keys_at : (c : At tie.After-seen) → Keys (tables c).entities (turn_at (place c)).before.loop.keys
+keys_at c = (turn_at (place c)).before.loop.inv.2.keys
 
-grants-at : (c : At tie.After-seen) → Grants (tables c).roles (turn_at (place c)).before.loop.grants
-grants-at c = (turn_at (place c)).before.loop.inv.2.grants
+grants_at : (c : At tie.After-seen) → Grants (tables c).roles (turn_at (place c)).before.loop.grants
+grants_at c = (turn_at (place c)).before.loop.inv.2.grants
 
-judged : (c : At tie.After-judge) → c.judge.result ≡ number (ruleOf (asked c.before)) (tables c.before) (asked c.before)
+judged : (c : At tie.After-judge) → c.judge.result ≡ number (rule_of (asked c.before)) (tables c.before) (asked c.before)
 judged c =
     let s = c.before in
     let f = s.before in
     let up = f.before.before.before.before in
     c.judge.ensures _
-    (seen_of _ (sure s) _ _ (place s).look_up.ensures _ up.parent_of.ensures _ _ (keys-at s) (grants-at s) _ f.find.ensures _ s.seen.ensures)
+    (seen_of _ (sure s) _ _ (place s).look_up.ensures _ up.parent_of.ensures _ _ (keys_at s) (grants_at s) _ f.find.ensures _ s.seen.ensures)
 
 -- the next turn holds, by what the tables and the columns are then, and what is stored of the role
 turned : (c : At tie.After-judge) (u : Tables) (b : ℕ) → Stepped (tables c.before) (asked c.before) u c.judge.result b
     → (roles : List ℕ) → roles ≡ set (turn c).before.loop.roles (turn c).before.loop.i b → (k g : List ℕ) → Keys u.entities k → Grants u.roles g
     → ((turn c).before.loop.i + 1 ≤ (began (turn c)).count.result)
-    × ((began (turn c)).count.result ≡ batchCount (rows_of (turn c)) (old_of (turn c)) (old-roles-of (turn c)))
-    × Held (entered (began (turn c))).args.t1 (rows_of (turn c)) (old_of (turn c)) (old-roles-of (turn c)) ((turn c).before.loop.i + 1) u (set (turn c).before.loop.answers (turn c).before.loop.i c.judge.result) roles k g
+    × ((began (turn c)).count.result ≡ batch_count (rows_of (turn c)) (old_of (turn c)) (old_roles_of (turn c)))
+    × Held (entered (began (turn c))).args.t1 (rows_of (turn c)) (old_of (turn c)) (old_roles_of (turn c)) ((turn c).before.loop.i + 1) u (set (turn c).before.loop.answers (turn c).before.loop.i c.judge.result) roles k g
 turned c u b step roles same k g K G =
     let l = turn c in
     rw same
-    (omega (arith, l.loop-test.taken), l.before.loop.inv.1, held_more _ _ _ _ _ _ _ _ _ _ l.before.loop.inv.2 _ (place c.before).before.request.ensures (within l) (within-roles l) u _ _ step k g K G)
+    (omega (arith, l.loop-test.taken), l.before.loop.inv.1, held_more _ _ _ _ _ _ _ _ _ _ l.before.loop.inv.2 _ (place c.before).before.request.ensures (within l) (within_roles l) u _ _ step k g K G)
 
 -- ---- where the answer is 0
 abbrev near : (c : At tie.Then3) → Placed (asked c.before.before) (place c.before.before).look_up.result
 near c = (place c.before.before).look_up.ensures
 
-many : (c : At tie.Then3) → Formed allCategories (tables c.before.before)
-many c = formed-e _ (sure c.before.before)
+many : (c : At tie.Then3) → Formed all_categories (tables c.before.before)
+many c = formed_e _ (sure c.before.before)
 
-zero : (c : At tie.Then3) → 0 ≡ number (ruleOf (asked c.before.before)) (tables c.before.before) (asked c.before.before)
+zero : (c : At tie.Then3) → 0 ≡ number (rule_of (asked c.before.before)) (tables c.before.before) (asked c.before.before)
 zero c = sym c.if3.true ∙ judged c.before
 
-fits : (c : At tie.Then3) → inRanges (asked c.before.before) ≡ true
-fits c = done-in-range _ _ (zero c)
+fits : (c : At tie.Then3) → in_ranges (asked c.before.before) ≡ true
+fits c = done_in_range _ _ (zero c)
 
-does-so : (c : At tie.Then3) (u : Tables) → u ≡ (ruleOf (asked c.before.before)).effect (asked c.before.before) (tables c.before.before)
-    → (b : ℕ) → b ≡ roleByte (roleOpening (tables c.before.before) (asked c.before.before))
+does_so : (c : At tie.Then3) (u : Tables) → u ≡ (rule_of (asked c.before.before)).effect (asked c.before.before) (tables c.before.before)
+    → (b : ℕ) → b ≡ role_byte (role_opening (tables c.before.before) (asked c.before.before))
     → Stepped (tables c.before.before) (asked c.before.before) u c.before.judge.result b
-does-so c u e b r = does _ _ _ (sure c.before.before) (judged c.before) c.if3.true u e b r
+does_so c u e b r = does _ _ _ (sure c.before.before) (judged c.before) c.if3.true u e b r
 
 -- what changes an entity or a role tells none
 silent : (c : At tie.Then3) → ((asked c.before.before).call ≡ kind.openr → ⊥) → ((asked c.before.before).call ≡ kind.openw → ⊥)
-    → 255 ≡ roleByte (roleOpening (tables c.before.before) (asked c.before.before))
-silent c r w = opens-nothing _ _ r w
+    → 255 ≡ role_byte (role_opening (tables c.before.before) (asked c.before.before))
+silent c r w = opens_nothing _ _ r w
 
-entity-silent : (c : At tie.Then3) → OfEntity (asked c.before.before).call → 255 ≡ roleByte (roleOpening (tables c.before.before) (asked c.before.before))
-entity-silent c of = silent c (λ h. ⊎_elim (λ (l, m). omega arith) (λ e. omega arith) of) (λ h. ⊎_elim (λ (l, m). omega arith) (λ e. omega arith) of)
+entity_silent : (c : At tie.Then3) → OfEntity (asked c.before.before).call → 255 ≡ role_byte (role_opening (tables c.before.before) (asked c.before.before))
+entity_silent c of = silent c (λ h. ⊎_elim (λ (l, m). omega arith) (λ e. omega arith) of) (λ h. ⊎_elim (λ (l, m). omega arith) (λ e. omega arith) of)
 
-role-silent : (c : At tie.Then3) → 10 ≤ (asked c.before.before).call → 255 ≡ roleByte (roleOpening (tables c.before.before) (asked c.before.before))
-role-silent c l = silent c (λ h. omega arith) (λ h. omega arith)
+role_silent : (c : At tie.Then3) → 10 ≤ (asked c.before.before).call → 255 ≡ role_byte (role_opening (tables c.before.before) (asked c.before.before))
+role_silent c l = silent c (λ h. omega arith) (λ h. omega arith)
 
 -- the places of the stores: where the answer is 0, from where the entity's key or the role's sets are stored; where the key is
 -- stored, from the tests that follow it
-abbrev entity-done : At tie.After-key → At tie.Then3
-entity-done c = c.before.before.before.before.before
+abbrev entity_done : At tie.After-key → At tie.Then3
+entity_done c = c.before.before.before.before.before
 
-abbrev role-done : At tie.After-put2 → At tie.Then3
-role-done c = c.before.before.before.before.before.before
+abbrev role_done : At tie.After-put2 → At tie.Then3
+role_done c = c.before.before.before.before.before.before
 
 abbrev created : At tie.Then4 → At tie.After-key
 created c = c.before.before
@@ -181,20 +181,20 @@ deleted c = c.before.before.before.before
 abbrev kept : At tie.Else5 → At tie.After-key
 kept c = c.before.before.before.before
 
-told-session : (c : At tie.After-enum-told) → (asked c.before.before.before.before.before).call ≤ 6
-told-session c = told ASession _ _ c.before.before.change-of.ensures c.enum_told.given.1
+told_session : (c : At tie.After-enum-told) → (asked c.before.before.before.before.before).call ≤ 6
+told_session c = told ASession _ _ c.before.before.change-of.ensures c.enum_told.given.1
 
-told-entity : (c : At tie.After-enum-told2) → OfEntity (asked c.before.before.before.before.before).call
-told-entity c = told AnEntity _ _ c.before.before.change-of.ensures c.enum-told2.given.1
+told_entity : (c : At tie.After-enum-told2) → OfEntity (asked c.before.before.before.before.before).call
+told_entity c = told AnEntity _ _ c.before.before.change-of.ensures c.enum-told2.given.1
 
-told-role : (c : At tie.After-enum-told3) → (10 ≤ (asked c.before.before.before.before.before).call) × ((asked c.before.before.before.before.before).call ≡ 16 → ⊥)
-told-role c = told ARole _ _ c.before.before.change-of.ensures c.enum-told3.given.1
+told_role : (c : At tie.After-enum-told3) → (10 ≤ (asked c.before.before.before.before.before).call) × ((asked c.before.before.before.before.before).call ≡ 16 → ⊥)
+told_role c = told ARole _ _ c.before.before.change-of.ensures c.enum-told3.given.1
 
 count-requires : tie.Need-count-requires invariant-loop decreases-loop
 count-requires c κs = search rules
 
 returns : tie.Need-returns invariant-loop decreases-loop
-returns c = no-batch _ _ _ _ (sym c.if1.true ∙ c.before.count.ensures)
+returns c = no_batch _ _ _ _ (sym c.if1.true ∙ c.before.count.ensures)
 
 keys-requires : tie.Need-keys-requires invariant-loop decreases-loop
 keys-requires c κs = search rules
@@ -228,15 +228,15 @@ returns-2 : tie.Need-returns-2 invariant-loop decreases-loop
 returns-2 c =
     let fill = filled c in
     let test = refusing fill in
-    unsound-batch _ _ _ _ _ _ _ (sym test.before.sound-by.ensures ∙ not-true _ test.if2.taken) (counted test.before).count.ensures fill.fill.ensures.1 c.before.before.fill2.ensures.1
+    unsound_batch _ _ _ _ _ _ _ (sym test.before.sound-by.ensures ∙ not-true _ test.if2.taken) (counted test.before).count.ensures fill.fill.ensures.1 c.before.before.fill2.ensures.1
 
 loop-holds : tie.Need-loop-init invariant-loop decreases-loop
 loop-holds c =
     let grants = c.before.before.before.before in
-    (omega arith, (counted c.before).count.ensures, held_none _ _ _ _ _ _ (sound-at c) grants.before.keys.ensures grants.grants.ensures)
+    (omega arith, (counted c.before).count.ensures, held_none _ _ _ _ _ _ (sound_at c) grants.before.keys.ensures grants.grants.ensures)
 
 request-requires : tie.Need-request-requires invariant-loop decreases-loop
-request-requires c κs = batch-rows _ _ _ _ (rw c.before.loop.invariant.1 at c.loop-test.true)
+request-requires c κs = batch_rows _ _ _ _ (rw c.before.loop.invariant.1 at c.loop-test.true)
 
 look-up-requires : tie.Need-look-up-requires invariant-loop decreases-loop
 look-up-requires c κs = search rules
@@ -293,10 +293,10 @@ judge-requires : tie.Need-judge-requires invariant-loop decreases-loop
 judge-requires c κs = rw c.seen.ensures (place c).look_up.ensures.fits
 
 slice-write-answers : tie.Need-slice-write-answers invariant-loop decreases-loop
-slice-write-answers c = let l = turn c in rw (held-length _ _ _ _ _ _ _ _ _ _ l.before.loop.inv.2 (omega (arith, within l))) (within l)
+slice-write-answers c = let l = turn c in rw (held_length _ _ _ _ _ _ _ _ _ _ l.before.loop.inv.2 (omega (arith, within l))) (within l)
 
 slice-write-roles : tie.Need-slice-write-roles invariant-loop decreases-loop
-slice-write-roles c = let l = turn c in rw (held-roles _ _ _ _ _ _ _ _ _ _ l.before.loop.inv.2 (omega (arith, within-roles l))) (within-roles l)
+slice-write-roles c = let l = turn c in rw (held_roles _ _ _ _ _ _ _ _ _ _ l.before.loop.inv.2 (omega (arith, within_roles l))) (within_roles l)
 
 add-i : tie.Need-overflow-add-i invariant-loop decreases-loop
 add-i c = let h = within (turn c) in let s = (began (turn c)).before.before.before in search rules
@@ -328,7 +328,7 @@ sub-roles c = omega arith
 slice-write-roles-2 : tie.Need-slice-write-roles-2 invariant-loop decreases-loop
 slice-write-roles-2 c =
     let l = turn (opened c).before in
-    simp length-set (rw (held-roles _ _ _ _ _ _ _ _ _ _ l.before.loop.inv.2 (omega (arith, within-roles l))) (omega (arith, within-roles l)))
+    simp length-set (rw (held_roles _ _ _ _ _ _ _ _ _ _ l.before.loop.inv.2 (omega (arith, within_roles l))) (omega (arith, within_roles l)))
 
 loop-less : tie.Need-loop-smaller invariant-loop decreases-loop
 loop-less c = omega (arith, (turn (opened c).before).loop-test.taken)
@@ -338,17 +338,17 @@ loop-again c =
     let d = opened c in
     let l = (turn d.before).before.loop in
     turned d.before _ _
-    (does-so d _ (session-stored _ _ (zero d) _ (near d) (sure d.before.before) _ (grants-at d.before.before) (told-session c.before.before.before.before) _ c.before.before.after.ensures) _
-    (opens_by _ (sure d.before.before) _ (grants-at d.before.before) _ (fits d) _ (near d) _ c.role-told.ensures))
-    _ (set-again l.roles l.i 255 c.role-told.result) _ _
-    (keys-other _ _ (keys-at d.before.before) _ refl)
-    (grants-other _ _ (grants-at d.before.before) _ refl)
+    (does_so d _ (session_stored _ _ (zero d) _ (near d) (sure d.before.before) _ (grants_at d.before.before) (told_session c.before.before.before.before) _ c.before.before.after.ensures) _
+    (opens_by _ (sure d.before.before) _ (grants_at d.before.before) _ (fits d) _ (near d) _ c.role-told.ensures))
+    _ (set_again l.roles l.i 255 c.role-told.result) _ _
+    (keys_other _ _ (keys_at d.before.before) _ refl)
+    (grants_other _ _ (grants_at d.before.before) _ refl)
 
 enum-told-2 : tie.Need-enum-told-2 invariant-loop decreases-loop
 enum-told-2 c = search rules
 
 after-requires-2 : tie.Need-after-requires-2 invariant-loop decreases-loop
-after-requires-2 c κs = (told-entity c, fits c.before.before.before)
+after-requires-2 c κs = (told_entity c, fits c.before.before.before)
 
 mul-f2 : tie.Need-overflow-mul-f2 invariant-loop decreases-loop
 mul-f2 c = omega (arith, (near c.before.before.before.before).entity.small)
@@ -366,19 +366,19 @@ array-write-keys : tie.Need-array-write-keys invariant-loop decreases-loop
 array-write-keys c = (near c.before.before.before.before.before).entity.small
 
 owning-requires : tie.Need-owning-requires invariant-loop decreases-loop
-owning-requires c κs = (in-create _ (fits (entity-done (created c))) c.if4.true).entity
+owning-requires c κs = (in_create _ (fits (entity_done (created c))) c.if4.true).entity
 
 mul-p2 : tie.Need-overflow-mul-p2 invariant-loop decreases-loop
-mul-p2 c = omega (arith, (near (entity-done (created c.before))).role.small)
+mul-p2 c = omega (arith, (near (entity_done (created c.before))).role.small)
 
 element-set-from-p2 : tie.Need-element-set-from-p2 invariant-loop decreases-loop
-element-set-from-p2 c = (near (entity-done (created c.before))).role.small
+element-set-from-p2 c = (near (entity_done (created c.before))).role.small
 
 put-requires : tie.Need-put-requires invariant-loop decreases-loop
-put-requires c κs = let d = entity-done (created c.before.before) in ((near d).role.small, (grants-at d.before.before).long)
+put-requires c κs = let d = entity_done (created c.before.before) in ((near d).role.small, (grants_at d.before.before).long)
 
 loop-less-2 : tie.Need-loop-smaller-2 invariant-loop decreases-loop
-loop-less-2 c = let d = entity-done (created c.before.before.before) in omega (arith, (turn d.before).loop-test.taken)
+loop-less-2 c = let d = entity_done (created c.before.before.before) in omega (arith, (turn d.before).loop-test.taken)
 
 loop-again-2 : tie.Need-loop-preserved-2 invariant-loop decreases-loop
 loop-again-2 c =
@@ -386,22 +386,22 @@ loop-again-2 c =
     let is = own.before in
     let key = created is in
     let f = key.before in
-    let d = entity-done key in
-    turned d.before _ _ (does-so d _ (create-stored _ _ (zero d) _ (near d) is.if4.true _ _ f.after2.ensures own.owning.ensures) _ (entity-silent d (told-entity f.before))) _ refl _ _
-    (keys-set _ _ (keys-at d.before.before) _ (many d).manyEntities _ (near d).entity.small _ _ key.key.ensures refl)
-    (grants-role _ _ (grants-at d.before.before) _ (many d).manyRoles _ (near d).role.small _ _ c.put.ensures refl)
+    let d = entity_done key in
+    turned d.before _ _ (does_so d _ (create_stored _ _ (zero d) _ (near d) is.if4.true _ _ f.after2.ensures own.owning.ensures) _ (entity_silent d (told_entity f.before))) _ refl _ _
+    (keys_set _ _ (keys_at d.before.before) _ (many d).many_entities _ (near d).entity.small _ _ key.key.ensures refl)
+    (grants_role _ _ (grants_at d.before.before) _ (many d).many_roles _ (near d).role.small _ _ c.put.ensures refl)
 
 without-entity-requires : tie.Need-without-entity-requires invariant-loop decreases-loop
 without-entity-requires c κs = search rules
 
 clear-requires : tie.Need-clear-requires invariant-loop decreases-loop
-clear-requires c κs = let d = entity-done (deleted c.before.before.before) in ((near d).entity.small, (grants-at d.before.before).long)
+clear-requires c κs = let d = entity_done (deleted c.before.before.before) in ((near d).entity.small, (grants_at d.before.before).long)
 
 without-entity-requires-2 : tie.Need-without-entity-requires-2 invariant-loop decreases-loop
 without-entity-requires-2 c κs = search rules
 
 loop-less-3 : tie.Need-loop-smaller-3 invariant-loop decreases-loop
-loop-less-3 c = let d = entity-done (deleted c.before.before.before.before.before.before) in omega (arith, (turn d.before).loop-test.taken)
+loop-less-3 c = let d = entity_done (deleted c.before.before.before.before.before.before) in omega (arith, (turn d.before).loop-test.taken)
 
 loop-again-3 : tie.Need-loop-preserved-3 invariant-loop decreases-loop
 loop-again-3 c =
@@ -410,23 +410,23 @@ loop-again-3 c =
     let is = roles.before.before in
     let key = deleted is in
     let f = key.before in
-    let d = entity-done key in
+    let d = entity_done key in
     rw (roles.without-entity.ensures, c.without-entity2.ensures)
-    (turned d.before _ _ (does-so d _ (delete-stored _ _ (zero d) _ (near d) is.if5.true _ f.after2.ensures) _ (entity-silent d (told-entity f.before))) _ refl _ _
-    (keys-set _ _ (keys-at d.before.before) _ (many d).manyEntities _ (near d).entity.small _ _ key.key.ensures refl)
-    (grants-each _ _ (grants-at d.before.before) _ _ _ (rw ((near d).entity.same (in-delete _ (fits d) is.if5.true).1) at clear.clear.ensures) refl))
+    (turned d.before _ _ (does_so d _ (delete_stored _ _ (zero d) _ (near d) is.if5.true _ f.after2.ensures) _ (entity_silent d (told_entity f.before))) _ refl _ _
+    (keys_set _ _ (keys_at d.before.before) _ (many d).many_entities _ (near d).entity.small _ _ key.key.ensures refl)
+    (grants_each _ _ (grants_at d.before.before) _ _ _ (rw ((near d).entity.same (in_delete _ (fits d) is.if5.true).1) at clear.clear.ensures) refl))
 
 loop-less-4 : tie.Need-loop-smaller-4 invariant-loop decreases-loop
-loop-less-4 c = let d = entity-done (kept c) in omega (arith, (turn d.before).loop-test.taken)
+loop-less-4 c = let d = entity_done (kept c) in omega (arith, (turn d.before).loop-test.taken)
 
 loop-again-4 : tie.Need-loop-preserved-4 invariant-loop decreases-loop
 loop-again-4 c =
     let key = kept c in
     let f = key.before in
-    let d = entity-done key in
-    turned d.before _ _ (does-so d _ (alone-stored _ _ (zero d) _ (near d) (told-entity f.before) c.before.before.if4.false c.if5.false _ f.after2.ensures) _ (entity-silent d (told-entity f.before))) _ refl _ _
-    (keys-set _ _ (keys-at d.before.before) _ (many d).manyEntities _ (near d).entity.small _ _ key.key.ensures refl)
-    (grants-other _ _ (grants-at d.before.before) _ refl)
+    let d = entity_done key in
+    turned d.before _ _ (does_so d _ (alone_stored _ _ (zero d) _ (near d) (told_entity f.before) c.before.before.if4.false c.if5.false _ f.after2.ensures) _ (entity_silent d (told_entity f.before))) _ refl _ _
+    (keys_set _ _ (keys_at d.before.before) _ (many d).many_entities _ (near d).entity.small _ _ key.key.ensures refl)
+    (grants_other _ _ (grants_at d.before.before) _ refl)
 
 enum-told-3 : tie.Need-enum-told-3 invariant-loop decreases-loop
 enum-told-3 c = search rules
@@ -441,7 +441,7 @@ element-set-from-p2-2 : tie.Need-element-set-from-p2-2 invariant-loop decreases-
 element-set-from-p2-2 c = (near c.before.before.before.before).role.small
 
 put-requires-2 : tie.Need-put-requires-2 invariant-loop decreases-loop
-put-requires-2 c κs = let d = c.before.before.before.before.before in ((near d).role.small, (grants-at d.before.before).long)
+put-requires-2 c κs = let d = c.before.before.before.before.before in ((near d).role.small, (grants_at d.before.before).long)
 
 ends-opens-requires : tie.Need-ends-opens-requires invariant-loop decreases-loop
 ends-opens-requires c κs = search rules
@@ -460,7 +460,7 @@ abbrev stored : At tie.Then6 → At tie.After-put2
 stored c = c.before.before
 
 loop-less-5 : tie.Need-loop-smaller-5 invariant-loop decreases-loop
-loop-less-5 c = let d = role-done (stored (lossy c)) in omega (arith, (turn d.before).loop-test.taken)
+loop-less-5 c = let d = role_done (stored (lossy c)) in omega (arith, (turn d.before).loop-test.taken)
 
 loop-again-5 : tie.Need-loop-preserved-5 invariant-loop decreases-loop
 loop-again-5 c =
@@ -468,37 +468,37 @@ loop-again-5 c =
     let is = lossy c in
     let put = stored is in
     let p = put.before.before in
-    let d = role-done put in
-    let sets = grants-role _ _ (grants-at d.before.before) _ (many d).manyRoles _ (near d).role.small _ _ put.put2.ensures refl in
+    let d = role_done put in
+    let sets = grants_role _ _ (grants_at d.before.before) _ (many d).many_roles _ (near d).role.small _ _ put.put2.ensures refl in
     rw c.swept.ensures
     (turned d.before _ _
-    (does-so d _ (loss-stored _ _ (zero d) _ (near d) (sure d.before.before) _ p.after3.ensures _ sets _ lost.lost.ensures (loses _ (sym is.before.ends-opens.ensures ∙ is.if6.taken)) _ refl) _ (role-silent d (told-role p.before).0))
-    _ refl _ _ (keys-other _ _ (keys-at d.before.before) _ refl) sets)
+    (does_so d _ (loss_stored _ _ (zero d) _ (near d) (sure d.before.before) _ p.after3.ensures _ sets _ lost.lost.ensures (loses _ (sym is.before.ends-opens.ensures ∙ is.if6.taken)) _ refl) _ (role_silent d (told_role p.before).0))
+    _ refl _ _ (keys_other _ _ (keys_at d.before.before) _ refl) sets)
 
 loop-less-6 : tie.Need-loop-smaller-6 invariant-loop decreases-loop
-loop-less-6 c = let d = role-done c.before.before in omega (arith, (turn d.before).loop-test.taken)
+loop-less-6 c = let d = role_done c.before.before in omega (arith, (turn d.before).loop-test.taken)
 
 loop-again-6 : tie.Need-loop-preserved-6 invariant-loop decreases-loop
 loop-again-6 c =
     let put = c.before.before in
     let p = put.before.before in
-    let d = role-done put in
-    let other = no-loss _ (sym c.before.ends-opens.ensures ∙ c.if6.false) in
-    turned d.before _ _ (does-so d _ (role-stored _ _ (zero d) _ (near d) (sure d.before.before) (told-role p.before) other _ p.after3.ensures) _ (role-silent d (told-role p.before).0)) _ refl _ _
-    (keys-other _ _ (keys-at d.before.before) _ refl)
-    (grants-role _ _ (grants-at d.before.before) _ (many d).manyRoles _ (near d).role.small _ _ put.put2.ensures refl)
+    let d = role_done put in
+    let other = no_loss _ (sym c.before.ends-opens.ensures ∙ c.if6.false) in
+    turned d.before _ _ (does_so d _ (role_stored _ _ (zero d) _ (near d) (sure d.before.before) (told_role p.before) other _ p.after3.ensures) _ (role_silent d (told_role p.before).0)) _ refl _ _
+    (keys_other _ _ (keys_at d.before.before) _ refl)
+    (grants_role _ _ (grants_at d.before.before) _ (many d).many_roles _ (near d).role.small _ _ put.put2.ensures refl)
 
 loop-less-7 : tie.Need-loop-smaller-7 invariant-loop decreases-loop
 loop-less-7 c = omega (arith, (turn c.before).loop-test.taken)
 
 loop-again-7 : tie.Need-loop-preserved-7 invariant-loop decreases-loop
-loop-again-7 c = turned c.before _ _ (refuses _ _ _ (sure c.before.before) (judged c.before) c.if3.false) _ refl _ _ (keys-at c.before.before) (grants-at c.before.before)
+loop-again-7 c = turned c.before _ _ (refuses _ _ _ (sure c.before.before) (judged c.before) c.if3.false) _ refl _ _ (keys_at c.before.before) (grants_at c.before.before)
 
 same-length-3 : tie.Need-same-length-3 invariant-loop decreases-loop
-same-length-3 c = held-length _ _ _ _ _ _ _ _ _ _ c.before.loop.invariant.2 (omega (arith, c.before.loop.invariant.0, room (counted c.before.before.before)))
+same-length-3 c = held_length _ _ _ _ _ _ _ _ _ _ c.before.loop.invariant.2 (omega (arith, c.before.loop.invariant.0, room (counted c.before.before.before)))
 
 same-length-4 : tie.Need-same-length-4 invariant-loop decreases-loop
-same-length-4 c = held-roles _ _ _ _ _ _ _ _ _ _ c.before.loop.invariant.2 (omega (arith, c.before.loop.invariant.0, space (counted c.before.before.before)))
+same-length-4 c = held_roles _ _ _ _ _ _ _ _ _ _ c.before.loop.invariant.2 (omega (arith, c.before.loop.invariant.0, space (counted c.before.before.before)))
 
 returns-3 : tie.Need-returns-3 invariant-loop decreases-loop
 returns-3 c = let n : c.before.loop.i ≡ (counted c.before.before.before).count.result = omega (arith, c.loop-test.false, c.before.loop.invariant.0) in held_all _ _ _ _ _ _ _ _ _ _ c.before.loop.invariant.2 (n ∙ c.before.loop.invariant.1)

@@ -4,11 +4,11 @@ use mathlib.Core.Path.{◌≡◌, sym, ◌∙◌}
 use mathlib.Core.Bool.{◌&&◌}
 use mathlib.Core.List.{[], ◌∷◌}
 use Rattle.bitset.specs.Tests.{every}
-use Rattle.bitset.specs.Tests.Laws.{of-not-false, every-i, every-at}
-use Rattle.guard.specs.Sound.{editionInRange}
-use Rattle.guard.proofs.Soundness.Tests.{and-two}
+use Rattle.bitset.specs.Tests.Laws.{of_not_false, every_i, every_at}
+use Rattle.guard.specs.Sound.{edition_in_range}
+use Rattle.guard.proofs.Soundness.Tests.{and_two}
 use Rattle.guard.proofs.Soundness.Loops.{long}
-use Rattle.guard.proofs.Soundness.Whole.{Sized, refuted, met, decided, usersTest, keys-small, edition-pass, users-pass, entities-pass, chains-pass, names-pass, roles-pass, ties-pass}
+use Rattle.guard.proofs.Soundness.Whole.{Sized, refuted, met, decided, users_test, keys_small, edition_pass, users_pass, entities_pass, chains_pass, names_pass, roles_pass, ties_pass}
 use Rattle.guard.proofs.Tables.sound_by.Statement.{statement}
 use Rattle.guard.proofs.Tables.sound_by.Tie as tie
 
@@ -31,35 +31,35 @@ edition-in-range-requires c κs = search rules
 
 -- the users and the edition
 tested : (c : tie.After-edition-in-range)
-    → (c.before.users-in-range.result && c.edition-in-range.result) ≡ every (usersTest c.before.before.before.args.self ∷ editionInRange c.before.before.before.args.self.edition ∷ [])
-tested c = and-two _ _ _ _ c.before.users-in-range.ensures c.edition-in-range.ensures
+    → (c.before.users-in-range.result && c.edition-in-range.result) ≡ every (users_test c.before.before.before.args.self ∷ edition_in_range c.before.before.before.args.self.edition ∷ [])
+tested c = and_two _ _ _ _ c.before.users-in-range.ensures c.edition-in-range.ensures
 
 returns : tie.Need-returns
-returns c = refuted _ _ _ (tested c.before) (λ h. every-i _ (users-pass _ h, (edition-pass _ h, tt))) c.if1.true
+returns c = refuted _ _ _ (tested c.before) (λ h. every_i _ (users_pass _ h, (edition_pass _ h, tt))) c.if1.true
 
 entities-ok-requires : tie.Need-entities-ok-requires
 entities-ok-requires c κs = search rules
 
 returns-2 : tie.Need-returns-2
-returns-2 c = refuted _ _ _ c.before.entities-ok.ensures (entities-pass _) c.if2.true
+returns-2 c = refuted _ _ _ c.before.entities-ok.ensures (entities_pass _) c.if2.true
 
 end-at-root-requires : tie.Need-end-at-root-requires
 end-at-root-requires c κs = search rules
 
 returns-3 : tie.Need-returns-3
-returns-3 c = refuted _ _ _ c.before.end-at-root.ensures (λ h. chains-pass _ h _ (start c.before.before.before).requires.0) c.if3.true
+returns-3 c = refuted _ _ _ c.before.end-at-root.ensures (λ h. chains_pass _ h _ (start c.before.before.before).requires.0) c.if3.true
 
 have-own-keys-requires : tie.Need-have-own-keys-requires
 have-own-keys-requires c κs = search rules
 
 returns-4 : tie.Need-returns-4
-returns-4 c = refuted _ _ _ c.before.have-own-keys.ensures (λ h. names-pass _ h _ (start c.before.before.before.before.before).requires.0) c.if4.true
+returns-4 c = refuted _ _ _ c.before.have-own-keys.ensures (λ h. names_pass _ h _ (start c.before.before.before.before.before).requires.0) c.if4.true
 
 live-set-requires : tie.Need-live-set-requires
 live-set-requires c κs =
     let two = c.before.before.before.before in
     let at = start two.before in
-    keys-small at.args.self _ at.pre.0 (met _ _ two.before.entities-ok.ensures two.if2.false)
+    keys_small at.args.self _ at.pre.0 (met _ _ two.before.entities-ok.ensures two.if2.false)
 
 roles-ok-requires : tie.Need-roles-ok-requires
 roles-ok-requires c κs = search rules
@@ -69,7 +69,7 @@ returns-5 c =
     let roles = c.before.before in
     let live = roles.before.before in
     refuted _ _ _ roles.roles-ok.ensures.0
-    (λ h. roles-pass _ h _ live.live-set.result (start live.before.before.before.before.before.before).requires.0 live.live-set.ensures)
+    (λ h. roles_pass _ h _ live.live-set.result (start live.before.before.before.before.before.before).requires.0 live.live-set.ensures)
     c.if5.true
 
 ties-ok-requires : tie.Need-ties-ok-requires
@@ -80,8 +80,8 @@ returns-6 c =
     let five = c.before.before in
     let roles = five.before.before in
     let at = start roles.before.before.before.before.before.before.before.before in
-    let passed = of-not-false roles.roles-ok.result.ok five.if5.false in
-    refuted _ _ _ c.before.ties-ok.ensures (λ h. ties-pass _ h _ roles.roles-ok.result.live at.pre.1 (roles.roles-ok.ensures.1 passed)) c.if6.true
+    let passed = of_not_false roles.roles-ok.result.ok five.if5.false in
+    refuted _ _ _ c.before.ties-ok.ensures (λ h. ties_pass _ h _ roles.roles-ok.result.live at.pre.1 (roles.roles-ok.ensures.1 passed)) c.if6.true
 
 labels-requires : tie.Need-labels-requires
 labels-requires c κs = search rules
@@ -103,9 +103,9 @@ returns-7 c =
     let two = chains.before in
     let entities = two.before in
     let one = entities.before.before in
-    let begun = every-at _ (met _ _ (tested one.before) one.if1.false) in
+    let begun = every_at _ (met _ _ (tested one.before) one.if1.false) in
     let at = start entities in
-    let passed = of-not-false roles.roles-ok.result.ok five.if5.false in
+    let passed = of_not_false roles.roles-ok.result.ok five.if5.false in
     decided at.args.self _ _ labels.labels.result live.live-set.result roles.roles-ok.result.live
     (sized at) at.pre.0 at.pre.1 live.live-set.ensures labels.labels.ensures (roles.roles-ok.ensures.1 passed)
     (begun 1)

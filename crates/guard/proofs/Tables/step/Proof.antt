@@ -1,7 +1,7 @@
 -- `step` is a run of one row. Assumes nothing.
 use borrow.Author.Rules.{rules}
 use mathlib.Core.Path.{refl}
-use Rattle.guard.proofs.Turns.{one-request}
+use Rattle.guard.proofs.Turns.{one_request}
 use Rattle.guard.proofs.Tables.step.Statement.{statement}
 use Rattle.guard.proofs.Tables.step.Tie as tie
 
@@ -32,7 +32,7 @@ read-requires c κs = search rules
 returns : tie.Need-returns
 returns c =
     let run = c.before.before.before in
-    one-request _ _ _ _ _ _ _ _ _ _ run.before.before.before.before.row.ensures refl refl run.run.ensures refl c.read.ensures
+    one_request _ _ _ _ _ _ _ _ _ _ run.before.before.before.before.row.ensures refl refl run.run.ensures refl c.read.ensures
 
 pub step_spec : {M : Type 1} → statement M
 step_spec =

@@ -3,15 +3,15 @@ use Prim.Native.Nat.{◌-◌, ◌≤◌}
 use mathlib.Core.Path.{◌≡◌, refl}
 use native.Mathlib.Omega.{arith}
 use lib.ListN.{length}
-use Rattle.guard.specs.Tables.{noSession}
-use Rattle.guard.specs.Private.Scan.{leftBy}
+use Rattle.guard.specs.Tables.{no_session}
+use Rattle.guard.specs.Private.Scan.{left_by}
 use Rattle.guard.proofs.Soundness.Loops.{long}
-use Rattle.guard.proofs.Sweeps.{mapped, mapped-step, mapped_end}
+use Rattle.guard.proofs.Sweeps.{mapped, mapped_step, mapped_end}
 use Rattle.guard.proofs.backing.swept.Statement.{statement}
 use Rattle.guard.proofs.backing.swept.Tie as tie
 
 abbrev invariant-loop : tie.invariant-loop
-invariant-loop grants r lost unmade n₀ i₀ n i = (i ≤ 16) × (length n₀ ≡ 16) × (n ≡ mapped (leftBy grants r lost unmade) i n₀)
+invariant-loop grants r lost unmade n₀ i₀ n i = (i ≤ 16) × (length n₀ ≡ 16) × (n ≡ mapped (left_by grants r lost unmade) i n₀)
 
 abbrev decreases-loop : tie.decreases-loop
 decreases-loop grants r lost unmade n₀ i₀ n i = 16 - i
@@ -43,7 +43,7 @@ loop-less c = omega arith
 loop-again : tie.Need-loop-preserved invariant-loop decreases-loop
 loop-again c =
     let b = c.before.before.before in
-    (omega arith, b.loop.invariant.1, mapped-step _ _ _ _ noSession _ b.loop.invariant.2 c.left.ensures)
+    (omega arith, b.loop.invariant.1, mapped_step _ _ _ _ no_session _ b.loop.invariant.2 c.left.ensures)
 
 returns : tie.Need-returns invariant-loop decreases-loop
 returns c = let i : c.before.loop.i ≡ 16 = omega arith in mapped_end _ _ _ _ 16 c.before.loop.invariant.2 i c.before.loop.invariant.1

@@ -1,7 +1,7 @@
 -- `create_refusal`: the conditions up to 9, then those from 10. Assumes nothing.
 use borrow.Author.Rules.{rules}
 use mathlib.Core.Path.{refl, sym, ◌∙◌}
-use Rattle.guard.proofs.Laws.Refusals.{first-here, first_past}
+use Rattle.guard.proofs.Laws.Refusals.{first_here, first_past}
 use Rattle.guard.proofs.entities.create_refusal.Statement.{statement}
 use Rattle.guard.proofs.entities.create_refusal.Tie as tie
 
@@ -9,7 +9,7 @@ create-refusal-to-9-requires : tie.Need-create-refusal-to-9-requires
 create-refusal-to-9-requires c κs = search rules
 
 returns : tie.Need-returns
-returns c = c.before.create-refusal-to-9.ensures ∙ sym (first-here _ _ (λ z. c.if1.true (c.before.create-refusal-to-9.ensures ∙ z)))
+returns c = c.before.create-refusal-to-9.ensures ∙ sym (first_here _ _ (λ z. c.if1.true (c.before.create-refusal-to-9.ensures ∙ z)))
 
 create-refusal-from-10-requires : tie.Need-create-refusal-from-10-requires
 create-refusal-from-10-requires c κs = search rules

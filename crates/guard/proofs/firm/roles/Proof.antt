@@ -3,18 +3,18 @@ use native.Mathlib.Omega.{arith}
 use mathlib.Core.Path.{◌≡◌, refl}
 use Rattle.bitset.specs.Tests.{all}
 use Rattle.bitset.specs.Sets.{has}
-use Rattle.guard.specs.Private.Firm.{roleFirm}
-use Rattle.guard.proofs.Soundness.Tests.{agree-e}
+use Rattle.guard.specs.Private.Firm.{role_firm}
+use Rattle.guard.proofs.Soundness.Tests.{agree_e}
 use Rattle.guard.proofs.firm.roles.Statement.{statement}
 use Rattle.guard.proofs.firm.roles.Tie as tie
 
 returns : tie.Need-returns
-unfolding has all roleFirm
-returns c = rw c.if1.true (agree-e 16 _ _ refl)
+unfolding has all role_firm
+returns c = rw c.if1.true (agree_e 16 _ _ refl)
 
 returns-2 : tie.Need-returns-2
-unfolding has all roleFirm
-returns-2 c = let one : c.before.args.firm ≡ 1 = omega arith in rw one (agree-e 16 _ _ refl)
+unfolding has all role_firm
+returns-2 c = let one : c.before.args.firm ≡ 1 = omega arith in rw one (agree_e 16 _ _ refl)
 
 pub roles-spec : {M : Type 1} → statement M
 roles-spec = tie.close (tie.spec returns returns-2)

@@ -3,14 +3,14 @@ use Prim.Native.Nat.{◌≤◌, ◌-◌}
 use mathlib.Core.Path.{◌≡◌, ◌∙◌}
 use native.Mathlib.Omega.{arith}
 use borrow.Author.Rules.{rules}
-use Rattle.guard.specs.Tables.{noRole}
-use Rattle.guard.specs.Fresh.{freshRole}
-use Rattle.guard.proofs.Filling.{filled, filled_none, filled_more, filled-all}
+use Rattle.guard.specs.Tables.{no_role}
+use Rattle.guard.specs.Fresh.{fresh_role}
+use Rattle.guard.proofs.Filling.{filled, filled_none, filled_more, filled_all}
 use Rattle.guard.proofs.fresh.fresh_roles.Statement.{statement}
 use Rattle.guard.proofs.fresh.fresh_roles.Tie as tie
 
 abbrev invariant-loop : tie.invariant-loop
-invariant-loop roles₀ i₀ roles i = (i ≤ 16) × (roles ≡ filled 16 freshRole noRole i)
+invariant-loop roles₀ i₀ roles i = (i ≤ 16) × (roles ≡ filled 16 fresh_role no_role i)
 
 abbrev decreases-loop : tie.decreases-loop
 decreases-loop roles₀ i₀ roles i = 16 - i
@@ -19,7 +19,7 @@ empty-requires : tie.Need-empty-requires invariant-loop decreases-loop
 empty-requires c κs = search rules
 
 loop-holds : tie.Need-loop-init invariant-loop decreases-loop
-loop-holds c = (search rules, rw c.empty.ensures (filled_none 16 freshRole noRole))
+loop-holds c = (search rules, rw c.empty.ensures (filled_none 16 fresh_role no_role))
 
 fresh-role-requires : tie.Need-fresh-role-requires invariant-loop decreases-loop
 fresh-role-requires c κs = search rules
@@ -37,10 +37,10 @@ loop-less : tie.Need-loop-smaller invariant-loop decreases-loop
 loop-less c = search rules
 
 loop-again : tie.Need-loop-preserved invariant-loop decreases-loop
-loop-again c = (search rules, rw (c.before.before.loop.invariant.1, c.fresh-role.ensures) (filled_more 16 freshRole noRole c.before.before.loop.i (omega arith)))
+loop-again c = (search rules, rw (c.before.before.loop.invariant.1, c.fresh-role.ensures) (filled_more 16 fresh_role no_role c.before.before.loop.i (omega arith)))
 
 returns : tie.Need-returns invariant-loop decreases-loop
-returns c = let n : c.before.loop.i ≡ 16 = omega arith in (rw n at c.before.loop.invariant.1) ∙ filled-all 16 freshRole noRole
+returns c = let n : c.before.loop.i ≡ 16 = omega arith in (rw n at c.before.loop.invariant.1) ∙ filled_all 16 fresh_role no_role
 
 pub fresh-roles-spec : {M : Type 1} → statement M
 fresh-roles-spec =

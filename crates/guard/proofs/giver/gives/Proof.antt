@@ -2,8 +2,8 @@
 use mathlib.Core.Path.{sym, ◌∙◌}
 use native.Mathlib.Nat.{mod-eq_of_lt}
 use Rattle.bitset.specs.Tests.Laws.{either_l}
-use Rattle.guard.specs.Private.Scan.{juniorsBy, hasBy}
-use Rattle.guard.proofs.Descent.{given-one, untied-by, side-given}
+use Rattle.guard.specs.Private.Scan.{juniors_by, has_by}
+use Rattle.guard.proofs.Descent.{given_one, untied_by, side_given}
 use borrow.Author.Rules.{rules}
 use Rattle.guard.proofs.giver.gives.Statement.{statement}
 use Rattle.guard.proofs.giver.gives.Tie as tie
@@ -24,7 +24,7 @@ is-in-requires : tie.Need-is-in-requires
 is-in-requires c κs = search rules
 
 returns : tie.Need-returns
-unfolding hasBy
+unfolding has_by
 returns c = sym (either_l _ _ (sym c.before.is-in.ensures ∙ c.if1.true))
 
 add-if2 : tie.Need-overflow-add-if2
@@ -37,11 +37,11 @@ element-copy-out-if2 : tie.Need-element-copy-out-if2
 element-copy-out-if2 c = search rules
 
 returns-2 : tie.Need-returns-2
-unfolding juniorsBy
+unfolding juniors_by
 returns-2 c =
     let own = c.before.before in
     let start = own.before.before.before in
-    sym (untied-by start.args.grants.now start.args.r start.requires.0 (rw c.if2.true) start.args.k start.args.e ∙ sym own.before.is-in.ensures ∙ own.if1.false)
+    sym (untied_by start.args.grants.now start.args.r start.requires.0 (rw c.if2.true) start.args.k start.args.e ∙ sym own.before.is-in.ensures ∙ own.if1.false)
 
 with16-requires : tie.Need-with16-requires
 with16-requires c κs = search rules
@@ -59,10 +59,10 @@ returns-3 : tie.Need-returns-3
 returns-3 c =
     let gathered = c.before.before in
     let start = gathered.before.before.before.before.before.before.before in
-    let one = given-one start.args.grants.now start.args.r start.requires.0 start.args.k start.args.e in
+    let one = given_one start.args.grants.now start.args.r start.requires.0 start.args.k start.args.e in
     c.is-in2.ensures
     ∙ rw c.before.side.ensures
-    (side-given _ _ _ gathered.gather.ensures start.args.k start.args.e start.requires.1
+    (side_given _ _ _ gathered.gather.ensures start.args.k start.args.e start.requires.1
     ∙ rw (gathered.before.with16.ensures, mod-eq_of_lt start.requires.0) one)
 
 pub gives-spec : {M : Type 1} → statement M

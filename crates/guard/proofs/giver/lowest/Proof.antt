@@ -2,10 +2,10 @@
 use Prim.Native.Nat.{◌^◌, ◌<◌}
 use mathlib.Core.Path.{◌≡◌, refl, sym, ◌∙◌}
 use native.Mathlib.Omega.{arith}
-use Rattle.bitset.specs.Sets.Laws.{without-le}
-use Rattle.guard.specs.Told.{roleByte}
-use Rattle.guard.proofs.Soundness.Members.{without-less}
-use Rattle.guard.proofs.Columns.{Giver, giver-found, giver-next, giver-none}
+use Rattle.bitset.specs.Sets.Laws.{without_le}
+use Rattle.guard.specs.Told.{role_byte}
+use Rattle.guard.proofs.Soundness.Members.{without_less}
+use Rattle.guard.proofs.Columns.{Giver, giver_found, giver_next, giver_none}
 use Rattle.guard.proofs.giver.lowest.Statement.{statement}
 use Rattle.guard.proofs.giver.lowest.Tie as tie
 
@@ -28,31 +28,31 @@ cast-result : tie.Need-overflow-cast-result invariant-loop decreases-loop
 cast-result c = omega (arith, c.before.before.first.ensures.small)
 
 returns : tie.Need-returns invariant-loop decreases-loop
-unfolding roleByte
+unfolding role_byte
 returns c =
     let first = c.before.before in
     let is = first.first.ensures in
-    rw (← first.before.before.loop.invariant.1, giver-found _ _ _ _ _ is.small is.member is.none (sym c.before.gives.ensures ∙ c.if1.true))
+    rw (← first.before.before.loop.invariant.1, giver_found _ _ _ _ _ is.small is.member is.none (sym c.before.gives.ensures ∙ c.if1.true))
 
 without16-requires : tie.Need-without16-requires invariant-loop decreases-loop
 without16-requires c κs = tt
 
 loop-less : tie.Need-loop-smaller invariant-loop decreases-loop
-loop-less c = rw c.without16.ensures (without-less _ _ c.before.before.before.first.ensures.member)
+loop-less c = rw c.without16.ensures (without_less _ _ c.before.before.before.first.ensures.member)
 
 loop-again : tie.Need-loop-preserved invariant-loop decreases-loop
 loop-again c =
     let first = c.before.before.before in
     let at = first.before.before in
     rw c.without16.ensures (
-      omega (arith, without-le at.loop.left first.first.result, at.loop.invariant.0),
-      giver-next at.before.args.grants.now at.before.args.k at.before.args.e at.loop.left first.first.result (sym c.before.before.gives.ensures ∙ c.before.if1.false)
+      omega (arith, without_le at.loop.left first.first.result, at.loop.invariant.0),
+      giver_next at.before.args.grants.now at.before.args.k at.before.args.e at.loop.left first.first.result (sym c.before.before.gives.ensures ∙ c.before.if1.false)
           ∙ at.loop.invariant.1,
     )
 
 returns-2 : tie.Need-returns-2 invariant-loop decreases-loop
-unfolding roleByte
-returns-2 c = rw (← c.before.loop.invariant.1, c.loop-test.false, giver-none)
+unfolding role_byte
+returns-2 c = rw (← c.before.loop.invariant.1, c.loop-test.false, giver_none)
 
 pub lowest-spec : {M : Type 1} → statement M
 lowest-spec =

@@ -3,14 +3,14 @@ use Prim.Native.Nat.{◌≤◌, ◌-◌}
 use mathlib.Core.Path.{◌≡◌, refl}
 use native.Mathlib.Omega.{arith}
 use lib.ListN.{length}
-use Rattle.guard.specs.Old.{entityTaken}
+use Rattle.guard.specs.Old.{entity_taken}
 use Rattle.guard.proofs.Soundness.Loops.{long}
-use Rattle.guard.proofs.Taking.{taken, taken_step, taken-end}
+use Rattle.guard.proofs.Taking.{taken, taken_step, taken_end}
 use Rattle.guard.proofs.old.entities.Statement.{statement}
 use Rattle.guard.proofs.old.entities.Tie as tie
 
 abbrev invariant-loop : tie.invariant-loop
-invariant-loop old entities₀ i₀ entities i = (i ≤ 64) × (length old ≡ 64) × (length entities₀ ≡ 64) × (entities ≡ taken entityTaken i old entities₀)
+invariant-loop old entities₀ i₀ entities i = (i ≤ 64) × (length old ≡ 64) × (length entities₀ ≡ 64) × (entities ≡ taken entity_taken i old entities₀)
 
 abbrev decreases-loop : tie.decreases-loop
 decreases-loop old entities₀ i₀ entities i = 64 - i
@@ -54,7 +54,7 @@ returns : tie.Need-returns invariant-loop decreases-loop
 returns c =
     let (_, old, new, so) = c.before.loop.invariant in
     let all : c.before.loop.i ≡ 64 = omega arith in
-    taken-end _ _ _ _ _ _ old new all so
+    taken_end _ _ _ _ _ _ old new all so
 
 pub entities-spec : {M : Type 1} → statement M
 entities-spec =

@@ -3,14 +3,14 @@ use Prim.Native.Nat.{◌≤◌, ◌-◌}
 use mathlib.Core.Path.{◌≡◌, refl}
 use native.Mathlib.Omega.{arith}
 use lib.ListN.{length}
-use Rattle.guard.specs.Old.{roleTaken}
+use Rattle.guard.specs.Old.{role_taken}
 use Rattle.guard.proofs.Soundness.Loops.{long}
-use Rattle.guard.proofs.Taking.{taken, taken_step, taken-end}
+use Rattle.guard.proofs.Taking.{taken, taken_step, taken_end}
 use Rattle.guard.proofs.old.roles.Statement.{statement}
 use Rattle.guard.proofs.old.roles.Tie as tie
 
 abbrev invariant-loop : tie.invariant-loop
-invariant-loop old roles₀ i₀ roles i = (i ≤ 16) × (length old ≡ 16) × (length roles₀ ≡ 16) × (roles ≡ taken roleTaken i old roles₀)
+invariant-loop old roles₀ i₀ roles i = (i ≤ 16) × (length old ≡ 16) × (length roles₀ ≡ 16) × (roles ≡ taken role_taken i old roles₀)
 
 abbrev decreases-loop : tie.decreases-loop
 decreases-loop old roles₀ i₀ roles i = 16 - i
@@ -54,7 +54,7 @@ returns : tie.Need-returns invariant-loop decreases-loop
 returns c =
     let (_, old, new, so) = c.before.loop.invariant in
     let all : c.before.loop.i ≡ 16 = omega arith in
-    taken-end _ _ _ _ _ _ old new all so
+    taken_end _ _ _ _ _ _ old new all so
 
 pub roles-spec : {M : Type 1} → statement M
 roles-spec =

@@ -3,14 +3,14 @@ use Prim.Native.Nat.{◌≤◌, ◌-◌}
 use mathlib.Core.Path.{◌≡◌, refl}
 use native.Mathlib.Omega.{arith}
 use lib.ListN.{length}
-use Rattle.guard.specs.Old.{sessionTaken}
+use Rattle.guard.specs.Old.{session_taken}
 use Rattle.guard.proofs.Soundness.Loops.{long}
-use Rattle.guard.proofs.Taking.{taken, taken_step, taken-end}
+use Rattle.guard.proofs.Taking.{taken, taken_step, taken_end}
 use Rattle.guard.proofs.old.sessions.Statement.{statement}
 use Rattle.guard.proofs.old.sessions.Tie as tie
 
 abbrev invariant-loop : tie.invariant-loop
-invariant-loop old sessions₀ i₀ sessions i = (i ≤ 16) × (length old ≡ 16) × (length sessions₀ ≡ 16) × (sessions ≡ taken sessionTaken i old sessions₀)
+invariant-loop old sessions₀ i₀ sessions i = (i ≤ 16) × (length old ≡ 16) × (length sessions₀ ≡ 16) × (sessions ≡ taken session_taken i old sessions₀)
 
 abbrev decreases-loop : tie.decreases-loop
 decreases-loop old sessions₀ i₀ sessions i = 16 - i
@@ -54,7 +54,7 @@ returns : tie.Need-returns invariant-loop decreases-loop
 returns c =
     let (_, old, new, so) = c.before.loop.invariant in
     let all : c.before.loop.i ≡ 16 = omega arith in
-    taken-end _ _ _ _ _ _ old new all so
+    taken_end _ _ _ _ _ _ old new all so
 
 pub sessions-spec : {M : Type 1} → statement M
 sessions-spec =

@@ -3,14 +3,14 @@ use Prim.Native.Nat.{◌≤◌, ◌-◌}
 use mathlib.Core.Path.{◌≡◌, refl}
 use native.Mathlib.Omega.{arith}
 use lib.ListN.{length}
-use Rattle.guard.specs.Old.{userTaken}
+use Rattle.guard.specs.Old.{user_taken}
 use Rattle.guard.proofs.Soundness.Loops.{long}
-use Rattle.guard.proofs.Taking.{taken, taken_step, taken-end}
+use Rattle.guard.proofs.Taking.{taken, taken_step, taken_end}
 use Rattle.guard.proofs.old.users.Statement.{statement}
 use Rattle.guard.proofs.old.users.Tie as tie
 
 abbrev invariant-loop : tie.invariant-loop
-invariant-loop old users₀ i₀ users i = (i ≤ 16) × (length old ≡ 16) × (length users₀ ≡ 16) × (users ≡ taken userTaken i old users₀)
+invariant-loop old users₀ i₀ users i = (i ≤ 16) × (length old ≡ 16) × (length users₀ ≡ 16) × (users ≡ taken user_taken i old users₀)
 
 abbrev decreases-loop : tie.decreases-loop
 decreases-loop old users₀ i₀ users i = 16 - i
@@ -54,7 +54,7 @@ returns : tie.Need-returns invariant-loop decreases-loop
 returns c =
     let (_, old, new, so) = c.before.loop.invariant in
     let all : c.before.loop.i ≡ 16 = omega arith in
-    taken-end _ _ _ _ _ _ old new all so
+    taken_end _ _ _ _ _ _ old new all so
 
 pub users-spec : {M : Type 1} → statement M
 users-spec =

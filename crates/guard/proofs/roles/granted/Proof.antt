@@ -1,6 +1,6 @@
 -- `granted` is the role after a grant or a revoke, set by set. Assumes nothing.
 use borrow.Author.Rules.{rules}
-use Rattle.guard.specs.Private.Inside.{grantedAfter}
+use Rattle.guard.specs.Private.Inside.{granted_after}
 use Rattle.guard.proofs.roles.granted.Statement.{statement}
 use Rattle.guard.proofs.roles.granted.Tie as tie
 
@@ -32,7 +32,7 @@ set-after-requires-4 : tie.Need-set-after-requires-4
 set-after-requires-4 c κs = search rules
 
 returns : tie.Need-returns
-unfolding grantedAfter
+unfolding granted_after
 returns c =
     rw (
       c.before.before.before.before.before.before.set_after.ensures,

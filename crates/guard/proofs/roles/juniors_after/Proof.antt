@@ -3,8 +3,8 @@ use borrow.Author.Rules.{rules}
 use native.Mathlib.Nat.{mod-eq_of_lt}
 use native.Mathlib.Omega.{arith}
 use borrow.Author.Tests.{eq-eqb, ne_eqb}
-use Rattle.guard.specs.Private.Inside.{juniorsAfter}
-use Rattle.guard.proofs.Ranges.{in-tie}
+use Rattle.guard.specs.Private.Inside.{juniors_after}
+use Rattle.guard.proofs.Ranges.{in_tie}
 use Rattle.guard.proofs.roles.juniors_after.Statement.{statement}
 use Rattle.guard.proofs.roles.juniors_after.Tie as tie
 
@@ -12,20 +12,20 @@ with16-requires : tie.Need-with16-requires
 with16-requires c κs = search rules
 
 returns : tie.Need-returns
-unfolding juniorsAfter
+unfolding juniors_after
 returns c =
     let one = c.before in
-    rw (eq-eqb _ _ one.if1.true, c.with16.ensures, mod-eq_of_lt (in-tie _ one.before.before.requires (omega (arith, one.if1.true)) (omega (arith, one.if1.true))).2)
+    rw (eq-eqb _ _ one.if1.true, c.with16.ensures, mod-eq_of_lt (in_tie _ one.before.before.requires (omega (arith, one.if1.true)) (omega (arith, one.if1.true))).2)
 
 without16-requires : tie.Need-without16-requires
 without16-requires c κs = search rules
 
 returns-2 : tie.Need-returns-2
-unfolding juniorsAfter
+unfolding juniors_after
 returns-2 c = rw (ne_eqb _ _ c.before.before.before.if1.false, eq-eqb _ _ c.before.if2.true, c.without16.ensures)
 
 returns-3 : tie.Need-returns-3
-unfolding juniorsAfter
+unfolding juniors_after
 returns-3 c = rw (ne_eqb _ _ c.before.before.if1.false, ne_eqb _ _ c.if2.false)
 
 pub juniors-after-spec : {M : Type 1} → statement M

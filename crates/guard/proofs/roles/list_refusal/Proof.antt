@@ -1,7 +1,7 @@
 -- `list_refusal`: the first condition met, those of `keeper_refusal` among them. Assumes nothing.
 use borrow.Author.Rules.{rules}
 use Rattle.guard.proofs.RefusalSearch.{refusing}
-use Rattle.guard.proofs.Answers.{keeper-met, keeper-unmet}
+use Rattle.guard.proofs.Answers.{keeper_met, keeper_unmet}
 use Rattle.guard.proofs.roles.list_refusal.Statement.{statement}
 use Rattle.guard.proofs.roles.list_refusal.Tie as tie
 
@@ -15,13 +15,13 @@ keeper-refusal-requires : tie.Need-keeper-refusal-requires
 keeper-refusal-requires c κs = search rules
 
 returns-3 : tie.Need-returns-3
-returns-3 c = search (refusing, keeper-met) depth 14 fits 4000
+returns-3 c = search (refusing, keeper_met) depth 14 fits 4000
 
 returns-4 : tie.Need-returns-4
-returns-4 c = search (refusing, keeper-unmet) depth 14 fits 4000
+returns-4 c = search (refusing, keeper_unmet) depth 14 fits 4000
 
 returns-5 : tie.Need-returns-5
-returns-5 c = search (refusing, keeper-unmet) depth 14 fits 4000
+returns-5 c = search (refusing, keeper_unmet) depth 14 fits 4000
 
 pub list-refusal-spec : {M : Type 1} → statement M
 list-refusal-spec =

@@ -6,22 +6,22 @@ use mathlib.Core.Bool.{Bool, true, false, ◌||◌}
 use mathlib.Core.List.{List, [], ◌∷◌}
 use borrow.Author.Tests.{eq-eqb, ne_eqb}
 use Rattle.bitset.specs.Tests.{either}
-use Rattle.bitset.specs.Tests.Laws.{not-of-true, not_of_false, either_r}
+use Rattle.bitset.specs.Tests.Laws.{not_of_true, not_of_false, either_r}
 use Rattle.guard.specs.Refusals.{Refusal, ◌when◌, first}
 use Rattle.guard.proofs.RefusalSearch.{hit, miss, none}
-use Rattle.guard.proofs.Answers.{keeper-met, keeper-unmet}
+use Rattle.guard.proofs.Answers.{keeper_met, keeper_unmet}
 use Rattle.guard.proofs.roles.tie_refusal.Statement.{statement}
 use Rattle.guard.proofs.roles.tie_refusal.Tie as tie
 
 -- both roles are live and of one level: what is left to test
 module _ (dead gone lost low apart kept : Bool) (cs : List Refusal) (live : dead ≡ false) (both : (gone || lost) ≡ false) where
-  past-7 : (n : ℕ) → n ≡ first (10 when either low apart ∷ 12 when kept ∷ cs) → n ≡ first (5 when dead ∷ 7 when either gone lost ∷ 10 when either low apart ∷ 12 when kept ∷ cs)
+  past_7 : (n : ℕ) → n ≡ first (10 when either low apart ∷ 12 when kept ∷ cs) → n ≡ first (5 when dead ∷ 7 when either gone lost ∷ 10 when either low apart ∷ 12 when kept ∷ cs)
   unfolding either
-  past-7 n h = miss 5 n _ _ live (miss 7 n _ _ both h)
+  past_7 n h = miss 5 n _ _ live (miss 7 n _ _ both h)
 
-  same-level : apart ≡ false → (n : ℕ) → n ≡ first (10 when low ∷ 12 when kept ∷ cs) → n ≡ first (10 when either low apart ∷ 12 when kept ∷ cs)
+  same_level : apart ≡ false → (n : ℕ) → n ≡ first (10 when low ∷ 12 when kept ∷ cs) → n ≡ first (10 when either low apart ∷ 12 when kept ∷ cs)
   unfolding either
-  same-level e n h = rw e (go low h)
+  same_level e n h = rw e (go low h)
     where
       go : (a : Bool) → n ≡ first (10 when a ∷ 12 when kept ∷ cs) → n ≡ first (10 when (a || false) ∷ 12 when kept ∷ cs)
       go true h = h
@@ -29,11 +29,11 @@ module _ (dead gone lost low apart kept : Bool) (cs : List Refusal) (live : dead
 
   met : apart ≡ false → (n : ℕ) → n ≡ first (10 when low ∷ 12 when kept ∷ []) → (n ≡ 0 → ⊥)
       → n ≡ first (5 when dead ∷ 7 when either gone lost ∷ 10 when either low apart ∷ 12 when kept ∷ cs)
-  met e n h k = past-7 n (same-level e n (keeper-met low kept cs n h k))
+  met e n h k = past_7 n (same_level e n (keeper_met low kept cs n h k))
 
   unmet : apart ≡ false → (m n : ℕ) → m ≡ first (10 when low ∷ 12 when kept ∷ []) → m ≡ 0 → n ≡ first cs
       → n ≡ first (5 when dead ∷ 7 when either gone lost ∷ 10 when either low apart ∷ 12 when kept ∷ cs)
-  unmet e m n h z k = past-7 n (same-level e n (keeper-unmet low kept cs n m h z k))
+  unmet e m n h z k = past_7 n (same_level e n (keeper_unmet low kept cs n m h z k))
 
 returns : tie.Need-returns
 returns c = hit 5 _ _ c.if1.true
@@ -45,7 +45,7 @@ returns-2 c = miss 5 7 _ _ c.before.before.before.if1.false (hit 7 _ _ c.if2.tru
 returns-3 : tie.Need-returns-3
 returns-3 c =
     let two = c.before.before.before in
-    past-7 _ _ _ _ _ _ _ two.before.before.before.if1.false two.if2.false 10 (hit 10 _ _ (either_r _ _ (not_of_false _ (ne_eqb _ _ c.if3.true))))
+    past_7 _ _ _ _ _ _ _ two.before.before.before.if1.false two.if2.false 10 (hit 10 _ _ (either_r _ _ (not_of_false _ (ne_eqb _ _ c.if3.true))))
 
 keeper-refusal-requires : tie.Need-keeper-refusal-requires
 keeper-refusal-requires c κs = search rules
@@ -55,14 +55,14 @@ returns-4 c =
     let n = c.before in
     let three = n.before in
     let two = three.before.before.before in
-    met _ _ _ _ _ _ _ two.before.before.before.if1.false two.if2.false (not-of-true _ (eq-eqb _ _ three.if3.false)) _ n.keeper-refusal.ensures c.if4.true
+    met _ _ _ _ _ _ _ two.before.before.before.if1.false two.if2.false (not_of_true _ (eq-eqb _ _ three.if3.false)) _ n.keeper-refusal.ensures c.if4.true
 
 returns-5 : tie.Need-returns-5
 returns-5 c =
     let n = c.before.before in
     let three = n.before in
     let two = three.before.before.before in
-    unmet _ _ _ _ _ _ _ two.before.before.before.if1.false two.if2.false (not-of-true _ (eq-eqb _ _ three.if3.false)) _ 22 n.keeper-refusal.ensures c.before.if4.false
+    unmet _ _ _ _ _ _ _ two.before.before.before.if1.false two.if2.false (not_of_true _ (eq-eqb _ _ three.if3.false)) _ 22 n.keeper-refusal.ensures c.before.if4.false
     (hit 22 _ _ c.if5.true)
 
 has16-requires : tie.Need-has16-requires
@@ -77,7 +77,7 @@ returns-6 c =
     let n = five.before.before in
     let three = n.before in
     let two = three.before.before.before in
-    unmet _ _ _ _ _ _ _ two.before.before.before.if1.false two.if2.false (not-of-true _ (eq-eqb _ _ three.if3.false)) _ 16 n.keeper-refusal.ensures five.before.if4.false
+    unmet _ _ _ _ _ _ _ two.before.before.before.if1.false two.if2.false (not_of_true _ (eq-eqb _ _ three.if3.false)) _ 16 n.keeper-refusal.ensures five.before.if4.false
     (miss 22 16 _ _ five.if5.false (hit 16 _ _ (rw c.before.before.has16.ensures at (sym c.before.is-so.ensures ∙ c.if6.true))))
 
 returns-7 : tie.Need-returns-7
@@ -86,7 +86,7 @@ returns-7 c =
     let n = five.before.before in
     let three = n.before in
     let two = three.before.before.before in
-    unmet _ _ _ _ _ _ _ two.before.before.before.if1.false two.if2.false (not-of-true _ (eq-eqb _ _ three.if3.false)) _ 0 n.keeper-refusal.ensures five.before.if4.false
+    unmet _ _ _ _ _ _ _ two.before.before.before.if1.false two.if2.false (not_of_true _ (eq-eqb _ _ three.if3.false)) _ 0 n.keeper-refusal.ensures five.before.if4.false
     (miss 22 0 _ _ five.if5.false (miss 16 0 _ _ (rw c.before.before.has16.ensures at (sym c.before.is-so.ensures ∙ c.if6.false)) none))
 
 pub tie-refusal-spec : {M : Type 1} → statement M

@@ -2,7 +2,7 @@
 use borrow.Author.Rules.{rules}
 use native.Mathlib.Nat.{mod-eq_of_lt}
 use borrow.Author.Tests.{eq-eqb, ne_eqb}
-use Rattle.guard.specs.Private.Inside.{usersAfter}
+use Rattle.guard.specs.Private.Inside.{users_after}
 use Rattle.guard.proofs.Ranges.{in_list}
 use Rattle.guard.proofs.roles.users_after.Statement.{statement}
 use Rattle.guard.proofs.roles.users_after.Tie as tie
@@ -11,7 +11,7 @@ with16-requires : tie.Need-with16-requires
 with16-requires c κs = search rules
 
 returns : tie.Need-returns
-unfolding usersAfter
+unfolding users_after
 returns c =
     let one = c.before in
     rw (eq-eqb _ _ one.if1.true, c.with16.ensures, mod-eq_of_lt (in_list _ one.before.before.requires one.if1.true).2)
@@ -20,11 +20,11 @@ without16-requires : tie.Need-without16-requires
 without16-requires c κs = search rules
 
 returns-2 : tie.Need-returns-2
-unfolding usersAfter
+unfolding users_after
 returns-2 c = rw (ne_eqb _ _ c.before.before.before.if1.false, eq-eqb _ _ c.before.if2.true, c.without16.ensures)
 
 returns-3 : tie.Need-returns-3
-unfolding usersAfter
+unfolding users_after
 returns-3 c = rw (ne_eqb _ _ c.before.before.if1.false, ne_eqb _ _ c.if2.false)
 
 pub users-after-spec : {M : Type 1} → statement M

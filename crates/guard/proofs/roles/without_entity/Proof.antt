@@ -3,15 +3,15 @@ use Prim.Native.Nat.{◌-◌, ◌≤◌}
 use mathlib.Core.Path.{◌≡◌, refl}
 use native.Mathlib.Omega.{arith}
 use lib.ListN.{length}
-use Rattle.guard.specs.Tables.{noRole}
-use Rattle.guard.specs.Edits.{clearRights}
+use Rattle.guard.specs.Tables.{no_role}
+use Rattle.guard.specs.Edits.{clear_rights}
 use Rattle.guard.proofs.Soundness.Loops.{long}
-use Rattle.guard.proofs.Sweeps.{mapped, mapped-step, mapped_end}
+use Rattle.guard.proofs.Sweeps.{mapped, mapped_step, mapped_end}
 use Rattle.guard.proofs.roles.without_entity.Statement.{statement}
 use Rattle.guard.proofs.roles.without_entity.Tie as tie
 
 abbrev invariant-loop : tie.invariant-loop
-invariant-loop e n₀ i₀ n i = (i ≤ 16) × (length n₀ ≡ 16) × (n ≡ mapped (clearRights e) i n₀)
+invariant-loop e n₀ i₀ n i = (i ≤ 16) × (length n₀ ≡ 16) × (n ≡ mapped (clear_rights e) i n₀)
 
 abbrev decreases-loop : tie.decreases-loop
 decreases-loop e n₀ i₀ n i = 16 - i
@@ -41,7 +41,7 @@ loop-less : tie.Need-loop-smaller invariant-loop decreases-loop
 loop-less c = omega arith
 
 loop-again : tie.Need-loop-preserved invariant-loop decreases-loop
-loop-again c = (omega arith, c.before.before.before.loop.invariant.1, mapped-step _ _ _ _ noRole _ c.before.before.before.loop.invariant.2 c.cleared.ensures)
+loop-again c = (omega arith, c.before.before.before.loop.invariant.1, mapped_step _ _ _ _ no_role _ c.before.before.before.loop.invariant.2 c.cleared.ensures)
 
 returns : tie.Need-returns invariant-loop decreases-loop
 returns c = let i : c.before.loop.i ≡ 16 = omega arith in mapped_end _ _ _ _ 16 c.before.loop.invariant.2 i c.before.loop.invariant.1

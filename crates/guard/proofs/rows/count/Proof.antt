@@ -1,7 +1,7 @@
 -- `count`: the shortest of the three. Assumes nothing.
 use borrow.Author.Rules.{rules}
 use mathlib.Core.Path.{◌∙◌}
-use Rattle.guard.specs.Batch.{batchLength}
+use Rattle.guard.specs.Batch.{batch_length}
 use Rattle.guard.proofs.rows.count.Statement.{statement}
 use Rattle.guard.proofs.rows.count.Tie as tie
 
@@ -12,7 +12,7 @@ shorter-requires-2 : tie.Need-shorter-requires-2
 shorter-requires-2 c κs = search rules
 
 returns : tie.Need-returns
-unfolding batchLength
+unfolding batch_length
 returns c = c.shorter2.ensures ∙ rw c.before.shorter.ensures
 
 pub count_spec : {M : Type 1} → statement M

@@ -1,7 +1,7 @@
 -- `request` is the request of a row. Assumes nothing.
 use borrow.Author.Rules.{rules}
 use native.Mathlib.Nat.{add-zero}
-use Rattle.guard.specs.Batch.{requestAt}
+use Rattle.guard.specs.Batch.{request_at}
 use Rattle.guard.proofs.rows.request.Statement.{statement}
 use Rattle.guard.proofs.rows.request.Tie as tie
 
@@ -123,7 +123,7 @@ shared-slice-read-t54 : tie.Need-shared-slice-read-t54
 shared-slice-read-t54 c = search rules
 
 returns : tie.Need-returns
-unfolding requestAt
+unfolding request_at
 returns c = simp add-zero
 
 pub request-spec : {M : Type 1} → statement M

@@ -6,8 +6,8 @@ use native.Mathlib.Omega.{arith}
 use lib.Dec.{eqb}
 use lib.ListN.{get_or}
 use Rattle.bitset.specs.Tests.{some}
-use Rattle.bitset.specs.Tests.Laws.{some-none, some_more}
-use Rattle.guard.specs.Private.Scan.{childBy}
+use Rattle.bitset.specs.Tests.Laws.{some_none, some_more}
+use Rattle.guard.specs.Private.Scan.{child_by}
 use Rattle.guard.proofs.scan.child_in.Statement.{statement}
 use Rattle.guard.proofs.scan.child_in.Tie as tie
 
@@ -24,7 +24,7 @@ mul-first : tie.Need-overflow-mul-first invariant-loop decreases-loop
 mul-first c = search rules
 
 loop-holds : tie.Need-loop-init invariant-loop decreases-loop
-loop-holds c = (omega arith, sym (some-none _))
+loop-holds c = (omega arith, sym (some_none _))
 
 add-found : tie.Need-overflow-add-found invariant-loop decreases-loop
 add-found c = search rules
@@ -45,7 +45,7 @@ loop-again : tie.Need-loop-preserved invariant-loop decreases-loop
 loop-again c = (omega arith, rw (some_more, ← c.before.before.loop.invariant.1))
 
 returns : tie.Need-returns invariant-loop decreases-loop
-unfolding childBy
+unfolding child_by
 returns c = let m : c.before.loop.m ≡ 16 = omega arith in rw m at c.before.loop.invariant.1
 
 pub child-in-spec : {M : Type 1} → statement M

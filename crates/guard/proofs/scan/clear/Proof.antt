@@ -5,8 +5,8 @@ use mathlib.Core.Path.{◌≡◌, refl}
 use native.Mathlib.Omega.{arith}
 use lib.ListN.{length}
 use Rattle.bitset.specs.Sets.{without}
-use Rattle.guard.proofs.Sweeps.{mapped, mapped-step}
-use Rattle.guard.proofs.Columns.{cleared-all}
+use Rattle.guard.proofs.Sweeps.{mapped, mapped_step}
+use Rattle.guard.proofs.Columns.{cleared_all}
 use Rattle.guard.proofs.scan.clear.Statement.{statement}
 use Rattle.guard.proofs.scan.clear.Tie as tie
 
@@ -44,10 +44,10 @@ loop-less : tie.Need-loop-smaller invariant-loop decreases-loop
 loop-less c = search rules
 
 loop-again : tie.Need-loop-preserved invariant-loop decreases-loop
-loop-again c = (omega arith, c.before.before.before.loop.invariant.1, mapped-step _ _ _ _ 0 _ c.before.before.before.loop.invariant.2 c.without64.ensures)
+loop-again c = (omega arith, c.before.before.before.loop.invariant.1, mapped_step _ _ _ _ 0 _ c.before.before.before.loop.invariant.2 c.without64.ensures)
 
 returns : tie.Need-returns invariant-loop decreases-loop
-returns c = let j : c.before.loop.j ≡ 64 = omega arith in cleared-all _ _ _ c.before.loop.invariant.1 (rw j at c.before.loop.invariant.2)
+returns c = let j : c.before.loop.j ≡ 64 = omega arith in cleared_all _ _ _ c.before.loop.invariant.1 (rw j at c.before.loop.invariant.2)
 
 pub clear_spec : {M : Type 1} → statement M
 clear_spec =

@@ -2,7 +2,7 @@
 use borrow.Author.Rules.{rules}
 use Prim.Native.Nat.{◌-◌, ◌≤◌}
 use native.Mathlib.Omega.{arith}
-use Rattle.guard.proofs.Columns.{Sides, sides-none, sides-more, sides_all}
+use Rattle.guard.proofs.Columns.{Sides, sides_none, sides_more, sides_all}
 use Rattle.guard.proofs.scan.column.Statement.{statement}
 use Rattle.guard.proofs.scan.column.Tie as tie
 
@@ -13,7 +13,7 @@ abbrev decreases-loop : tie.decreases-loop
 decreases-loop roles g₀ r₀ g r = 16 - r
 
 loop-holds : tie.Need-loop-init invariant-loop decreases-loop
-loop-holds c = (omega arith, sides-none _ _ (search rules))
+loop-holds c = (omega arith, sides_none _ _ (search rules))
 
 mul-p : tie.Need-overflow-mul-p invariant-loop decreases-loop
 mul-p c = search rules
@@ -31,7 +31,7 @@ loop-less : tie.Need-loop-smaller invariant-loop decreases-loop
 loop-less c = search rules
 
 loop-again : tie.Need-loop-preserved invariant-loop decreases-loop
-loop-again c = (omega arith, sides-more _ _ _ _ c.before.before.before.before.loop.invariant.1 c.put.ensures c.before.before.before.loop-test.true)
+loop-again c = (omega arith, sides_more _ _ _ _ c.before.before.before.before.loop.invariant.1 c.put.ensures c.before.before.before.loop-test.true)
 
 returns : tie.Need-returns invariant-loop decreases-loop
 returns c = sides_all _ _ _ (omega arith) c.before.loop.invariant.1

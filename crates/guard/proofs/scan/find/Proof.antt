@@ -5,23 +5,23 @@ use mathlib.Core.Path.{◌≡◌, sym, ◌∙◌}
 use mathlib.Core.Bool.{Bool, false}
 use mathlib.Core.List.{List}
 use borrow.Author.Tests.{not-true, not-false}
-use Rattle.bitset.specs.Tests.Laws.{clash, either-no-l}
-use Rattle.guard.specs.Private.Inside.{asksWay, asksRights}
-use Rattle.guard.specs.Private.Scan.{tiedBy, reachedBy, foundOnly, FoundBy}
+use Rattle.bitset.specs.Tests.Laws.{clash, either_no_l}
+use Rattle.guard.specs.Private.Inside.{asks_way, asks_rights}
+use Rattle.guard.specs.Private.Scan.{tied_by, reached_by, found_only, FoundBy}
 use Rattle.guard.specs.declared.Request.{Request}
 use Rattle.guard.proofs.scan.find.Statement.{statement}
 use Rattle.guard.proofs.scan.find.Tie as tie
 
 -- a kind that asks for no right asks neither for the way nor for a child
-found-ties : (keys grants : List ℕ) (q : Request) (held e o r j : ℕ) (kin : Bool) → asksRights q.call ≡ false → kin ≡ tiedBy grants q.call r j
-    → FoundBy keys grants q held e o r j (foundOnly kin)
-unfolding asksRights reachedBy
-found-ties keys grants q held e o r j kin none tied =
-    let way : asksWay q.call ≡ false = either-no-l _ _ none in
+found_ties : (keys grants : List ℕ) (q : Request) (held e o r j : ℕ) (kin : Bool) → asks_rights q.call ≡ false → kin ≡ tied_by grants q.call r j
+    → FoundBy keys grants q held e o r j (found_only kin)
+unfolding asks_rights reached_by
+found_ties keys grants q held e o r j kin none tied =
+    let way : asks_way q.call ≡ false = either_no_l _ _ none in
     record {
-      rights = λ a. absurd (clash (asksRights q.call) a none);
+      rights = λ a. absurd (clash (asks_rights q.call) a none);
       reached = rw way;
-      kin = λ a. absurd (clash (asksRights q.call) a none);
+      kin = λ a. absurd (clash (asks_rights q.call) a none);
       tied = λ a. tied;
     }
 
@@ -37,7 +37,7 @@ only-requires c κs = search rules
 returns : tie.Need-returns
 returns c =
     let test = c.before.before in
-    rw c.only.ensures (found-ties _ _ _ _ _ _ _ _ _ (sym test.before.asks-rights.ensures ∙ not-true _ test.if1.true) c.before.tied.ensures)
+    rw c.only.ensures (found_ties _ _ _ _ _ _ _ _ _ (sym test.before.asks-rights.ensures ∙ not-true _ test.if1.true) c.before.tied.ensures)
 
 gather-requires : tie.Need-gather-requires
 gather-requires c κs = search rules

@@ -6,9 +6,9 @@ use native.Mathlib.Nat.{add-zero, mod-eq_of_lt}
 use native.Mathlib.Omega.{arith}
 use lib.Count.{count_trailing_zeros}
 use Rattle.bitset.specs.Sets.{has, join}
-use Rattle.bitset.specs.Sets.Laws.{with-lt}
+use Rattle.bitset.specs.Sets.Laws.{with_lt}
 use Rattle.guard.proofs.Soundness.Members.{lowest}
-use Rattle.guard.proofs.Descent.{Walked, walk_start, walk_step, walk-less, walk-roles, Union, union-none, union_more, union-all}
+use Rattle.guard.proofs.Descent.{Walked, walk_start, walk_step, walk_less, walk_roles, Union, union_none, union_more, union_all}
 use Rattle.guard.proofs.scan.gather.Statement.{statement}
 use Rattle.guard.proofs.scan.gather.Tie as tie
 
@@ -25,7 +25,7 @@ low c = lowest 16 c.before.loop.left (omega arith) c.before.loop.invariant.0.sma
 loop-holds : tie.Need-loop-init invariant-loop decreases-loop
 loop-holds c =
     let grants = c.args.grants.now in
-    (walk_start grants _ (omega arith), union-none grants 0, union-none grants 1, union-none grants 2, union-none grants 3)
+    (walk_start grants _ (omega arith), union_none grants 0, union_none grants 1, union_none grants 2, union_none grants 3)
 
 cast-b : tie.Need-overflow-cast-b invariant-loop decreases-loop
 cast-b c = omega (arith, (low c).0)
@@ -84,7 +84,7 @@ loop-less c =
     let (l, on) = low d in
     let at = d.before.loop in
     rw (c.before.before.with16.ensures, mod-eq_of_lt l)
-    (omega (arith, walk-less d.before.before.args.grants.now _ at.roles at.left _ at.invariant.0 l on, at.invariant.0.little, with-lt 16 at.roles _ at.invariant.0.little l))
+    (omega (arith, walk_less d.before.before.args.grants.now _ at.roles at.left _ at.invariant.0 l on, at.invariant.0.little, with_lt 16 at.roles _ at.invariant.0.little l))
 
 loop-again : tie.Need-loop-preserved invariant-loop decreases-loop
 unfolding join
@@ -107,11 +107,11 @@ returns c =
     let at = c.before.loop in
     let none = c.loop-test.false in
     record {
-      reads = union-all _ 0 _ _ _ _ at.invariant.0 none at.invariant.1;
-      writes = union-all _ 1 _ _ _ _ at.invariant.0 none at.invariant.2;
-      executes = union-all _ 2 _ _ _ _ at.invariant.0 none at.invariant.3;
-      owns = union-all _ 3 _ _ _ _ at.invariant.0 none at.invariant.4;
-      roles = λ j l. walk-roles _ _ _ _ at.invariant.0 none j;
+      reads = union_all _ 0 _ _ _ _ at.invariant.0 none at.invariant.1;
+      writes = union_all _ 1 _ _ _ _ at.invariant.0 none at.invariant.2;
+      executes = union_all _ 2 _ _ _ _ at.invariant.0 none at.invariant.3;
+      owns = union_all _ 3 _ _ _ _ at.invariant.0 none at.invariant.4;
+      roles = λ j l. walk_roles _ _ _ _ at.invariant.0 none j;
     }
 
 pub gather-spec : {M : Type 1} → statement M

@@ -5,10 +5,10 @@ use mathlib.Core.Path.{◌≡◌, sym, ap, ◌∙◌}
 use native.Mathlib.Omega.{arith}
 use lib.ListN.{get_or}
 use Rattle.bitset.specs.Tests.{some}
-use Rattle.bitset.specs.Tests.Laws.{some-none, some_more}
+use Rattle.bitset.specs.Tests.Laws.{some_none, some_more}
 use Rattle.bitset.specs.Sets.{has, join}
-use Rattle.bitset.specs.Sets.Laws.{has-none, has_join}
-use Rattle.guard.specs.Private.Scan.{seniorBy}
+use Rattle.bitset.specs.Sets.Laws.{has_none, has_join}
+use Rattle.guard.specs.Private.Scan.{senior_by}
 use Rattle.guard.proofs.scan.has_senior.Statement.{statement}
 use Rattle.guard.proofs.scan.has_senior.Tie as tie
 
@@ -19,7 +19,7 @@ abbrev decreases-loop : tie.decreases-loop
 decreases-loop grants r all₀ k₀ all k = 16 - k
 
 loop-holds : tie.Need-loop-init invariant-loop decreases-loop
-loop-holds c = (omega arith, λ i. has-none i ∙ sym (some-none _))
+loop-holds c = (omega arith, λ i. has_none i ∙ sym (some_none _))
 
 add-all : tie.Need-overflow-add-all invariant-loop decreases-loop
 add-all c = omega arith
@@ -52,7 +52,7 @@ has64-requires : tie.Need-has64-requires invariant-loop decreases-loop
 has64-requires c κs = tt
 
 returns : tie.Need-returns invariant-loop decreases-loop
-unfolding seniorBy
+unfolding senior_by
 returns c =
     let at = c.before.before.loop in
     let end : at.k ≡ 16 = omega arith in

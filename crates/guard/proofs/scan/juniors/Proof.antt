@@ -1,7 +1,7 @@
 -- `juniors` is the number behind the sets, below 65,536 by its remainder. Assumes nothing.
 use borrow.Author.Rules.{rules}
 use mathlib.Core.Path.{refl}
-use Rattle.guard.specs.Private.Scan.{juniorsBy}
+use Rattle.guard.specs.Private.Scan.{juniors_by}
 use Rattle.guard.proofs.scan.juniors.Statement.{statement}
 use Rattle.guard.proofs.scan.juniors.Tie as tie
 
@@ -18,7 +18,7 @@ cast-result : tie.Need-overflow-cast-result
 cast-result c = search rules
 
 returns : tie.Need-returns
-unfolding juniorsBy
+unfolding juniors_by
 returns c = refl
 
 pub juniors-spec : {M : Type 1} → statement M

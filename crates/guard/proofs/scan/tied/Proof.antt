@@ -3,8 +3,8 @@ use mathlib.Core.Path.{◌∙◌}
 use native.Mathlib.Nat.{mod-eq_of_lt}
 use borrow.Author.Tests.{eq-eqb, ne_eqb}
 use Rattle.bitset.specs.Tests.{either}
-use Rattle.guard.specs.Private.Scan.{tiedBy}
-use Rattle.guard.proofs.Descent.{met-one}
+use Rattle.guard.specs.Private.Scan.{tied_by}
+use Rattle.guard.proofs.Descent.{met_one}
 use borrow.Author.Rules.{rules}
 use Rattle.guard.proofs.scan.tied.Statement.{statement}
 use Rattle.guard.proofs.scan.tied.Tie as tie
@@ -19,7 +19,7 @@ has-senior-requires : tie.Need-has-senior-requires
 has-senior-requires c κs = search rules
 
 returns : tie.Need-returns
-unfolding tiedBy either
+unfolding tied_by either
 returns c = rw (eq-eqb _ _ c.before.before.if1.true, c.before.juniors.ensures, c.has-senior.ensures)
 
 cast-with16 : tie.Need-overflow-cast-with16
@@ -38,7 +38,7 @@ has16-requires : tie.Need-has16-requires
 has16-requires c κs = search rules
 
 returns-2 : tie.Need-returns-2
-unfolding tiedBy
+unfolding tied_by
 returns-2 c =
     let gathered = c.before in
     let two = gathered.before.before in
@@ -46,10 +46,10 @@ returns-2 c =
     rw (ne_eqb _ _ two.before.if1.false, eq-eqb _ _ two.if2.true)
     (c.has16.ensures
     ∙ gathered.gather.ensures.roles _ start.requires.0
-    ∙ rw (gathered.before.with16.ensures, mod-eq_of_lt start.requires.1) (met-one start.args.grants.now start.args.j start.requires.1 start.args.r))
+    ∙ rw (gathered.before.with16.ensures, mod-eq_of_lt start.requires.1) (met_one start.args.grants.now start.args.j start.requires.1 start.args.r))
 
 returns-3 : tie.Need-returns-3
-unfolding tiedBy
+unfolding tied_by
 returns-3 c = rw (ne_eqb _ _ c.before.if1.false, ne_eqb _ _ c.if2.false)
 
 pub tied-spec : {M : Type 1} → statement M

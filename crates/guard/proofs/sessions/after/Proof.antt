@@ -2,24 +2,24 @@
 use borrow.Author.Rules.{rules}
 use native.Mathlib.Nat.{mod-eq_of_lt}
 use lib.ListN.{get_or-eq_default}
-use Rattle.guard.specs.Edits.{takeRole, openReading, openWriting, closeBoth}
-use Rattle.guard.specs.Private.Inside.{sessionAfter}
-use Rattle.guard.proofs.Ranges.{past-five, in-login, in_take, in-openr, in-openw}
+use Rattle.guard.specs.Edits.{take_role, open_reading, open_writing, close_both}
+use Rattle.guard.specs.Private.Inside.{session_after}
+use Rattle.guard.proofs.Ranges.{past_five, in_login, in_take, in_openr, in_openw}
 use Rattle.guard.proofs.sessions.after.Statement.{statement}
 use Rattle.guard.proofs.sessions.after.Tie as tie
 
 entered-requires : tie.Need-entered-requires
-entered-requires c κs = let r = in-login _ c.before.requires c.match.keys1 in (r.1, r.2, r.3)
+entered-requires c κs = let r = in_login _ c.before.requires c.match.keys1 in (r.1, r.2, r.3)
 
 returns : tie.Need-returns
-unfolding sessionAfter
+unfolding session_after
 returns c = rw (c.before.match.keys1, c.entered.ensures)
 
 empty-requires : tie.Need-empty-requires
 empty-requires c κs = search rules
 
 returns-2 : tie.Need-returns-2
-unfolding sessionAfter
+unfolding session_after
 returns-2 c = rw (c.before.match.keys2, c.empty.ensures)
 
 with16-requires : tie.Need-with16-requires
@@ -32,7 +32,7 @@ backed-requires : tie.Need-backed-requires
 backed-requires c κs = search rules
 
 returns-3 : tie.Need-returns-3
-unfolding sessionAfter
+unfolding session_after
 returns-3 c = rw (c.before.before.match.keys4, ← c.before.dropped.ensures) c.backed.ensures
 
 with64-requires : tie.Need-with64-requires
@@ -45,20 +45,20 @@ closed-requires : tie.Need-closed-requires
 closed-requires c κs = search rules
 
 returns-4 : tie.Need-returns-4
-unfolding sessionAfter
-returns-4 c = rw (get_or-eq_default _ (closeBoth _ _) (past-five _ c.before.match.rest.0.0.0.0.0.1 c.before.match.rest.0.0.0.0.1 c.before.match.rest.0.0.0.1 c.before.match.rest.0.0.1 c.before.match.rest.0.1 c.before.match.rest.1), c.closed.ensures)
+unfolding session_after
+returns-4 c = rw (get_or-eq_default _ (close_both _ _) (past_five _ c.before.match.rest.0.0.0.0.0.1 c.before.match.rest.0.0.0.0.1 c.before.match.rest.0.0.0.1 c.before.match.rest.0.0.1 c.before.match.rest.0.1 c.before.match.rest.1), c.closed.ensures)
 
 returns-5 : tie.Need-returns-5
-unfolding sessionAfter takeRole
+unfolding session_after take_role
 returns-5 c = let m = c.before in rw (m.match.keys3, c.with16.ensures, mod-eq_of_lt (in_take _ m.before.requires m.match.keys3).1)
 
 returns-6 : tie.Need-returns-6
-unfolding sessionAfter openReading
-returns-6 c = let m = c.before in rw (m.match.keys5, c.with64.ensures, mod-eq_of_lt (in-openr _ m.before.requires m.match.keys5).1)
+unfolding session_after open_reading
+returns-6 c = let m = c.before in rw (m.match.keys5, c.with64.ensures, mod-eq_of_lt (in_openr _ m.before.requires m.match.keys5).1)
 
 returns-7 : tie.Need-returns-7
-unfolding sessionAfter openWriting
-returns-7 c = let m = c.before in rw (m.match.keys6, c.with642.ensures, mod-eq_of_lt (in-openw _ m.before.requires m.match.keys6).1)
+unfolding session_after open_writing
+returns-7 c = let m = c.before in rw (m.match.keys6, c.with642.ensures, mod-eq_of_lt (in_openw _ m.before.requires m.match.keys6).1)
 
 pub after-spec : {M : Type 1} → statement M
 after-spec =

@@ -1,6 +1,6 @@
 -- `closed` is the session without the entity open. Assumes nothing.
 use borrow.Author.Rules.{rules}
-use Rattle.guard.specs.Edits.{closeBoth}
+use Rattle.guard.specs.Edits.{close_both}
 use Rattle.guard.proofs.sessions.closed.Statement.{statement}
 use Rattle.guard.proofs.sessions.closed.Tie as tie
 
@@ -11,7 +11,7 @@ without64-requires-2 : tie.Need-without64-requires-2
 without64-requires-2 c κs = search rules
 
 returns : tie.Need-returns
-unfolding closeBoth
+unfolding close_both
 returns c = rw (c.before.without64.ensures, c.without642.ensures)
 
 pub closed-spec : {M : Type 1} → statement M

@@ -1,6 +1,6 @@
 -- `entered` is the session that a login makes. Assumes nothing.
 use borrow.Author.Rules.{rules}
-use Rattle.guard.specs.Requests.{loggedIn}
+use Rattle.guard.specs.Requests.{logged_in}
 use Rattle.guard.proofs.sessions.entered.Statement.{statement}
 use Rattle.guard.proofs.sessions.entered.Tie as tie
 
@@ -11,7 +11,7 @@ cast-t3 : tie.Need-overflow-cast-t3
 cast-t3 c = search rules
 
 returns : tie.Need-returns
-unfolding loggedIn
+unfolding logged_in
 returns c = rw c.before.made.ensures
 
 pub entered-spec : {M : Type 1} → statement M

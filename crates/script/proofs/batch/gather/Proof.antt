@@ -3,8 +3,8 @@ use Prim.Native.Nat.{◌-◌, ◌≤◌}
 use mathlib.Core.Path.{◌≡◌, sym, ◌∙◌}
 use native.Mathlib.Omega.{arith}
 use lib.ListN.{length}
-use Rattle.script.proofs.GatherLoop.{Taken, taken_none, taken_next, taken-all, count-few, goes_on}
-use Rattle.script.proofs.LinesInBatch.{one-least}
+use Rattle.script.proofs.GatherLoop.{Taken, taken_none, taken_next, taken_all, count_few, goes_on}
+use Rattle.script.proofs.LinesInBatch.{one_least}
 use borrow.Author.Rules.{rules}
 use Rattle.script.proofs.batch.gather.Statement.{statement}
 use Rattle.script.proofs.batch.gather.Tie as tie
@@ -40,13 +40,13 @@ same-length-2 : tie.Need-same-length-2 invariant-loop decreases-loop
 same-length-2 c = search rules
 
 returns : tie.Need-returns invariant-loop decreases-loop
-returns c = let held = c.before.before.before.before.before.before.before.loop.invariant in taken-all _ held.3 held.2 (omega arith) (omega arith)
+returns c = let held = c.before.before.before.before.before.before.before.loop.invariant in taken_all _ held.3 held.2 (omega arith) (omega arith)
 
 load-requires : tie.Need-load-requires invariant-loop decreases-loop
 load-requires c κs =
-    let at-loop = c.before.before.before.before.before.before.before.before in
-    let start = at-loop.before.before.before.before in
-    let held = at-loop.loop.invariant in omega (arith, count-few held.3, held.0, start.requires.1)
+    let at_loop = c.before.before.before.before.before.before.before.before in
+    let start = at_loop.before.before.before.before in
+    let held = at_loop.loop.invariant in omega (arith, count_few held.3, held.0, start.requires.1)
 
 slice-write-marks : tie.Need-slice-write-marks invariant-loop decreases-loop
 slice-write-marks c = search rules
@@ -56,9 +56,9 @@ one-if-requires c κs = search rules
 
 add-count : tie.Need-overflow-add-count invariant-loop decreases-loop
 add-count c =
-    let at-is-allowed = c.before.before.before.before.before.before in
-    let at-loop = at-is-allowed.before.before.before.before.before.before in
-    let few = count-few at-loop.loop.invariant.3 in let one = one-least _ c.one-if.ensures in search rules
+    let at_is_allowed = c.before.before.before.before.before.before in
+    let at_loop = at_is_allowed.before.before.before.before.before.before in
+    let few = count_few at_loop.loop.invariant.3 in let one = one_least _ c.one-if.ensures in search rules
 
 add-lines : tie.Need-overflow-add-lines invariant-loop decreases-loop
 add-lines c = search rules
@@ -93,7 +93,7 @@ loop-again c =
     let on = goes_on start.args.s.now turn.loop.used read.next.result.len _ tested.if1.false in
     let held = turn.loop.invariant.3 in
     let loaded = c.before.before.before.before.load.ensures in
-    (search rules, search rules, search rules, taken_next held (omega (arith, count-few held)) (omega arith) read.next.ensures.0 read.next.ensures.1 on.0 (sym tested.before.is-allowed.ensures ∙ on.2) loaded.0 loaded.1 c.before.one-if.ensures)
+    (search rules, search rules, search rules, taken_next held (omega (arith, count_few held)) (omega arith) read.next.ensures.0 read.next.ensures.1 on.0 (sym tested.before.is-allowed.ensures ∙ on.2) loaded.0 loaded.1 c.before.one-if.ensures)
 
 same-length-3 : tie.Need-same-length-3 invariant-loop decreases-loop
 same-length-3 c = search rules
@@ -102,7 +102,7 @@ same-length-4 : tie.Need-same-length-4 invariant-loop decreases-loop
 same-length-4 c = search rules
 
 returns-2 : tie.Need-returns-2 invariant-loop decreases-loop
-returns-2 c = taken-all _ c.before.loop.invariant.3 c.before.loop.invariant.2 (omega arith) (omega arith)
+returns-2 c = taken_all _ c.before.loop.invariant.3 c.before.loop.invariant.2 (omega arith) (omega arith)
 
 pub gather-spec : {M : Type 1} → statement M
 gather-spec =

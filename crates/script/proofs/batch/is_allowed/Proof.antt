@@ -1,5 +1,5 @@
 -- `is_allowed`. Assumes nothing.
-use Rattle.script.specs.Private.LineBatch.{isAllowed}
+use Rattle.script.specs.Private.LineBatch.{is_allowed}
 use borrow.Author.Rules.{rules}
 use Rattle.script.proofs.batch.is_allowed.Statement.{statement}
 use Rattle.script.proofs.batch.is_allowed.Tie as tie
@@ -14,15 +14,15 @@ enum-told-3 : tie.Need-enum-told-3
 enum-told-3 c = search rules
 
 returns : tie.Need-returns
-unfolding isAllowed
+unfolding is_allowed
 returns c = rw c.enum_told.given.1
 
 returns-2 : tie.Need-returns-2
-unfolding isAllowed
+unfolding is_allowed
 returns-2 c = rw c.enum-told2.given.1
 
 returns-3 : tie.Need-returns-3
-unfolding isAllowed
+unfolding is_allowed
 returns-3 c = rw c.enum-told3.given.1
 
 pub is-allowed-spec : {M : Type 1} → statement M

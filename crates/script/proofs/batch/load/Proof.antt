@@ -1,7 +1,7 @@
 -- `load` stores the request of a line, if it asks one. Assumes nothing.
 use Rattle.script.specs.Private.Slices.{written}
 use mathlib.Core.Path.{refl}
-use Rattle.script.specs.Private.LineBatch.{isRequest, numbersOf}
+use Rattle.script.specs.Private.LineBatch.{is_request, numbers_of}
 use borrow.Author.Rules.{rules}
 use Rattle.script.proofs.batch.load.Statement.{statement}
 use Rattle.script.proofs.batch.load.Tie as tie
@@ -25,15 +25,15 @@ same_length : tie.Need-same-length
 same_length c = search rules
 
 returns : tie.Need-returns
-unfolding isRequest numbersOf
+unfolding is_request numbers_of
 returns c = rw c.before.before.before.before.before.l.given.1 (refl, c.before.before.put-row.ensures.holds)
 
 returns-2 : tie.Need-returns-2
-unfolding isRequest numbersOf written
+unfolding is_request numbers_of written
 returns-2 c = rw c.enum_told.given.1 (refl, refl)
 
 returns-3 : tie.Need-returns-3
-unfolding isRequest numbersOf written
+unfolding is_request numbers_of written
 returns-3 c = rw c.enum-told2.given.1 (refl, refl)
 
 pub load_spec : {M : Type 1} → statement M

@@ -7,8 +7,8 @@ use native.Mathlib.Omega.{arith}
 use Rattle.script.specs.Private.Slices.{Numbered, Put}
 use Rattle.script.specs.Private.LineBatch.{asked, texts}
 use Rattle.script.proofs.Texts.{numbered}
-use Rattle.script.proofs.LinesInBatch.{one-least}
-use Rattle.script.proofs.BatchStep.{room-left, line-few, along, asked-none, asked-on, asked-below, texts-none, texts-more, texts-all}
+use Rattle.script.proofs.LinesInBatch.{one_least}
+use Rattle.script.proofs.BatchStep.{room_left, line_few, along, asked_none, asked_on, asked_below, texts_none, texts_more, texts_all}
 use borrow.Author.Rules.{rules}
 use Rattle.script.proofs.batch.put_answers.Statement.{statement}
 use Rattle.script.proofs.batch.put_answers.Tie as tie
@@ -23,13 +23,13 @@ numeral-of-requires : tie.Need-numeral-of-requires invariant-loop decreases-loop
 numeral-of-requires c κs = search rules
 
 loop-holds : tie.Need-loop-init invariant-loop decreases-loop
-loop-holds c = (search rules, rw add-zero c.numeral-of.ensures, search rules, search rules, asked-none, texts-none _ _)
+loop-holds c = (search rules, rw add-zero c.numeral-of.ensures, search rules, search rules, asked_none, texts_none _ _)
 
 shared-slice-read-asks : tie.Need-shared-slice-read-asks invariant-loop decreases-loop
 shared-slice-read-asks c = search rules
 
 shared-slice-read-answer-of : tie.Need-shared-slice-read-answer-of invariant-loop decreases-loop
-shared-slice-read-answer-of c = let below = asked-below _ c.before.before.before.loop.i c.before.before.before.loop.invariant.4 in search rules
+shared-slice-read-answer-of c = let below = asked_below _ c.before.before.before.loop.i c.before.before.before.loop.invariant.4 in search rules
 
 answer-of-requires : tie.Need-answer-of-requires invariant-loop decreases-loop
 answer-of-requires c κs = search rules
@@ -45,24 +45,24 @@ part-put-line-end c = search rules
 
 put-line-requires : tie.Need-put-line-requires invariant-loop decreases-loop
 put-line-requires c κs =
-    let at-loop = c.before.before.before.before.before in
-    (numbered at-loop.loop.invariant.1, omega (arith, room-left at-loop.loop.wrote at-loop.loop.out))
+    let at_loop = c.before.before.before.before.before in
+    (numbered at_loop.loop.invariant.1, omega (arith, room_left at_loop.loop.wrote at_loop.loop.out))
 
 add-wrote : tie.Need-overflow-add-wrote invariant-loop decreases-loop
-add-wrote c = let few = line-few _ _ c.before.before.put-line.ensures in search rules
+add-wrote c = let few = line_few _ _ c.before.before.put-line.ensures in search rules
 
 one-if-requires : tie.Need-one-if-requires invariant-loop decreases-loop
 one-if-requires c κs = search rules
 
 add-j : tie.Need-overflow-add-j invariant-loop decreases-loop
 add-j c =
-    let at-loop = c.before.before.before.before.before.before.before.before.before in
-    let below = asked-below _ at-loop.loop.i at-loop.loop.invariant.4 in let more = one-least _ c.one-if.ensures in search rules
+    let at_loop = c.before.before.before.before.before.before.before.before.before in
+    let below = asked_below _ at_loop.loop.i at_loop.loop.invariant.4 in let more = one_least _ c.one-if.ensures in search rules
 
 after-requires : tie.Need-after-requires invariant-loop decreases-loop
 after-requires c κs =
-    let at-loop = c.before.before.before.before.before.before.before.before.before in
-    (numbered at-loop.loop.invariant.1, omega (arith, at-loop.loop.invariant.1.whole))
+    let at_loop = c.before.before.before.before.before.before.before.before.before in
+    (numbered at_loop.loop.invariant.1, omega (arith, at_loop.loop.invariant.1.whole))
 
 add-i : tie.Need-overflow-add-i invariant-loop decreases-loop
 add-i c = search rules
@@ -72,22 +72,22 @@ loop-less c = search rules
 
 loop-again : tie.Need-loop-preserved invariant-loop decreases-loop
 loop-again c =
-    let at-one-if = c.before in
-    let at-put-line = at-one-if.before.before.before in
-    let at-answer-of = at-put-line.before.before in
-    let at-loop-test = at-answer-of.before.before.before in
-    let at-loop = at-loop-test.before in
-    let start = at-loop.before.before.before.before.before in
-    let held = at-loop.loop.invariant in
-    let turn = at-loop-test.loop-test.true in
-    let few = line-few _ _ at-put-line.put-line.ensures in
-    (search rules, rw (along _ _ held.1.whole) c.after.ensures, omega arith, search rules, asked-on _ start.args.answers.now _ _ _ held.4 turn (omega arith) at-one-if.one-if.ensures, texts-more _ _ _ _ _ held.4 turn (omega arith) _ _ _ held.5 at-answer-of.answer-of.ensures held.1.whole (omega arith) (omega arith) at-put-line.put-line.ensures)
+    let at_one_if = c.before in
+    let at_put_line = at_one_if.before.before.before in
+    let at_answer_of = at_put_line.before.before in
+    let at_loop_test = at_answer_of.before.before.before in
+    let at_loop = at_loop_test.before in
+    let start = at_loop.before.before.before.before.before in
+    let held = at_loop.loop.invariant in
+    let turn = at_loop_test.loop-test.true in
+    let few = line_few _ _ at_put_line.put-line.ensures in
+    (search rules, rw (along _ _ held.1.whole) c.after.ensures, omega arith, search rules, asked_on _ start.args.answers.now _ _ _ held.4 turn (omega arith) at_one_if.one-if.ensures, texts_more _ _ _ _ _ held.4 turn (omega arith) _ _ _ held.5 at_answer_of.answer-of.ensures held.1.whole (omega arith) (omega arith) at_put_line.put-line.ensures)
 
 same_length : tie.Need-same-length invariant-loop decreases-loop
 same_length c = search rules
 
 returns : tie.Need-returns invariant-loop decreases-loop
-returns c = texts-all _ _ _ _ _ c.before.loop.invariant.0 c.loop-test.false c.before.loop.invariant.5
+returns c = texts_all _ _ _ _ _ c.before.loop.invariant.0 c.loop-test.false c.before.loop.invariant.5
 
 pub put-answers-spec : {M : Type 1} → statement M
 put-answers-spec =

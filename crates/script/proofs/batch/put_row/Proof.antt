@@ -2,7 +2,7 @@
 use native.Mathlib.Omega.{arith}
 use lib.ListN.{length-set}
 use mathlib.Core.Path.{refl}
-use Rattle.script.proofs.Texts.{put-nil, put-cons}
+use Rattle.script.proofs.Texts.{put_nil, put_cons}
 use borrow.Author.Rules.{rules}
 use Rattle.script.proofs.batch.put_row.Statement.{statement}
 use Rattle.script.proofs.batch.put_row.Tie as tie
@@ -128,7 +128,7 @@ same_length : tie.Need-same-length
 same_length c = simp length-set
 
 returns : tie.Need-returns
-returns c = put-cons refl (put-cons (omega arith) (put-cons (omega arith) (put-cons (omega arith) (put-cons (omega arith) (put-cons (omega arith) (put-cons (omega arith) (put-cons (omega arith) (put-cons (omega arith) (put-cons (omega arith) (put-cons (omega arith) (put-cons (omega arith) (put-cons (omega arith) put-nil))))))))))))
+returns c = put_cons refl (put_cons (omega arith) (put_cons (omega arith) (put_cons (omega arith) (put_cons (omega arith) (put_cons (omega arith) (put_cons (omega arith) (put_cons (omega arith) (put_cons (omega arith) (put_cons (omega arith) (put_cons (omega arith) (put_cons (omega arith) (put_cons (omega arith) put_nil))))))))))))
 
 pub put-row-spec : {M : Type 1} → statement M
 put-row-spec =

@@ -1,7 +1,7 @@
 -- `shift`: the first i bytes are in their new place, the others as they were (Shifting of ShiftLoop). Assumes nothing.
 use Prim.Native.Nat.{◌-◌}
 use borrow.Author.Rules.{rules}
-use Rattle.script.proofs.ShiftLoop.{Shifting, shift_none, shift-more, shift-done}
+use Rattle.script.proofs.ShiftLoop.{Shifting, shift_none, shift_more, shift_done}
 use Rattle.script.proofs.buffer.shift.Statement.{statement}
 use Rattle.script.proofs.buffer.shift.Tie as tie
 
@@ -30,13 +30,13 @@ loop-less : tie.Need-loop-smaller invariant-loop decreases-loop
 loop-less c = search rules
 
 loop-again : tie.Need-loop-preserved invariant-loop decreases-loop
-loop-again c = shift-more c.before.before.before.requires c.before.before.loop.invariant c.before.loop-test.true
+loop-again c = shift_more c.before.before.before.requires c.before.before.loop.invariant c.before.loop-test.true
 
 same_length : tie.Need-same-length invariant-loop decreases-loop
 same_length c = search rules
 
 returns : tie.Need-returns invariant-loop decreases-loop
-returns c = shift-done c.before.loop.invariant c.loop-test.false
+returns c = shift_done c.before.loop.invariant c.loop-test.false
 
 pub shift-spec : {M : Type 1} → statement M
 shift-spec =

@@ -4,7 +4,7 @@ use Prim.Native.Nat.{ℕ}
 use mathlib.Core.List.{List, [], ◌∷◌, ◌++◌}
 use borrow.Author.Rules.{rules}
 use Rattle.script.specs.Private.Rows.{ahead}
-use Rattle.script.proofs.FieldsTaken.{Took, took-none, took, faulty}
+use Rattle.script.proofs.FieldsTaken.{Took, took_none, took, faulty}
 use Rattle.script.proofs.fields.first.Statement.{statement}
 use Rattle.script.proofs.fields.first.Tie as tie
 
@@ -15,7 +15,7 @@ abbrev nums : tie.After-known-told → List ℕ
 nums c = c.before.seat.given.0.0 ∷ []
 
 got : (c : tie.After-known-told) → Took (start c).args.uses (start c).args.given (start c).args.vals.now 1 1 (nums c)
-got c = took took-none c.before.before.before.field.ensures c.before.seat.given.1
+got c = took took_none c.before.before.before.field.ensures c.before.seat.given.1
 
 abbrev start2 : tie.After-known-told2 → tie.Start
 start2 c = start c.before.before.before.before.before
@@ -76,7 +76,7 @@ enum_told c = search rules
 
 returns : tie.Need-returns
 unfolding ahead
-returns c = faulty took-none c.before.before.field.ensures c.enum_told.given.1 5
+returns c = faulty took_none c.before.before.field.ensures c.enum_told.given.1 5
 
 element-copy-out-field-2 : tie.Need-element-copy-out-field-2
 element-copy-out-field-2 c = search rules

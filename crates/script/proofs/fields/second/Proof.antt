@@ -5,7 +5,7 @@ use mathlib.Core.List.{List, [], ◌∷◌, ◌++◌}
 use borrow.Author.Rules.{rules}
 use Rattle.script.specs.Line.{these, joined}
 use Rattle.script.specs.Private.Rows.{front}
-use Rattle.script.proofs.FieldsTaken.{Took, took-none, took, faulty, asks-bad, asks-user, asks-request}
+use Rattle.script.proofs.FieldsTaken.{Took, took_none, took, faulty, asks_bad, asks_user, asks_request}
 use Rattle.script.proofs.fields.second.Statement.{statement}
 use Rattle.script.proofs.fields.second.Tie as tie
 
@@ -16,7 +16,7 @@ abbrev nums : tie.After-known-told → List ℕ
 nums c = c.before.name.given.0.0 ∷ []
 
 got : (c : tie.After-known-told) → Took (start c).args.uses (start c).args.given (start c).args.vals.now 7 1 (nums c)
-got c = took took-none c.before.before.before.field.ensures c.before.name.given.1
+got c = took took_none c.before.before.before.field.ensures c.before.name.given.1
 
 abbrev start2 : tie.After-known-told2 → tie.Start
 start2 c = start c.before.before.before.before.before
@@ -85,7 +85,7 @@ enum_told : tie.Need-enum-told
 enum_told c = search rules
 
 returns : tie.Need-returns
-returns c = asks-bad _ _ _ (faulty took-none c.before.before.field.ensures c.enum_told.given.1 6 _)
+returns c = asks_bad _ _ _ (faulty took_none c.before.before.field.ensures c.enum_told.given.1 6 _)
 
 element-copy-out-field-2 : tie.Need-element-copy-out-field-2
 element-copy-out-field-2 c = search rules
@@ -100,7 +100,7 @@ enum-told-2 : tie.Need-enum-told-2
 enum-told-2 c = search rules
 
 returns-2 : tie.Need-returns-2
-returns-2 c = asks-bad _ _ _ (faulty (got c.before.before.before.before) c.before.before.field2.ensures c.enum-told2.given.1 5 _)
+returns-2 c = asks_bad _ _ _ (faulty (got c.before.before.before.before) c.before.before.field2.ensures c.enum-told2.given.1 5 _)
 
 element-copy-out-field-3 : tie.Need-element-copy-out-field-3
 element-copy-out-field-3 c = search rules
@@ -115,7 +115,7 @@ enum-told-3 : tie.Need-enum-told-3
 enum-told-3 c = search rules
 
 returns-3 : tie.Need-returns-3
-returns-3 c = asks-bad _ _ _ (faulty (got2 c.before.before.before.before) c.before.before.field3.ensures c.enum-told3.given.1 4 _)
+returns-3 c = asks_bad _ _ _ (faulty (got2 c.before.before.before.before) c.before.before.field3.ensures c.enum-told3.given.1 4 _)
 
 element-copy-out-field-4 : tie.Need-element-copy-out-field-4
 element-copy-out-field-4 c = search rules
@@ -130,7 +130,7 @@ enum-told-4 : tie.Need-enum-told-4
 enum-told-4 c = search rules
 
 returns-4 : tie.Need-returns-4
-returns-4 c = asks-bad _ _ _ (faulty (got3 c.before.before.before.before) c.before.before.field4.ensures c.enum-told4.given.1 3 _)
+returns-4 c = asks_bad _ _ _ (faulty (got3 c.before.before.before.before) c.before.before.field4.ensures c.enum-told4.given.1 3 _)
 
 element-copy-out-field-5 : tie.Need-element-copy-out-field-5
 element-copy-out-field-5 c = search rules
@@ -145,7 +145,7 @@ enum-told-5 : tie.Need-enum-told-5
 enum-told-5 c = search rules
 
 returns-5 : tie.Need-returns-5
-returns-5 c = asks-bad _ _ _ (faulty (got4 c.before.before.before.before) c.before.before.field5.ensures c.enum-told5.given.1 2 _)
+returns-5 c = asks_bad _ _ _ (faulty (got4 c.before.before.before.before) c.before.before.field5.ensures c.enum-told5.given.1 2 _)
 
 element-copy-out-field-6 : tie.Need-element-copy-out-field-6
 element-copy-out-field-6 c = search rules
@@ -160,7 +160,7 @@ enum-told-6 : tie.Need-enum-told-6
 enum-told-6 c = search rules
 
 returns-6 : tie.Need-returns-6
-returns-6 c = asks-bad _ _ _ (faulty (got5 c.before.before.before.before) c.before.before.field6.ensures c.enum-told6.given.1 1 _)
+returns-6 c = asks_bad _ _ _ (faulty (got5 c.before.before.before.before) c.before.before.field6.ensures c.enum-told6.given.1 1 _)
 
 element-copy-out-field-7 : tie.Need-element-copy-out-field-7
 element-copy-out-field-7 c = search rules
@@ -175,18 +175,18 @@ enum-told-7 : tie.Need-enum-told-7
 enum-told-7 c = search rules
 
 returns-7 : tie.Need-returns-7
-returns-7 c = asks-bad _ _ _ (faulty (got6 c.before.before.before.before) c.before.before.field7.ensures c.enum-told7.given.1 0 _)
+returns-7 c = asks_bad _ _ _ (faulty (got6 c.before.before.before.before) c.before.before.field7.ensures c.enum-told7.given.1 0 _)
 
 returns-8 : tie.Need-returns-8
 unfolding front joined
-returns-8 c = asks-user _ _ _ _ _ _ _ _ _ _ ((got7 c.before).so (these [])) c.if1.true
+returns-8 c = asks_user _ _ _ _ _ _ _ _ _ _ ((got7 c.before).so (these [])) c.if1.true
 
 sub-t16 : tie.Need-overflow-sub-t16
 sub-t16 c = search rules
 
 returns-9 : tie.Need-returns-9
 unfolding front joined
-returns-9 c = asks-request _ _ _ _ _ _ _ _ _ _ ((got7 c.before).so (these [])) c.if1.false
+returns-9 c = asks_request _ _ _ _ _ _ _ _ _ _ ((got7 c.before).so (these [])) c.if1.false
 
 pub second_spec : {M : Type 1} → statement M
 second_spec =

@@ -8,7 +8,7 @@ use borrow.Author.Rules.{rules}
 use native.Mathlib.Omega.{arith}
 use Rattle.bitset.specs.Sets.{has, with}
 use Rattle.script.proofs.ValuesInTurn.{part_length}
-use Rattle.script.proofs.HeaderLoop.{Seen, seen_start, seen_few, seen_more, seen_end, seen-again, name-fits}
+use Rattle.script.proofs.HeaderLoop.{Seen, seen_start, seen_few, seen_more, seen_end, seen_again, name_fits}
 use Rattle.script.proofs.header.header.Statement.{statement}
 use Rattle.script.proofs.header.header.Tie as tie
 
@@ -59,14 +59,14 @@ abbrev turn : tie.After-name-at invariant-loop decreases-loop → tie.At-loop in
 turn c = c.before.before.before.before
 
 -- whether it has come, or is none
-in-set : (c : tie.After-has16 invariant-loop decreases-loop) → c.has16.result ≡ has (turn (named c)).loop.seen (named c).name-at.result
+in-set : (c : tie.After-has16 invariant-loop decreases-loop) → c.has16.result ≡ has (turn (named c)).loop.seen (named c).name_at_lem.result
 in-set c = c.has16.ensures
 
 returns : tie.Need-returns invariant-loop decreases-loop
 returns c =
     let at_name = named c.before in
-    let at-find = at_name.before.before in
-    seen-again (turn at_name).loop.inv at-find.find.ensures at_name.name-at.ensures (sym (in-set c.before) ∙ c.if1.true) _
+    let at_find = at_name.before.before in
+    seen_again (turn at_name).loop.inv at_find.find.ensures at_name.name_at_lem.ensures (sym (in-set c.before) ∙ c.if1.true) _
 
 array-write-at : tie.Need-array-write-at invariant-loop decreases-loop
 array-write-at c = omega (arith, seen_few (turn (named c.before)).loop.inv)
@@ -78,8 +78,8 @@ with16-requires-2 : tie.Need-with16-requires-2 invariant-loop decreases-loop
 with16-requires-2 c κs = search rules
 
 -- a name's place is below sixteen
-added : (c : tie.After-with162 invariant-loop decreases-loop) → c.with162.result ≡ with (turn (named c.before.before)).loop.seen (named c.before.before).name-at.result
-added c = c.with162.ensures ∙ ap (with _) (mod-eq_of_lt (name-fits _ _ (named c.before.before).name-at.ensures))
+added : (c : tie.After-with162 invariant-loop decreases-loop) → c.with162.result ≡ with (turn (named c.before.before)).loop.seen (named c.before.before).name_at_lem.result
+added c = c.with162.ensures ∙ ap (with _) (mod-eq_of_lt (name_fits _ _ (named c.before.before).name_at_lem.ensures))
 
 add-j : tie.Need-overflow-add-j invariant-loop decreases-loop
 add-j c = omega (arith, seen_few (turn (named c.before.before)).loop.inv)
@@ -89,12 +89,12 @@ contains16-requires c κs = search rules
 
 returns-2 : tie.Need-returns-2 invariant-loop decreases-loop
 returns-2 c =
-    let at-if2 = c.before in
-    let at-with16 = at-if2.before in
-    let at-if1 = at-with16.before in
-    let at_name = named at-if1.before in
-    let at-find = at_name.before.before in
-    seen_end (turn at_name).loop.inv at-find.find.ensures at_name.name-at.ensures (added at-with16) (sym (in-set at-if1.before) ∙ at-if1.if1.false) at-if2.if2.true _ c.contains16.ensures
+    let at_if2 = c.before in
+    let at_with16 = at_if2.before in
+    let at_if1 = at_with16.before in
+    let at_name = named at_if1.before in
+    let at_find = at_name.before.before in
+    seen_end (turn at_name).loop.inv at_find.find.ensures at_name.name_at_lem.ensures (added at_with16) (sym (in-set at_if1.before) ∙ at_if1.if1.false) at_if2.if2.true _ c.contains16.ensures
 
 add-from : tie.Need-overflow-add-from invariant-loop decreases-loop
 add-from c = search rules
@@ -107,11 +107,11 @@ loop-less c = search rules
 
 loop-again : tie.Need-loop-preserved invariant-loop decreases-loop
 loop-again c =
-    let at-with16 = c.before in
-    let at-if1 = at-with16.before in
-    let at_name = named at-if1.before in
-    let at-find = at_name.before.before in
-    seen_more (turn at_name).loop.inv at-find.find.ensures at_name.name-at.ensures (added at-with16) (sym (in-set at-if1.before) ∙ at-if1.if1.false) c.if2.false
+    let at_with16 = c.before in
+    let at_if1 = at_with16.before in
+    let at_name = named at_if1.before in
+    let at_find = at_name.before.before in
+    seen_more (turn at_name).loop.inv at_find.find.ensures at_name.name_at_lem.ensures (added at_with16) (sym (in-set at_if1.before) ∙ at_if1.if1.false) c.if2.false
 
 pub header-spec : {M : Type 1} → statement M
 header-spec =

@@ -1,18 +1,18 @@
 -- `script::line::asked` meets its contract: what a line asks is told by its row. Assumes nothing.
 use borrow.Author.Rules.{rules}
 use mathlib.Core.Path.{◌∙◌}
-use Rattle.script.proofs.LineAsked.{read-bad, read-unknown, read-halves, asks-by, asks-fault}
+use Rattle.script.proofs.LineAsked.{read_bad, read_unknown, read_halves, asks_by, asks_fault}
 use Rattle.script.proofs.line.asked.Statement.{statement}
 use Rattle.script.proofs.line.asked.Tie as tie
 
 returns : tie.Need-returns
-returns c = λ h at l o d. read-bad o d c.if1.true
+returns c = λ h at l o d. read_bad o d c.if1.true
 
 element-copy-out-word : tie.Need-element-copy-out-word
 element-copy-out-word c = search rules
 
 returns-2 : tie.Need-returns-2
-returns-2 c = λ h at l o d. read-unknown o d c.before.before.if1.false c.if2.true
+returns-2 c = λ h at l o d. read_unknown o d c.before.before.if1.false c.if2.true
 
 uses-requires : tie.Need-uses-requires
 uses-requires c κs = search rules
@@ -29,22 +29,22 @@ enum_told c = search rules
 returns-3 : tie.Need-returns-3
 returns-3 c =
     let at_first = c.before.before in
-    let at-uses = at_first.before in
-    let at-if2 = at-uses.before in
-    let at-if1 = at-if2.before.before in
-    λ h at l o d. asks-fault _ _ _ c.enum_told.given.1 ∙ read-halves o d at-if1.if1.false _ _ at-if2.if2.false at-uses.uses.ensures at_first.first.ensures
+    let at_uses = at_first.before in
+    let at_if2 = at_uses.before in
+    let at_if1 = at_if2.before.before in
+    λ h at l o d. asks_fault _ _ _ c.enum_told.given.1 ∙ read_halves o d at_if1.if1.false _ _ at_if2.if2.false at_uses.uses.ensures at_first.first.ensures
 
 second-requires : tie.Need-second-requires
 second-requires c κs = search rules
 
 returns-4 : tie.Need-returns-4
 returns-4 c =
-    let at-six = c.before.before in
-    let at_first = at-six.before.before in
-    let at-uses = at_first.before in
-    let at-if2 = at-uses.before in
-    let at-if1 = at-if2.before.before in
-    λ h at l o d. c.second.ensures ∙ asks-by _ _ _ _ at-six.six.given.1 ∙ read-halves o d at-if1.if1.false _ _ at-if2.if2.false at-uses.uses.ensures at_first.first.ensures
+    let at_six = c.before.before in
+    let at_first = at_six.before.before in
+    let at_uses = at_first.before in
+    let at_if2 = at_uses.before in
+    let at_if1 = at_if2.before.before in
+    λ h at l o d. c.second.ensures ∙ asks_by _ _ _ _ at_six.six.given.1 ∙ read_halves o d at_if1.if1.false _ _ at_if2.if2.false at_uses.uses.ensures at_first.first.ensures
 
 pub asked-spec : {M : Type 1} → statement M
 asked-spec =

@@ -2,7 +2,7 @@
 use native.Mathlib.Omega.{arith}
 use lib.ListN.{length-set}
 use mathlib.Core.Path.{refl}
-use Rattle.script.proofs.Texts.{put-nil, put-cons}
+use Rattle.script.proofs.Texts.{put_nil, put_cons}
 use borrow.Author.Rules.{rules}
 use Rattle.script.proofs.print.put4.Statement.{statement}
 use Rattle.script.proofs.print.put4.Tie as tie
@@ -35,7 +35,7 @@ same_length : tie.Need-same-length
 same_length c = simp length-set
 
 returns : tie.Need-returns
-returns c = put-cons refl (put-cons (omega arith) (put-cons (omega arith) (put-cons (omega arith) put-nil)))
+returns c = put_cons refl (put_cons (omega arith) (put_cons (omega arith) (put_cons (omega arith) put_nil)))
 
 pub put4-spec : {M : Type 1} → statement M
 put4-spec =

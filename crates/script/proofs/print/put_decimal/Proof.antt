@@ -3,7 +3,7 @@ use native.Mathlib.Omega.{arith}
 use mathlib.Core.Path.{refl}
 use lib.ListN.{length-set}
 use Rattle.script.specs.Text.{decimal}
-use Rattle.script.proofs.Texts.{put-nil, put-cons, put_then}
+use Rattle.script.proofs.Texts.{put_nil, put_cons, put_then}
 use borrow.Author.Rules.{rules}
 use Rattle.script.proofs.print.put_decimal.Statement.{statement}
 use Rattle.script.proofs.print.put_decimal.Tie as tie
@@ -16,26 +16,26 @@ put-place-requires-2 c κs = (c.before.before.before.before.before.before.requir
 
 put-place-requires-3 : tie.Need-put-place-requires-3
 put-place-requires-3 c κs =
-    let at-slice-known2 = c.before.before.before.before.before in
-    let start = at-slice-known2.before.before.before.before.before in
+    let at_slice_known2 = c.before.before.before.before.before in
+    let start = at_slice_known2.before.before.before.before.before in
     (start.requires.0.third, search rules)
 
 put-place-requires-4 : tie.Need-put-place-requires-4
 put-place-requires-4 c κs =
-    let at-put-place2 = c.before.before.before.before.before.before.before in
-    let start = at-put-place2.before.before.before.before.before.before.before in
+    let at_put_place2 = c.before.before.before.before.before.before.before in
+    let start = at_put_place2.before.before.before.before.before.before.before in
     (start.requires.0.second, search rules)
 
 add-out : tie.Need-overflow-add-out
 add-out c =
-    let at-slice-known3 = c.before.before.before.before.before.before.before.before.before in
-    let start = at-slice-known3.before.before.before.before.before.before.before.before.before in
+    let at_slice_known3 = c.before.before.before.before.before.before.before.before.before in
+    let start = at_slice_known3.before.before.before.before.before.before.before.before.before in
     omega (arith, start.requires.0.first)
 
 cast-out : tie.Need-overflow-cast-out
 cast-out c =
-    let at-slice-known3 = c.before.before.before.before.before.before.before.before.before in
-    let start = at-slice-known3.before.before.before.before.before.before.before.before.before in
+    let at_slice_known3 = c.before.before.before.before.before.before.before.before.before in
+    let start = at_slice_known3.before.before.before.before.before.before.before.before.before in
     omega (arith, start.requires.0.first)
 
 slice-write-out : tie.Need-slice-write-out
@@ -50,15 +50,15 @@ same_length c = simp length-set (omega arith)
 returns : tie.Need-returns
 unfolding decimal
 returns c =
-    let at-put-place4 = c.before.before.before in
-    let at-put-place3 = at-put-place4.before.before.before.before in
-    let at-put-place2 = at-put-place3.before.before.before.before in
-    let at-put-place = at-put-place2.before.before.before.before in
-    let start = at-put-place.before.before.before in (
-      put_then at-put-place.put-place.ensures.0
-          (put_then at-put-place2.put-place2.ensures.0
-          (put_then at-put-place3.put-place3.ensures.0
-          (put_then at-put-place4.put-place4.ensures.0 (rw (← start.requires.0.first) (put-cons refl put-nil))))),
+    let at_put_place4 = c.before.before.before in
+    let at_put_place3 = at_put_place4.before.before.before.before in
+    let at_put_place2 = at_put_place3.before.before.before.before in
+    let at_put_place = at_put_place2.before.before.before.before in
+    let start = at_put_place.before.before.before in (
+      put_then at_put_place.put-place.ensures.0
+          (put_then at_put_place2.put-place2.ensures.0
+          (put_then at_put_place3.put-place3.ensures.0
+          (put_then at_put_place4.put-place4.ensures.0 (rw (← start.requires.0.first) (put_cons refl put_nil))))),
       omega arith,
     )
 

@@ -21,11 +21,11 @@ same_length c = search rules
 returns : tie.Need-returns
 unfolding heading bytes
 returns c =
-    let at-put43 = c.before.before in
-    let at-put42 = at-put43.before.before.before.before in
-    let at-put4 = at-put42.before.before.before.before in
-    put_then at-put4.put4.ensures
-    (put_then at-put42.put42.ensures at-put43.put43.ensures)
+    let at_put43 = c.before.before in
+    let at_put42 = at_put43.before.before.before.before in
+    let at_put4 = at_put42.before.before.before.before in
+    put_then at_put4.put4.ensures
+    (put_then at_put42.put42.ensures at_put43.put43.ensures)
 
 pub put-heading-spec : {M : Type 1} → statement M
 put-heading-spec =

@@ -2,8 +2,8 @@
 use native.Mathlib.Omega.{arith}
 use mathlib.Core.Path.{refl}
 use lib.ListN.{length-set}
-use Rattle.script.specs.Report.{lineText}
-use Rattle.script.proofs.Texts.{put-nil, put-cons, put_then, numbered}
+use Rattle.script.specs.Report.{line_text}
+use Rattle.script.proofs.Texts.{put_nil, put_cons, put_then, numbered}
 use borrow.Author.Rules.{rules}
 use Rattle.script.proofs.print.put_line.Statement.{statement}
 use Rattle.script.proofs.print.put_line.Tie as tie
@@ -33,10 +33,10 @@ same_length : tie.Need-same-length
 same_length c = simp length-set (omega (arith, simp length-set at c.before.before.put-decimal2.auto.1.0))
 
 returns : tie.Need-returns
-unfolding lineText
+unfolding line_text
 returns c =
     put_then c.before.before.before.before.before.before.before.put-decimal.ensures.0
-    (put-cons refl (put_then (rw c.before.before.before.before.numeral-of.ensures.whole at c.before.before.put-decimal2.ensures.0) (put-cons refl put-nil)))
+    (put_cons refl (put_then (rw c.before.before.before.before.numeral-of.ensures.whole at c.before.before.put-decimal2.ensures.0) (put_cons refl put_nil)))
 
 pub put-line-spec : {M : Type 1} → statement M
 put-line-spec =

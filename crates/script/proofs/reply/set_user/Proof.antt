@@ -1,8 +1,8 @@
 -- `set_user` answers the word `user`: 17 once it is shut, 2 out of its ranges, else 0 with the record set. Assumes nothing.
 use mathlib.Core.Path.{sym}
 use native.Mathlib.Omega.{arith}
-use Rattle.script.specs.Report.{withUser}
-use Rattle.script.proofs.Replies.{Inside, inside, set-shut, set-outside, set-inside}
+use Rattle.script.specs.Report.{with_user}
+use Rattle.script.proofs.Replies.{Inside, inside, set_shut, set_outside, set_inside}
 use borrow.Author.Rules.{rules}
 use Rattle.script.proofs.reply.set_user.Statement.{statement}
 use Rattle.script.proofs.reply.set_user.Tie as tie
@@ -11,10 +11,10 @@ ins : (c : tie.Else2) → Inside c.before.before.args.user c.before.before.args.
 ins c = inside _ _ _ _ c.if2.false
 
 returns : tie.Need-returns
-returns c = sym (set-shut _ _ _ _ _ _ c.if1.true)
+returns c = sym (set_shut _ _ _ _ _ _ c.if1.true)
 
 returns-2 : tie.Need-returns-2
-returns-2 c = sym (set-outside _ _ _ _ _ _ c.before.if1.false c.if2.true)
+returns-2 c = sym (set_outside _ _ _ _ _ _ c.before.if1.false c.if2.true)
 
 cast-t20 : tie.Need-overflow-cast-t20
 cast-t20 c = let i = ins c in omega arith
@@ -29,11 +29,11 @@ mul-set : tie.Need-overflow-mul-set
 mul-set c = search rules
 
 element-set-from-set : tie.Need-element-set-from-set
-element-set-from-set c = (ins c).user-in
+element-set-from-set c = (ins c).user_in
 
 returns-3 : tie.Need-returns-3
-unfolding withUser
-returns-3 c = sym (set-inside _ _ _ _ _ _ c.before.if1.false (ins c))
+unfolding with_user
+returns-3 c = sym (set_inside _ _ _ _ _ _ c.before.if1.false (ins c))
 
 pub set-user-spec : {M : Type 1} → statement M
 set-user-spec =

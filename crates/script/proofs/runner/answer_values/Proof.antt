@@ -1,7 +1,7 @@
 -- `answer_values` reads a line of values, answers it and writes the answer. Assumes nothing.
 use mathlib.Core.Path.{ap, ◌∙◌}
-use Rattle.script.specs.Line.{readLine}
-use Rattle.script.proofs.Replies.{said-next, said-text}
+use Rattle.script.specs.Line.{read_line}
+use Rattle.script.proofs.Replies.{said_next, said_text}
 use Rattle.script.proofs.Texts.{numbered, line_of}
 use borrow.Author.Rules.{rules}
 use Rattle.script.proofs.runner.answer_values.Statement.{statement}
@@ -27,16 +27,16 @@ same_length c = search rules
 
 returns : tie.Need-returns
 returns c =
-    let at-put-line = c.before.before.before in
-    let at-numeral-of = at-put-line.before.before in
-    let at-answer-line = at-numeral-of.before.before in
-    let at_next = at-answer-line.before.before in
+    let at_put_line = c.before.before.before in
+    let at_numeral_of = at_put_line.before.before in
+    let at_answer_line = at_numeral_of.before.before in
+    let at_next = at_answer_line.before.before in
     let start = at_next.before.before.before.before.before in
     record {
       asked = at_next.next.result.asked;
-      read = λ header o. at_next.next.ensures.1 header o ∙ ap (readLine header) start.requires.2;
-      next = said-next _ _ _ at-answer-line.answer-line.ensures;
-      puts = said-text _ _ _ at-answer-line.answer-line.ensures (line_of _ at-numeral-of.numeral-of.ensures.whole at-put-line.put-line.ensures);
+      read = λ header o. at_next.next.ensures.1 header o ∙ ap (read_line header) start.requires.2;
+      next = said_next _ _ _ at_answer_line.answer-line.ensures;
+      puts = said_text _ _ _ at_answer_line.answer-line.ensures (line_of _ at_numeral_of.numeral-of.ensures.whole at_put_line.put-line.ensures);
     }
 
 pub answer-values-spec : {M : Type 1} → statement M

@@ -2,7 +2,7 @@
 use mathlib.Core.Path.{sym}
 use lib.Seq.{length-take-le}
 use native.Mathlib.Omega.{arith}
-use Rattle.script.proofs.StepReturns.{no_room, names-wait, idle-step, names-whole-step, names-cut-step}
+use Rattle.script.proofs.StepReturns.{no_room, names_wait, idle_step, names_whole_step, names_cut_step}
 use borrow.Author.Rules.{rules}
 use Rattle.script.proofs.runner.names_step.Statement.{statement}
 use Rattle.script.proofs.runner.names_step.Tie as tie
@@ -11,7 +11,7 @@ idle-requires : tie.Need-idle-requires
 idle-requires c κs = search rules
 
 returns : tie.Need-returns
-returns c = idle-step c.idle.ensures (omega arith) (no_room _ _ _ _ c.before.if1.true)
+returns c = idle_step c.idle.ensures (omega arith) (no_room _ _ _ _ c.before.if1.true)
 
 find-requires : tie.Need-find-requires
 find-requires c κs = search rules
@@ -30,12 +30,12 @@ same_length c = search rules
 
 returns-2 : tie.Need-returns-2
 returns-2 c =
-    let at-take-names = c.before.before.before in
-    let at-if2 = at-take-names.before.before.before in
-    let at-find = at-if2.before in
-    let at-if1 = at-find.before in
-    let start = at-if1.before.before.before in
-    names-whole-step _ _ _ at-find.find.ensures start.requires at-if1.if1.false at-if2.if2.true at-take-names.take-names.ensures
+    let at_take_names = c.before.before.before in
+    let at_if2 = at_take_names.before.before.before in
+    let at_find = at_if2.before in
+    let at_if1 = at_find.before in
+    let start = at_if1.before.before.before in
+    names_whole_step _ _ _ at_find.find.ensures start.requires at_if1.if1.false at_if2.if2.true at_take_names.take-names.ensures
 
 take-names-requires-2 : tie.Need-take-names-requires-2
 take-names-requires-2 c κs = search rules
@@ -45,23 +45,23 @@ same-length-2 c = search rules
 
 returns-3 : tie.Need-returns-3
 returns-3 c =
-    let at-take-names2 = c.before.before.before in
-    let at-if3 = at-take-names2.before.before in
-    let at-if2 = at-if3.before in
-    let at-find = at-if2.before in
-    let at-if1 = at-find.before in
-    let start = at-if1.before.before.before in
-    names-cut-step _ _ _ at-find.find.ensures start.requires at-if1.if1.false at-if2.if2.false at-if3.if3.true at-take-names2.take-names2.ensures
+    let at_take_names2 = c.before.before.before in
+    let at_if3 = at_take_names2.before.before in
+    let at_if2 = at_if3.before in
+    let at_find = at_if2.before in
+    let at_if1 = at_find.before in
+    let start = at_if1.before.before.before in
+    names_cut_step _ _ _ at_find.find.ensures start.requires at_if1.if1.false at_if2.if2.false at_if3.if3.true at_take_names2.take-names2.ensures
 
 idle-requires-2 : tie.Need-idle-requires-2
 idle-requires-2 c κs = search rules
 
 returns-4 : tie.Need-returns-4
 returns-4 c =
-    let at-if3 = c.before in
-    let at-if2 = at-if3.before in
-    let start = at-if2.before.before.before.before.before in
-    idle-step c.idle2.ensures (omega arith) (names-wait _ _ _ _ _ start.requires at-if2.if2.false at-if3.if3.false)
+    let at_if3 = c.before in
+    let at_if2 = at_if3.before in
+    let start = at_if2.before.before.before.before.before in
+    idle_step c.idle2.ensures (omega arith) (names_wait _ _ _ _ _ start.requires at_if2.if2.false at_if3.if3.false)
 
 pub names-step-spec : {M : Type 1} → statement M
 names-step-spec =

@@ -2,8 +2,8 @@
 use native.Mathlib.Omega.{arith}
 use mathlib.Core.Path.{sym, ◌∙◌}
 use lib.Seq.{length-take-le}
-use Rattle.script.proofs.StepReturns.{over-stops, idle-step}
-use Rattle.script.proofs.BatchStep.{fits_in, room_for, batch-done}
+use Rattle.script.proofs.StepReturns.{over_stops, idle_step}
+use Rattle.script.proofs.BatchStep.{fits_in, room_for, batch_done}
 use borrow.Author.Rules.{rules}
 use Rattle.script.proofs.runner.one.Statement.{statement}
 use Rattle.script.proofs.runner.one.Tie as tie
@@ -21,7 +21,7 @@ idle-requires : tie.Need-idle-requires
 idle-requires c κs = search rules
 
 returns-2 : tie.Need-returns-2
-returns-2 c = idle-step c.idle.ensures (omega arith) (over-stops _ _ _ _ (omega arith))
+returns-2 c = idle_step c.idle.ensures (omega arith) (over_stops _ _ _ _ (omega arith))
 
 values-step-requires : tie.Need-values-step-requires
 values-step-requires c κs = search rules
@@ -74,8 +74,8 @@ slice-reshare-prefix-run c = search rules
 
 slice-aggregate-run : tie.Need-slice-aggregate-run
 slice-aggregate-run c =
-    let at-gather = c.before.before.before.before.before.before.before.before in
-    sym (length-take-le _ _ at-gather.gather.ensures.stored)
+    let at_gather = c.before.before.before.before.before.before.before.before in
+    sym (length-take-le _ _ at_gather.gather.ensures.stored)
 
 run-requires : tie.Need-run-requires
 run-requires c κs = search rules
@@ -85,22 +85,22 @@ add-put-answers c = search rules
 
 put-answers-requires : tie.Need-put-answers-requires
 put-answers-requires c κs =
-    let at-run = c.before.before.before.before.before.before.before.before in
-    let at-if4 = enough at-run in
-    let at-gather = gathered at-if4 in
-    let at_most = bounded at-gather in
-    room_for at-run.run.new.1.1.0 at_most.most.ensures at-gather.gather.ensures at-if4.if4.left (at-run.run.auto.1.1.0 ∙ (begun at_most).pre.1.answersRoom)
+    let at_run = c.before.before.before.before.before.before.before.before in
+    let at_if4 = enough at_run in
+    let at_gather = gathered at_if4 in
+    let at_most = bounded at_gather in
+    room_for at_run.run.new.1.1.0 at_most.most.ensures at_gather.gather.ensures at_if4.if4.left (at_run.run.auto.1.1.0 ∙ (begun at_most).pre.1.answers_room)
 
 cast-r : tie.Need-overflow-cast-r
 cast-r c =
-    let at-gather = gathered (enough c.before.before.before.before.before.before.before.before.before.before.before) in
-    omega (arith, at-gather.gather.ensures.few, (bounded at-gather).most.ensures.fits)
+    let at_gather = gathered (enough c.before.before.before.before.before.before.before.before.before.before.before) in
+    omega (arith, at_gather.gather.ensures.few, (bounded at_gather).most.ensures.fits)
 
 add_r : tie.Need-overflow-add-r
 add_r c =
-    let at-gather = gathered (enough c.before.before.before.before.before.before.before.before.before.before.before.before) in
-    let at_most = bounded at-gather in
-    omega (arith, at-gather.gather.ensures.few, at_most.most.ensures.fits, at_most.most.ensures.last)
+    let at_gather = gathered (enough c.before.before.before.before.before.before.before.before.before.before.before.before) in
+    let at_most = bounded at_gather in
+    omega (arith, at_gather.gather.ensures.few, at_most.most.ensures.fits, at_most.most.ensures.last)
 
 same-length-6 : tie.Need-same-length-6
 same-length-6 c = search rules
@@ -119,16 +119,16 @@ same-length-10 c = search rules
 
 returns-5 : tie.Need-returns-5
 returns-5 c =
-    let at-put-answers = c.before.before.before in
-    let at-run = at-put-answers.before.before.before.before.before.before.before.before.before in
-    let at-if4 = enough at-run in
-    let at-gather = gathered at-if4 in
-    let at_most = bounded at-gather in
-    let at-if3 = at_most.before.before in
-    let at-if2 = at-if3.before in
-    let at-if1 = at-if2.before.before in
+    let at_put_answers = c.before.before.before in
+    let at_run = at_put_answers.before.before.before.before.before.before.before.before.before in
+    let at_if4 = enough at_run in
+    let at_gather = gathered at_if4 in
+    let at_most = bounded at_gather in
+    let at_if3 = at_most.before.before in
+    let at_if2 = at_if3.before in
+    let at_if1 = at_if2.before.before in
     let start = begun at_most in
-    batch-done _ _ _ _ _ _ _ _ _ _ _ _ _ _ _ (omega (arith, at-if1.if1.left, at-if2.if2.left, start.pre.0)) at-if3.if3.left at_most.most.ensures at-gather.gather.ensures at-if4.if4.left start.pre.1.answersRoom start.pre.1.rolesRoom at-run.run.ensures at-put-answers.put-answers.ensures
+    batch_done _ _ _ _ _ _ _ _ _ _ _ _ _ _ _ (omega (arith, at_if1.if1.left, at_if2.if2.left, start.pre.0)) at_if3.if3.left at_most.most.ensures at_gather.gather.ensures at_if4.if4.left start.pre.1.answers_room start.pre.1.roles_room at_run.run.ensures at_put_answers.put-answers.ensures
 
 pub one_spec : {M : Type 1} → statement M
 one_spec =

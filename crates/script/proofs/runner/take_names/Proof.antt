@@ -23,11 +23,11 @@ same_length c = search rules
 
 returns-2 : tie.Need-returns-2
 returns-2 c =
-    let at-put-line = c.before.before in
-    let at-numeral-of = at-put-line.before.before in
-    let at-if1 = at-numeral-of.before in
-    let at-header = at-if1.before in
-    bad (sym at-header.header.ensures.0 ∙ at-if1.if1.false) (line_of _ at-numeral-of.numeral-of.ensures.whole at-put-line.put-line.ensures)
+    let at_put_line = c.before.before in
+    let at_numeral_of = at_put_line.before.before in
+    let at_if1 = at_numeral_of.before in
+    let at_header = at_if1.before in
+    bad (sym at_header.header.ensures.0 ∙ at_if1.if1.false) (line_of _ at_numeral_of.numeral-of.ensures.whole at_put_line.put-line.ensures)
 
 pub take-names-spec : {M : Type 1} → statement M
 take-names-spec = tie.close (tie.spec header-requires returns numeral-of-requires put-line-requires same_length returns-2)

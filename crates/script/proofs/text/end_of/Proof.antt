@@ -3,7 +3,7 @@ use borrow.Author.Rules.{rules}
 use Prim.Native.Nat.{ℕ, ◌+◌}
 use mathlib.Core.Path.{ap}
 use native.Mathlib.Omega.{arith}
-use Rattle.script.proofs.FirstValue.{rest-before, rest-within}
+use Rattle.script.proofs.FirstValue.{rest_before, rest_within}
 use Rattle.script.proofs.text.end_of.Statement.{statement}
 use Rattle.script.proofs.text.end_of.Tie as tie
 
@@ -22,12 +22,12 @@ find-requires c κs = search rules
 add-result : tie.Need-overflow-add-result
 add-result c =
     let start = c.before.before.before in
-    omega (arith, rest-within 10 start.args.from start.args.s.now start.requires c.find.ensures)
+    omega (arith, rest_within 10 start.args.from start.args.s.now start.requires c.find.ensures)
 
 returns : tie.Need-returns
 returns c =
     let start = c.before.before.before in
-    ap (λ (n : ℕ). start.args.from + n) (rest-before 10 start.args.from start.args.s.now c.find.ensures)
+    ap (λ (n : ℕ). start.args.from + n) (rest_before 10 start.args.from start.args.s.now c.find.ensures)
 
 pub end-of-spec : {M : Type 1} → statement M
 end-of-spec =

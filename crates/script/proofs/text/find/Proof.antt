@@ -5,7 +5,7 @@ use native.Mathlib.Omega.{arith}
 use mathlib.Core.Path.{◌≡◌, sym}
 use lib.ListN.{length, drop}
 use Rattle.script.specs.Private.Slices.{before}
-use Rattle.script.proofs.Texts.{find-stop, find-more, find-end}
+use Rattle.script.proofs.Texts.{find_stop, find_more, find_end}
 use Rattle.script.proofs.text.find.Statement.{statement}
 use Rattle.script.proofs.text.find.Tie as tie
 
@@ -22,7 +22,7 @@ shared-slice-read-if1 : tie.Need-shared-slice-read-if1 invariant-loop decreases-
 shared-slice-read-if1 c = omega arith
 
 returns : tie.Need-returns invariant-loop decreases-loop
-returns c = find-stop _ _ _ c.before.before.before.loop.invariant.1 (omega arith) c.if1.true
+returns c = find_stop _ _ _ c.before.before.before.loop.invariant.1 (omega arith) c.if1.true
 
 add-i : tie.Need-overflow-add-i invariant-loop decreases-loop
 add-i c = omega arith
@@ -31,10 +31,10 @@ loop-less : tie.Need-loop-smaller invariant-loop decreases-loop
 loop-less c = omega arith
 
 loop-again : tie.Need-loop-preserved invariant-loop decreases-loop
-loop-again c = (omega arith, find-more _ _ _ c.before.before.before.loop.invariant.1 (omega arith) c.if1.false)
+loop-again c = (omega arith, find_more _ _ _ c.before.before.before.loop.invariant.1 (omega arith) c.if1.false)
 
 returns-2 : tie.Need-returns-2 invariant-loop decreases-loop
-returns-2 c = find-end _ _ _ c.before.loop.invariant.1 (omega arith)
+returns-2 c = find_end _ _ _ c.before.loop.invariant.1 (omega arith)
 
 pub find_spec : {M : Type 1} → statement M
 find_spec =

@@ -2,7 +2,7 @@
 use Prim.Native.Nat.{◌-◌}
 use native.Mathlib.Omega.{arith}
 use lib.ListN.{length}
-use Rattle.script.proofs.ByKey.{Packed, packed_start, packed-small, packed_more, packed-end, key-long}
+use Rattle.script.proofs.ByKey.{Packed, packed_start, packed_small, packed_more, packed_end, key_long}
 use Rattle.script.proofs.text.key.Statement.{statement}
 use Rattle.script.proofs.text.key.Tie as tie
 
@@ -13,13 +13,13 @@ abbrev decreases-loop : tie.decreases-loop
 decreases-loop s k₀ i₀ k i = length s - i
 
 returns : tie.Need-returns invariant-loop decreases-loop
-returns c = key-long _ (omega arith)
+returns c = key_long _ (omega arith)
 
 loop-holds : tie.Need-loop-init invariant-loop decreases-loop
 loop-holds c = packed_start _
 
 mul-k : tie.Need-overflow-mul-k invariant-loop decreases-loop
-mul-k c = omega (arith, packed-small c.before.loop.invariant (omega arith) (omega arith))
+mul-k c = omega (arith, packed_small c.before.loop.invariant (omega arith) (omega arith))
 
 shared-slice-read-k : tie.Need-shared-slice-read-k invariant-loop decreases-loop
 shared-slice-read-k c = omega arith
@@ -28,7 +28,7 @@ cast-k : tie.Need-overflow-cast-k invariant-loop decreases-loop
 cast-k c = omega (arith, c.shared-slice-known.given c.before.before.loop.i)
 
 add-k : tie.Need-overflow-add-k invariant-loop decreases-loop
-add-k c = omega (arith, packed-small c.before.before.loop.invariant (omega arith) (omega arith), c.shared-slice-known.given c.before.before.loop.i)
+add-k c = omega (arith, packed_small c.before.before.loop.invariant (omega arith) (omega arith), c.shared-slice-known.given c.before.before.loop.i)
 
 add-i : tie.Need-overflow-add-i invariant-loop decreases-loop
 add-i c = omega arith
@@ -40,7 +40,7 @@ loop-again : tie.Need-loop-preserved invariant-loop decreases-loop
 loop-again c = packed_more c.before.before.loop.invariant (omega arith) (omega (arith, c.shared-slice-known.given c.before.before.loop.i))
 
 returns-2 : tie.Need-returns-2 invariant-loop decreases-loop
-returns-2 c = packed-end c.before.loop.invariant (omega arith) (omega arith)
+returns-2 c = packed_end c.before.loop.invariant (omega arith) (omega arith)
 
 pub key_spec : {M : Type 1} → statement M
 key_spec =

@@ -1,6 +1,6 @@
 -- `script::text::key4` meets its contract: the key of four bytes. Assumes nothing.
 use borrow.Author.Rules.{rules}
-use Rattle.script.proofs.WordAtFront.{key-four}
+use Rattle.script.proofs.WordAtFront.{key_four}
 use Rattle.script.proofs.text.key4.Statement.{statement}
 use Rattle.script.proofs.text.key4.Tie as tie
 
@@ -48,11 +48,11 @@ add-result-4 c = search rules
 
 returns : tie.Need-returns
 returns c =
-    let at-byte3 = c.before in
-    let at-byte2 = at-byte3.before in
-    let at_byte = at-byte2.before in
+    let at_byte3 = c.before in
+    let at_byte2 = at_byte3.before in
+    let at_byte = at_byte2.before in
     let start = at_byte.before.before in
-    (key-four _ _ _ _ _ _ start.requires at_byte.byte.ensures.0 at-byte2.byte2.ensures.0 at-byte3.byte3.ensures.0 c.byte4.ensures.0, search rules, search rules)
+    (key_four _ _ _ _ _ _ start.requires at_byte.byte.ensures.0 at_byte2.byte2.ensures.0 at_byte3.byte3.ensures.0 c.byte4.ensures.0, search rules, search rules)
 
 pub key4-spec : {M : Type 1} → statement M
 key4-spec =

@@ -5,7 +5,7 @@ use native.Mathlib.Nat.{zero-add}
 use native.Mathlib.Omega.{arith}
 use lib.ListN.{length, drop}
 use Rattle.script.specs.Private.Slices.{leading}
-use Rattle.script.proofs.FirstValue.{span-space, span-line, span_more, span-end}
+use Rattle.script.proofs.FirstValue.{span_space, span_line, span_more, span_end}
 use Rattle.script.proofs.text.span.Statement.{statement}
 use Rattle.script.proofs.text.span.Tie as tie
 
@@ -31,10 +31,10 @@ loop-again : tie.Need-loop-preserved invariant-loop decreases-loop
 loop-again c = (omega arith, span_more _ _ c.before.before.before.loop.invariant.1 (omega arith) (λ e. omega arith) (λ e. omega arith))
 
 returns : tie.Need-returns invariant-loop decreases-loop
-returns c = span-space _ _ c.before.before.before.before.loop.invariant.1 (omega arith) c.if2.true
+returns c = span_space _ _ c.before.before.before.before.loop.invariant.1 (omega arith) c.if2.true
 
 returns-2 : tie.Need-returns-2 invariant-loop decreases-loop
-returns-2 c = span-line _ _ c.before.before.before.before.before.loop.invariant.1 (omega arith) c.if3.true
+returns-2 c = span_line _ _ c.before.before.before.before.before.loop.invariant.1 (omega arith) c.if3.true
 
 add-i-2 : tie.Need-overflow-add-i-2 invariant-loop decreases-loop
 add-i-2 c = omega arith
@@ -46,7 +46,7 @@ loop-again-2 : tie.Need-loop-preserved-2 invariant-loop decreases-loop
 loop-again-2 c = (omega arith, span_more _ _ c.before.before.before.before.before.loop.invariant.1 (omega arith) c.before.if2.false c.if3.false)
 
 returns-3 : tie.Need-returns-3 invariant-loop decreases-loop
-returns-3 c = span-end _ _ c.before.loop.invariant.1 (omega arith)
+returns-3 c = span_end _ _ c.before.loop.invariant.1 (omega arith)
 
 pub span-spec : {M : Type 1} → statement M
 span-spec =

@@ -2,7 +2,7 @@
 use Prim.Native.Nat.{◌-◌}
 use native.Mathlib.Omega.{arith}
 use lib.ListN.{length}
-use Rattle.script.proofs.Texts.{none_other, long-other, one-dash, dash-other, Read, read-start, read_small, read_more, read_low, read-high, read-end}
+use Rattle.script.proofs.Texts.{none_other, long_other, one_dash, dash_other, Read, read_start, read_small, read_more, read_low, read_high, read_end}
 use Rattle.script.proofs.text.value.Statement.{statement}
 use Rattle.script.proofs.text.value.Tie as tie
 
@@ -16,19 +16,19 @@ returns : tie.Need-returns invariant-loop decreases-loop
 returns c = none_other _ (omega arith)
 
 returns-2 : tie.Need-returns-2 invariant-loop decreases-loop
-returns-2 c = long-other _ (omega arith)
+returns-2 c = long_other _ (omega arith)
 
 shared-slice-read-if3 : tie.Need-shared-slice-read-if3 invariant-loop decreases-loop
 shared-slice-read-if3 c = omega arith
 
 returns-3 : tie.Need-returns-3 invariant-loop decreases-loop
-returns-3 c = one-dash _ (omega arith) c.before.if3.true
+returns-3 c = one_dash _ (omega arith) c.before.if3.true
 
 returns-4 : tie.Need-returns-4 invariant-loop decreases-loop
-returns-4 c = dash-other _ (omega arith) c.if4.false (omega arith) c.before.if3.true
+returns-4 c = dash_other _ (omega arith) c.if4.false (omega arith) c.before.if3.true
 
 loop-holds : tie.Need-loop-init invariant-loop decreases-loop
-loop-holds c = read-start _
+loop-holds c = read_start _
 
 shared-slice-read-b : tie.Need-shared-slice-read-b invariant-loop decreases-loop
 shared-slice-read-b c = omega arith
@@ -38,9 +38,9 @@ returns-5 c = read_low c.before.before.before.loop.invariant (omega arith) (omeg
 
 returns-6 : tie.Need-returns-6 invariant-loop decreases-loop
 returns-6 c =
-    let at-loop = c.before.before.before.before in
-    let at-if3 = at-loop.before in
-    read-high at-loop.loop.invariant (omega arith) (omega arith) at-if3.if3.false (omega arith) c.if6.true
+    let at_loop = c.before.before.before.before in
+    let at_if3 = at_loop.before in
+    read_high at_loop.loop.invariant (omega arith) (omega arith) at_if3.if3.false (omega arith) c.if6.true
 
 cast-append : tie.Need-overflow-cast-append invariant-loop decreases-loop
 cast-append c = omega arith
@@ -59,12 +59,12 @@ loop-less c = omega arith
 
 loop-again : tie.Need-loop-preserved invariant-loop decreases-loop
 loop-again c =
-    let at-if6 = c.before in
-    let at-loop = at-if6.before.before.before.before in
-    rw c.append.ensures (read_more at-loop.loop.invariant (omega arith) at-if6.before.if5.false at-if6.if6.false)
+    let at_if6 = c.before in
+    let at_loop = at_if6.before.before.before.before in
+    rw c.append.ensures (read_more at_loop.loop.invariant (omega arith) at_if6.before.if5.false at_if6.if6.false)
 
 returns-7 : tie.Need-returns-7 invariant-loop decreases-loop
-returns-7 c = read-end c.before.loop.invariant (omega arith) (omega arith) c.before.before.if3.false (omega arith)
+returns-7 c = read_end c.before.loop.invariant (omega arith) (omega arith) c.before.before.if3.false (omega arith)
 
 pub value_spec : {M : Type 1} → statement M
 value_spec =

@@ -2,7 +2,7 @@
 use borrow.Author.Rules.{rules}
 use native.Mathlib.Omega.{arith}
 use lib.ListN.{length-drop}
-use Rattle.script.proofs.WordAtFront.{key-next, begins}
+use Rattle.script.proofs.WordAtFront.{key_next, begins}
 use Rattle.script.proofs.text.word_from.Statement.{statement}
 use Rattle.script.proofs.text.word_from.Tie as tie
 
@@ -20,11 +20,11 @@ word-of-four-requires c κs = search rules
 
 returns : tie.Need-returns
 returns c =
-    let at-if1 = c.before in
-    let at_byte = at-if1.before in
-    let at-key4 = at_byte.before in
-    let start = at-key4.before.before in
-    begins start.args.s.now start.args.from 4 _ _ _ (omega arith) at-key4.key4.ensures.0 at_byte.byte.ensures.0 at-if1.if1.true c.word-of-four.ensures
+    let at_if1 = c.before in
+    let at_byte = at_if1.before in
+    let at_key4 = at_byte.before in
+    let start = at_key4.before.before in
+    begins start.args.s.now start.args.from 4 _ _ _ (omega arith) at_key4.key4.ensures.0 at_byte.byte.ensures.0 at_if1.if1.true c.word-of-four.ensures
 
 mul-k5 : tie.Need-overflow-mul-k5
 mul-k5 c = search rules
@@ -43,12 +43,12 @@ word-of-five-requires c κs = search rules
 
 returns-2 : tie.Need-returns-2
 returns-2 c =
-    let at-if2 = c.before in
-    let at-byte2 = at-if2.before in
-    let at_byte = at-byte2.before.before in
-    let at-key4 = at_byte.before in
-    let start = at-key4.before.before in
-    begins start.args.s.now start.args.from 5 _ _ _ (omega arith) (key-next start.args.s.now start.args.from 4 _ _ (omega arith) (omega (arith, length-drop start.args.from start.args.s.now)) at-key4.key4.ensures.0 at_byte.byte.ensures.0) at-byte2.byte2.ensures.0 at-if2.if2.true c.word-of-five.ensures
+    let at_if2 = c.before in
+    let at_byte2 = at_if2.before in
+    let at_byte = at_byte2.before.before in
+    let at_key4 = at_byte.before in
+    let start = at_key4.before.before in
+    begins start.args.s.now start.args.from 5 _ _ _ (omega arith) (key_next start.args.s.now start.args.from 4 _ _ (omega arith) (omega (arith, length-drop start.args.from start.args.s.now)) at_key4.key4.ensures.0 at_byte.byte.ensures.0) at_byte2.byte2.ensures.0 at_if2.if2.true c.word-of-five.ensures
 
 mul-k6 : tie.Need-overflow-mul-k6
 mul-k6 c = search rules
@@ -67,13 +67,13 @@ word-of-six-requires c κs = search rules
 
 returns-3 : tie.Need-returns-3
 returns-3 c =
-    let at-if3 = c.before in
-    let at-byte3 = at-if3.before in
-    let at-byte2 = at-byte3.before.before in
-    let at_byte = at-byte2.before.before in
-    let at-key4 = at_byte.before in
-    let start = at-key4.before.before in
-    begins start.args.s.now start.args.from 6 _ _ _ (omega arith) (key-next start.args.s.now start.args.from 5 _ _ (omega arith) (omega (arith, length-drop start.args.from start.args.s.now)) (key-next start.args.s.now start.args.from 4 _ _ (omega arith) (omega (arith, length-drop start.args.from start.args.s.now)) at-key4.key4.ensures.0 at_byte.byte.ensures.0) at-byte2.byte2.ensures.0) at-byte3.byte3.ensures.0 at-if3.if3.true c.word-of-six.ensures
+    let at_if3 = c.before in
+    let at_byte3 = at_if3.before in
+    let at_byte2 = at_byte3.before.before in
+    let at_byte = at_byte2.before.before in
+    let at_key4 = at_byte.before in
+    let start = at_key4.before.before in
+    begins start.args.s.now start.args.from 6 _ _ _ (omega arith) (key_next start.args.s.now start.args.from 5 _ _ (omega arith) (omega (arith, length-drop start.args.from start.args.s.now)) (key_next start.args.s.now start.args.from 4 _ _ (omega arith) (omega (arith, length-drop start.args.from start.args.s.now)) at_key4.key4.ensures.0 at_byte.byte.ensures.0) at_byte2.byte2.ensures.0) at_byte3.byte3.ensures.0 at_if3.if3.true c.word-of-six.ensures
 
 returns-4 : tie.Need-returns-4
 returns-4 c = search rules

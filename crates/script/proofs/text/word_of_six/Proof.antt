@@ -1,37 +1,37 @@
 -- `script::text::word_of_six` finds the place among the words by the key. Assumes nothing.
 use lib.Dec.{leb}
 use borrow.Author.Tests.{le-leb}
-use Rattle.script.specs.Private.ShortTexts.{fiveEnd}
-use Rattle.script.proofs.WordAtFront.{word-at-key, word_none}
+use Rattle.script.specs.Private.ShortTexts.{five_end}
+use Rattle.script.proofs.WordAtFront.{word_at_key, word_none}
 use Rattle.script.proofs.text.word_of_six.Statement.{statement}
 use Rattle.script.proofs.text.word_of_six.Tie as tie
 
 returns : tie.Need-returns
-returns c = word-at-key c.match.keys1
+returns c = word_at_key c.match.keys1
 
 returns-2 : tie.Need-returns-2
-returns-2 c = word-at-key c.match.keys2
+returns-2 c = word_at_key c.match.keys2
 
 returns-3 : tie.Need-returns-3
-returns-3 c = word-at-key c.match.keys3
+returns-3 c = word_at_key c.match.keys3
 
 returns-4 : tie.Need-returns-4
-returns-4 c = word-at-key c.match.keys4
+returns-4 c = word_at_key c.match.keys4
 
 returns-5 : tie.Need-returns-5
-returns-5 c = word-at-key c.match.keys5
+returns-5 c = word_at_key c.match.keys5
 
 returns-6 : tie.Need-returns-6
-returns-6 c = word-at-key c.match.keys6
+returns-6 c = word_at_key c.match.keys6
 
 returns-7 : tie.Need-returns-7
-returns-7 c = word-at-key c.match.keys7
+returns-7 c = word_at_key c.match.keys7
 
 returns-8 : tie.Need-returns-8
-returns-8 c = word-at-key c.match.keys8
+returns-8 c = word_at_key c.match.keys8
 
 returns-9 : tie.Need-returns-9
-returns-9 c = word_none (λ n. leb fiveEnd n) (le-leb _ _ c.before.requires) c.match.rest
+returns-9 c = word_none (λ n. leb five_end n) (le-leb _ _ c.before.requires) c.match.rest
 
 pub word-of-six-spec : {M : Type 1} → statement M
 word-of-six-spec =

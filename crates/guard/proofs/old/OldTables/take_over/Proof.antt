@@ -1,6 +1,6 @@
 -- `OldTables::take_over` takes over list by list. Assumes nothing.
 use borrow.Author.Rules.{rules}
-use Rattle.guard.specs.Old.{takenOver}
+use Rattle.guard.specs.Old.{taken_over}
 use Rattle.guard.proofs.old.OldTables.take_over.Statement.{statement}
 use Rattle.guard.proofs.old.OldTables.take_over.Tie as tie
 
@@ -17,7 +17,7 @@ entities-requires : tie.Need-entities-requires
 entities-requires c κs = search rules
 
 returns : tie.Need-returns
-unfolding takenOver
+unfolding taken_over
 returns c =
     rw (c.before.before.before.users.ensures, c.before.before.sessions.ensures, c.before.roles.ensures, c.entities.ensures)
 

@@ -2,8 +2,8 @@
 use borrow.Author.Rules.{rules}
 use native.Mathlib.Omega.{arith}
 use mathlib.Core.Path.{◌∙◌}
-use Rattle.guard.proofs.Soundness.Tests.{and-two, unless}
-use Rattle.guard.proofs.Soundness.Members.{within-mask}
+use Rattle.guard.proofs.Soundness.Tests.{and_two, unless}
+use Rattle.guard.proofs.Soundness.Members.{within_mask}
 use Rattle.guard.proofs.sound.opens.levels_allowed.Statement.{statement}
 use Rattle.guard.proofs.sound.opens.levels_allowed.Tie as tie
 
@@ -21,8 +21,8 @@ contains64-requires-2 c κs = search rules
 
 returns : tie.Need-returns
 returns c =
-    and-two _ _ _ _ (unless _ _ _ (c.before.before.contains64.ensures ∙ within-mask 64 _ _ _ (omega arith) c.before.before.before.from-level.ensures))
-    (c.contains642.ensures ∙ within-mask 64 _ _ _ (omega arith) c.before.to_level.ensures)
+    and_two _ _ _ _ (unless _ _ _ (c.before.before.contains64.ensures ∙ within_mask 64 _ _ _ (omega arith) c.before.before.before.from-level.ensures))
+    (c.contains642.ensures ∙ within_mask 64 _ _ _ (omega arith) c.before.to_level.ensures)
 
 pub levels-allowed-spec : {M : Type 1} → statement M
 levels-allowed-spec =

@@ -1,7 +1,7 @@
 -- `guard::sound::opens::session_ok` is the test of one session. Assumes nothing.
 use borrow.Author.Rules.{rules}
-use Rattle.bitset.specs.Tests.Laws.{of-not-true, of-not-false}
-use Rattle.guard.proofs.Soundness.Cases.{session-dead, session-out, session-away, session-last}
+use Rattle.bitset.specs.Tests.Laws.{of_not_true, of_not_false}
+use Rattle.guard.proofs.Soundness.Cases.{session_dead, session_out, session_away, session_last}
 use Rattle.guard.proofs.sound.opens.session_ok.Statement.{statement}
 use Rattle.guard.proofs.sound.opens.session_ok.Tie as tie
 
@@ -11,7 +11,7 @@ is-empty-session-requires c κs = search rules
 returns : tie.Need-returns
 returns c =
     let a = c.before.before.before.args in
-    session-dead a.labels.now a.roles a.edition a.level a.s _ (of-not-true a.s.live c.before.if1.true) c.is-empty-session.ensures
+    session_dead a.labels.now a.roles a.edition a.level a.s _ (of_not_true a.s.live c.before.if1.true) c.is-empty-session.ensures
 
 session-in-range-requires : tie.Need-session-in-range-requires
 session-in-range-requires c κs = search rules
@@ -22,7 +22,7 @@ contains16-requires c κs = search rules
 returns-2 : tie.Need-returns-2
 returns-2 c =
     let a = c.before.before.before.before.before.args in
-    session-out a.labels.now a.roles a.edition a.level a.s _ _ (of-not-false a.s.live c.before.before.before.if1.false) c.before.before.session-in-range.ensures c.before.contains16.ensures c.if2.true
+    session_out a.labels.now a.roles a.edition a.level a.s _ _ (of_not_false a.s.live c.before.before.before.if1.false) c.before.before.session-in-range.ensures c.before.contains16.ensures c.if2.true
 
 levels-allowed-requires : tie.Need-levels-allowed-requires
 levels-allowed-requires c κs = search rules
@@ -30,7 +30,7 @@ levels-allowed-requires c κs = search rules
 returns-3 : tie.Need-returns-3
 returns-3 c =
     let a = c.before.before.before.before.before.before.before.args in
-    session-away a.labels.now a.roles a.edition a.level a.s _ (of-not-false a.s.live c.before.before.before.before.before.if1.false) c.before.levels-allowed.ensures c.if3.true
+    session_away a.labels.now a.roles a.edition a.level a.s _ (of_not_false a.s.live c.before.before.before.before.before.if1.false) c.before.levels-allowed.ensures c.if3.true
 
 labels-allowed-requires : tie.Need-labels-allowed-requires
 labels-allowed-requires c κs = search rules
@@ -42,7 +42,7 @@ returns-4 c =
     let range = held.before in
     let live = range.before in
     let a = live.before.before.args in
-    session-last a.labels.now a.roles a.edition a.level a.s _ _ _ _ (of-not-false a.s.live live.if1.false) range.session-in-range.ensures held.contains16.ensures levels.before.if2.false levels.levels-allowed.ensures c.before.if3.false c.labels-allowed.ensures
+    session_last a.labels.now a.roles a.edition a.level a.s _ _ _ _ (of_not_false a.s.live live.if1.false) range.session-in-range.ensures held.contains16.ensures levels.before.if2.false levels.levels-allowed.ensures c.before.if3.false c.labels-allowed.ensures
 
 pub session-ok-spec : {M : Type 1} → statement M
 session-ok-spec =

@@ -8,16 +8,16 @@ use mathlib.Core.List.{[], ◌∷◌}
 use lib.ListN.{get_or}
 use Rattle.bitset.specs.Tests.{every, all}
 use Rattle.bitset.specs.Tests.Laws.{all_none}
-use Rattle.guard.specs.Level.{sessionLevel}
-use Rattle.guard.specs.Tables.{noSession}
-use Rattle.guard.specs.Private.Tested.{sessionTest}
-use Rattle.guard.specs.Private.Scan.{Gathered, opensGiven}
-use Rattle.guard.proofs.Soundness.Loops.{all-miss, all-next, all_done}
+use Rattle.guard.specs.Level.{session_level}
+use Rattle.guard.specs.Tables.{no_session}
+use Rattle.guard.specs.Private.Tested.{session_test}
+use Rattle.guard.specs.Private.Scan.{Gathered, opens_given}
+use Rattle.guard.proofs.Soundness.Loops.{all_miss, all_next, all_done}
 use Rattle.guard.proofs.sound.opens.sessions_ok.Statement.{statement}
 use Rattle.guard.proofs.sound.opens.sessions_ok.Tie as tie
 
 abbrev invariant-loop : tie.invariant-loop
-invariant-loop labels grants roles edition sessions held₀ rights₀ s₀ held rights s = (s ≤ 16) × Gathered grants held rights × (all s (λ k. every (sessionTest labels roles edition (sessionLevel k) (get_or sessions k noSession) ∷ opensGiven grants (get_or sessions k noSession) ∷ [])) ≡ true)
+invariant-loop labels grants roles edition sessions held₀ rights₀ s₀ held rights s = (s ≤ 16) × Gathered grants held rights × (all s (λ k. every (session_test labels roles edition (session_level k) (get_or sessions k no_session) ∷ opens_given grants (get_or sessions k no_session) ∷ [])) ≡ true)
 
 abbrev decreases-loop : tie.decreases-loop
 decreases-loop labels grants roles edition sessions held₀ rights₀ s₀ held rights s = 16 - s
@@ -45,7 +45,7 @@ session-sound-requires c κs = omega arith
 
 returns : tie.Need-returns invariant-loop decreases-loop
 returns c =
-    all-miss _ c.before.before.before.before.before.loop.s _ _ (omega arith)
+    all_miss _ c.before.before.before.before.before.loop.s _ _ (omega arith)
     (c.before.session-sound.ensures _ c.before.before.regather.ensures) c.if1.true
 
 add-s : tie.Need-overflow-add-s invariant-loop decreases-loop
@@ -57,7 +57,7 @@ loop-less c = omega arith
 loop-again : tie.Need-loop-preserved invariant-loop decreases-loop
 loop-again c =
     let rights = c.before.before.regather.ensures in
-    (omega arith, rights, all-next _ _ _ c.before.before.before.before.before.loop.invariant.2 (c.before.session-sound.ensures _ rights) c.if1.false)
+    (omega arith, rights, all_next _ _ _ c.before.before.before.before.before.loop.invariant.2 (c.before.session-sound.ensures _ rights) c.if1.false)
 
 returns-2 : tie.Need-returns-2 invariant-loop decreases-loop
 returns-2 c = all_done _ _ _ (omega arith) (omega arith) c.before.loop.invariant.2

@@ -6,16 +6,16 @@ use mathlib.Core.Path.{◌≡◌}
 use lib.ListN.{get_or}
 use Rattle.bitset.specs.Tests.{all}
 use Rattle.bitset.specs.Tests.Laws.{all_none}
-use Rattle.guard.specs.Tables.{noEntity}
-use Rattle.guard.specs.Private.Tested.{entityTest}
-use Rattle.guard.proofs.Soundness.Loops.{all-miss, all-next, all_done}
+use Rattle.guard.specs.Tables.{no_entity}
+use Rattle.guard.specs.Private.Tested.{entity_test}
+use Rattle.guard.proofs.Soundness.Loops.{all_miss, all_next, all_done}
 use Rattle.guard.proofs.sound.record.entities_ok.Statement.{statement}
 use Rattle.guard.proofs.sound.record.entities_ok.Tie as tie
 
 abbrev invariant-loop : tie.invariant-loop
 invariant-loop entities e₀ e =
     (e ≤ 64)
-    × (all e (λ k. entityTest k (get_or entities k noEntity) (get_or entities ((get_or entities k noEntity).parent % 64) noEntity)) ≡ true)
+    × (all e (λ k. entity_test k (get_or entities k no_entity) (get_or entities ((get_or entities k no_entity).parent % 64) no_entity)) ≡ true)
 
 abbrev decreases-loop : tie.decreases-loop
 decreases-loop entities e₀ e = 64 - e
@@ -45,7 +45,7 @@ entity-ok-requires : tie.Need-entity-ok-requires invariant-loop decreases-loop
 entity-ok-requires c κs = tt
 
 returns : tie.Need-returns invariant-loop decreases-loop
-returns c = all-miss _ c.before.before.before.before.before.before.loop.e _ _ (omega arith) c.before.entity-ok.ensures c.if1.true
+returns c = all_miss _ c.before.before.before.before.before.before.loop.e _ _ (omega arith) c.before.entity-ok.ensures c.if1.true
 
 add-e : tie.Need-overflow-add-e invariant-loop decreases-loop
 add-e c = omega arith
@@ -54,7 +54,7 @@ loop-less : tie.Need-loop-smaller invariant-loop decreases-loop
 loop-less c = omega arith
 
 loop-again : tie.Need-loop-preserved invariant-loop decreases-loop
-loop-again c = (omega arith, all-next _ _ _ c.before.before.before.before.before.before.loop.invariant.1 c.before.entity-ok.ensures c.if1.false)
+loop-again c = (omega arith, all_next _ _ _ c.before.before.before.before.before.before.loop.invariant.1 c.before.entity-ok.ensures c.if1.false)
 
 returns-2 : tie.Need-returns-2 invariant-loop decreases-loop
 returns-2 c = all_done _ _ _ (omega arith) (omega arith) c.before.loop.invariant.1

@@ -2,7 +2,7 @@
 use borrow.Author.Rules.{rules}
 use mathlib.Core.Bool.{and-true}
 use Rattle.bitset.specs.Tests.{every}
-use Rattle.guard.specs.Sound.{isEmptyEntity}
+use Rattle.guard.specs.Sound.{is_empty_entity}
 use Rattle.guard.proofs.sound.record.is_empty_entity.Statement.{statement}
 use Rattle.guard.proofs.sound.record.is_empty_entity.Tie as tie
 
@@ -10,7 +10,7 @@ is-no-label-requires : tie.Need-is-no-label-requires
 is-no-label-requires c κs = search rules
 
 returns : tie.Need-returns
-unfolding isEmptyEntity every
+unfolding is_empty_entity every
 returns c = simp (c.before.is-no-label.ensures, and-true)
 
 pub is-empty-entity-spec : {M : Type 1} → statement M

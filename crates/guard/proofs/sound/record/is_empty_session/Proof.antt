@@ -2,7 +2,7 @@
 use borrow.Author.Rules.{rules}
 use mathlib.Core.Bool.{and-true}
 use Rattle.bitset.specs.Tests.{every}
-use Rattle.guard.specs.Sound.{isEmptySession}
+use Rattle.guard.specs.Sound.{is_empty_session}
 use Rattle.guard.proofs.sound.record.is_empty_session.Statement.{statement}
 use Rattle.guard.proofs.sound.record.is_empty_session.Tie as tie
 
@@ -10,7 +10,7 @@ is-no-label-requires : tie.Need-is-no-label-requires
 is-no-label-requires c κs = search rules
 
 returns : tie.Need-returns
-unfolding isEmptySession every
+unfolding is_empty_session every
 returns c = simp (c.before.before.before.is-no-label.ensures, and-true)
 
 pub is-empty-session-spec : {M : Type 1} → statement M

@@ -2,7 +2,7 @@
 use borrow.Author.Rules.{rules}
 use mathlib.Core.Bool.{and-true}
 use Rattle.bitset.specs.Tests.{every}
-use Rattle.guard.specs.Sound.{isRootRecord}
+use Rattle.guard.specs.Sound.{is_root_record}
 use Rattle.guard.proofs.sound.record.is_root_record.Statement.{statement}
 use Rattle.guard.proofs.sound.record.is_root_record.Tie as tie
 
@@ -10,7 +10,7 @@ is-no-label-requires : tie.Need-is-no-label-requires
 is-no-label-requires c κs = search rules
 
 returns : tie.Need-returns
-unfolding isRootRecord every
+unfolding is_root_record every
 returns c = simp (c.before.before.before.is-no-label.ensures, and-true)
 
 pub is-root-record-spec : {M : Type 1} → statement M

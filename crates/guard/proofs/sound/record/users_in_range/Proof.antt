@@ -7,14 +7,14 @@ use mathlib.Core.Path.{◌≡◌}
 use lib.ListN.{get_or}
 use Rattle.bitset.specs.Tests.{all}
 use Rattle.bitset.specs.Tests.Laws.{all_none}
-use Rattle.guard.specs.Tables.{noUser}
-use Rattle.guard.specs.Private.InForce.{userInRange}
-use Rattle.guard.proofs.Soundness.Loops.{all-miss, all-next, all_done}
+use Rattle.guard.specs.Tables.{no_user}
+use Rattle.guard.specs.Private.InForce.{user_in_range}
+use Rattle.guard.proofs.Soundness.Loops.{all_miss, all_next, all_done}
 use Rattle.guard.proofs.sound.record.users_in_range.Statement.{statement}
 use Rattle.guard.proofs.sound.record.users_in_range.Tie as tie
 
 abbrev invariant-loop : tie.invariant-loop
-invariant-loop users u₀ u = (u ≤ 16) × (all u (λ k. userInRange (get_or users k noUser)) ≡ true)
+invariant-loop users u₀ u = (u ≤ 16) × (all u (λ k. user_in_range (get_or users k no_user)) ≡ true)
 
 abbrev decreases-loop : tie.decreases-loop
 decreases-loop users u₀ u = 16 - u
@@ -32,7 +32,7 @@ user-in-range-requires : tie.Need-user-in-range-requires invariant-loop decrease
 user-in-range-requires c κs = search rules
 
 returns : tie.Need-returns invariant-loop decreases-loop
-returns c = all-miss _ c.before.before.before.before.loop.u _ _ (omega arith) c.before.user-in-range.ensures c.if1.true
+returns c = all_miss _ c.before.before.before.before.loop.u _ _ (omega arith) c.before.user-in-range.ensures c.if1.true
 
 add-u : tie.Need-overflow-add-u invariant-loop decreases-loop
 add-u c = omega arith
@@ -41,7 +41,7 @@ loop-less : tie.Need-loop-smaller invariant-loop decreases-loop
 loop-less c = omega arith
 
 loop-again : tie.Need-loop-preserved invariant-loop decreases-loop
-loop-again c = (omega arith, all-next _ _ _ c.before.before.before.before.loop.invariant.1 c.before.user-in-range.ensures c.if1.false)
+loop-again c = (omega arith, all_next _ _ _ c.before.before.before.before.loop.invariant.1 c.before.user-in-range.ensures c.if1.false)
 
 returns-2 : tie.Need-returns-2 invariant-loop decreases-loop
 returns-2 c = all_done _ _ _ (omega arith) (omega arith) c.before.loop.invariant.1

@@ -6,22 +6,22 @@ use mathlib.Core.Path.{◌≡◌, refl, ◌∙◌}
 use lib.ListN.{get_or}
 use Rattle.bitset.specs.Tests.{all}
 use Rattle.bitset.specs.Tests.Laws.{clash, all_none}
-use Rattle.guard.specs.Tables.{noRole}
-use Rattle.guard.specs.Private.Tested.{grantableIn, roleTest}
-use Rattle.guard.proofs.Soundness.Loops.{all-miss, all-next, all_done, Listed, listed-none, listed_more}
-use Rattle.guard.proofs.Soundness.Grants.{role-masked}
+use Rattle.guard.specs.Tables.{no_role}
+use Rattle.guard.specs.Private.Tested.{grantable_in, role_test}
+use Rattle.guard.proofs.Soundness.Loops.{all_miss, all_next, all_done, Listed, listed_none, listed_more}
+use Rattle.guard.proofs.Soundness.Grants.{role_masked}
 use Rattle.guard.proofs.sound.rights.roles_ok.Statement.{statement}
 use Rattle.guard.proofs.sound.rights.roles_ok.Tie as tie
 
 abbrev invariant-loop : tie.invariant-loop
 invariant-loop live roles found₀ r₀ found r =
-    (r ≤ 16) × (all r (λ k. roleTest (grantableIn live k) k (get_or roles k noRole)) ≡ true) × Listed 16 (λ k. (get_or roles k noRole).live) r found
+    (r ≤ 16) × (all r (λ k. role_test (grantable_in live k) k (get_or roles k no_role)) ≡ true) × Listed 16 (λ k. (get_or roles k no_role).live) r found
 
 abbrev decreases-loop : tie.decreases-loop
 decreases-loop live roles found₀ r₀ found r = 16 - r
 
 loop-holds : tie.Need-loop-init invariant-loop decreases-loop
-loop-holds c = (omega arith, all_none _, listed-none 16 _ (omega arith))
+loop-holds c = (omega arith, all_none _, listed_none 16 _ (omega arith))
 
 cast-p : tie.Need-overflow-cast-p invariant-loop decreases-loop
 cast-p c = omega arith
@@ -44,14 +44,14 @@ role-ok-requires c κs = tt
 tested : (c : tie.After-role-ok invariant-loop decreases-loop)
     → let a = c.before.before.before.before.before.args in
     let r = c.before.before.before.before.loop.r in
-    c.role-ok.result ≡ roleTest (grantableIn a.live r) r (get_or a.t1 r noRole)
+    c.role-ok.result ≡ role_test (grantable_in a.live r) r (get_or a.t1 r no_role)
 tested c =
     let a = c.before.before.before.before.before.args in
     let r = c.before.before.before.before.loop.r in
-    c.role-ok.ensures ∙ role-masked a.live c.before.to_level.result r (get_or a.t1 r noRole) c.before.to_level.ensures
+    c.role-ok.ensures ∙ role_masked a.live c.before.to_level.result r (get_or a.t1 r no_role) c.before.to_level.ensures
 
 returns : tie.Need-returns invariant-loop decreases-loop
-returns c = (all-miss _ c.before.before.before.before.before.loop.r _ _ (omega arith) (tested c.before) c.if1.true, λ h. absurd (clash false h refl))
+returns c = (all_miss _ c.before.before.before.before.before.loop.r _ _ (omega arith) (tested c.before) c.if1.true, λ h. absurd (clash false h refl))
 
 listed-requires : tie.Need-listed-requires invariant-loop decreases-loop
 listed-requires c κs = omega arith
@@ -65,7 +65,7 @@ loop-less c = omega arith
 loop-again : tie.Need-loop-preserved invariant-loop decreases-loop
 loop-again c =
     let b = c.before.before.before.before.before.before.loop.invariant in
-    (omega arith, all-next _ _ _ b.1 (tested c.before.before) c.before.if1.false, listed_more 16 _ _ _ _ (omega arith) b.2 c.listed.ensures)
+    (omega arith, all_next _ _ _ b.1 (tested c.before.before) c.before.if1.false, listed_more 16 _ _ _ _ (omega arith) b.2 c.listed.ensures)
 
 returns-2 : tie.Need-returns-2 invariant-loop decreases-loop
 returns-2 c =

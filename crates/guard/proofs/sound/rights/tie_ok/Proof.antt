@@ -1,6 +1,6 @@
 -- `tie_ok` is the test of the ties of one role. Assumes nothing.
 use mathlib.Core.Path.{sym, ◌∙◌}
-use Rattle.guard.proofs.Descent.{tie_none, tie-away, tie-last}
+use Rattle.guard.proofs.Descent.{tie_none, tie_away, tie_last}
 use borrow.Author.Rules.{rules}
 use Rattle.guard.proofs.sound.rights.tie_ok.Statement.{statement}
 use Rattle.guard.proofs.sound.rights.tie_ok.Tie as tie
@@ -23,7 +23,7 @@ returns-2 : tie.Need-returns-2
 returns-2 c =
     let juniors = c.before.before.before.before in
     let start = juniors.before in
-    tie-away start.args.grants.now start.args.r start.requires start.args.live _ c.before.before.of-level.ensures _
+    tie_away start.args.grants.now start.args.r start.requires start.args.live _ c.before.before.of-level.ensures _
     (rw juniors.juniors.ensures at c.before.contains16.ensures) c.if2.true
 
 gather-requires : tie.Need-gather-requires
@@ -37,7 +37,7 @@ returns-3 c =
     let juniors = c.before.before.before.before.before.before in
     let start = juniors.before in
     let inside = c.before.before in
-    tie-last start.args.grants.now start.args.r start.requires start.args.live _ inside.before.before.of-level.ensures _ _
+    tie_last start.args.grants.now start.args.r start.requires start.args.live _ inside.before.before.of-level.ensures _ _
     (rw juniors.juniors.ensures at inside.before.contains16.ensures) inside.if2.false
     (c.has16.ensures ∙ c.before.gather.ensures.roles _ start.requires ∙ rw juniors.juniors.ensures)
 

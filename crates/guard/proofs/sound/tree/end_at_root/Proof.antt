@@ -5,13 +5,13 @@ use mathlib.Core.Bool.{true}
 use mathlib.Core.Path.{◌≡◌}
 use Rattle.bitset.specs.Tests.{all}
 use Rattle.bitset.specs.Tests.Laws.{all_none}
-use Rattle.guard.specs.Private.Tested.{ends, parentByKey}
-use Rattle.guard.proofs.Soundness.Loops.{all-miss, all-next, all_done}
+use Rattle.guard.specs.Private.Tested.{ends, parent_by_key}
+use Rattle.guard.proofs.Soundness.Loops.{all_miss, all_next, all_done}
 use Rattle.guard.proofs.sound.tree.end_at_root.Statement.{statement}
 use Rattle.guard.proofs.sound.tree.end_at_root.Tie as tie
 
 abbrev invariant-loop : tie.invariant-loop
-invariant-loop keys e₀ e = (e ≤ 64) × (all e (ends (parentByKey keys) 16) ≡ true)
+invariant-loop keys e₀ e = (e ≤ 64) × (all e (ends (parent_by_key keys) 16) ≡ true)
 
 abbrev decreases-loop : tie.decreases-loop
 decreases-loop keys e₀ e = 64 - e
@@ -23,7 +23,7 @@ ends-at-root-requires : tie.Need-ends-at-root-requires invariant-loop decreases-
 ends-at-root-requires c κs = omega arith
 
 returns : tie.Need-returns invariant-loop decreases-loop
-returns c = all-miss _ c.before.before.before.loop.e _ _ (omega arith) c.before.ends-at-root.ensures c.if1.true
+returns c = all_miss _ c.before.before.before.loop.e _ _ (omega arith) c.before.ends-at-root.ensures c.if1.true
 
 add-e : tie.Need-overflow-add-e invariant-loop decreases-loop
 add-e c = omega arith
@@ -32,7 +32,7 @@ loop-less : tie.Need-loop-smaller invariant-loop decreases-loop
 loop-less c = omega arith
 
 loop-again : tie.Need-loop-preserved invariant-loop decreases-loop
-loop-again c = (omega arith, all-next _ _ _ c.before.before.before.loop.invariant.1 c.before.ends-at-root.ensures c.if1.false)
+loop-again c = (omega arith, all_next _ _ _ c.before.before.before.loop.invariant.1 c.before.ends-at-root.ensures c.if1.false)
 
 returns-2 : tie.Need-returns-2 invariant-loop decreases-loop
 returns-2 c = all_done _ _ _ (omega arith) (omega arith) c.before.loop.invariant.1

@@ -3,13 +3,13 @@ use Prim.Native.Nat.{◌≤◌, ◌<◌}
 use native.Mathlib.Omega.{arith}
 use mathlib.Core.Path.{◌≡◌, refl, sym, ◌∙◌}
 use borrow.Author.Tests.{eq-eqb, ne_eqb}
-use Rattle.guard.specs.Private.Tested.{ends, parentByKey}
-use Rattle.guard.proofs.Soundness.Climb.{climbs-root, climbs-on, climbs-end}
+use Rattle.guard.specs.Private.Tested.{ends, parent_by_key}
+use Rattle.guard.proofs.Soundness.Climb.{climbs_root, climbs_on, climbs_end}
 use Rattle.guard.proofs.sound.tree.ends_at_root.Statement.{statement}
 use Rattle.guard.proofs.sound.tree.ends_at_root.Tie as tie
 
 abbrev invariant-loop : tie.invariant-loop
-invariant-loop keys e at₀ left₀ at left = (at < 64) × (left ≤ 16) × (ends (parentByKey keys) 16 e ≡ ends (parentByKey keys) left at)
+invariant-loop keys e at₀ left₀ at left = (at < 64) × (left ≤ 16) × (ends (parent_by_key keys) 16 e ≡ ends (parent_by_key keys) left at)
 
 abbrev decreases-loop : tie.decreases-loop
 decreases-loop keys e at₀ left₀ at left = left
@@ -18,7 +18,7 @@ loop-holds : tie.Need-loop-init invariant-loop decreases-loop
 loop-holds c = (omega arith, omega arith, refl)
 
 returns : tie.Need-returns invariant-loop decreases-loop
-returns c = sym (c.before.before.loop.invariant.2 ∙ climbs-root _ _ c.before.before.loop.left _ (eq-eqb _ _ c.if1.true))
+returns c = sym (c.before.before.loop.invariant.2 ∙ climbs_root _ _ c.before.before.loop.left _ (eq-eqb _ _ c.if1.true))
 
 mul_at : tie.Need-overflow-mul-at invariant-loop decreases-loop
 mul_at c = omega arith
@@ -36,10 +36,10 @@ loop-less : tie.Need-loop-smaller invariant-loop decreases-loop
 loop-less c = omega arith
 
 loop-again : tie.Need-loop-preserved invariant-loop decreases-loop
-loop-again c = (omega arith, omega arith, c.before.before.before.loop.invariant.2 ∙ climbs-on _ _ _ _ (omega arith) (ne_eqb _ _ c.before.if1.false))
+loop-again c = (omega arith, omega arith, c.before.before.before.loop.invariant.2 ∙ climbs_on _ _ _ _ (omega arith) (ne_eqb _ _ c.before.if1.false))
 
 returns-2 : tie.Need-returns-2 invariant-loop decreases-loop
-returns-2 c = let none : c.before.loop.left ≡ 0 = omega arith in sym (rw none at c.before.loop.invariant.2 ∙ climbs-end _ _ _)
+returns-2 c = let none : c.before.loop.left ≡ 0 = omega arith in sym (rw none at c.before.loop.invariant.2 ∙ climbs_end _ _ _)
 
 pub ends-at-root-spec : {M : Type 1} → statement M
 ends-at-root-spec =

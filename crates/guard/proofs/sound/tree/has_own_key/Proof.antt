@@ -8,8 +8,8 @@ use lib.Dec.{eqb}
 use lib.ListN.{get_or}
 use borrow.Author.Tests.{eqb-true, eq-eqb, ne_eqb}
 use Rattle.bitset.specs.Tests.{either, implies, all}
-use Rattle.bitset.specs.Tests.Laws.{both, either_l, all-cong}
-use Rattle.guard.proofs.Soundness.Count.{count, count_none, count-more, count-le, at_most_one, once}
+use Rattle.bitset.specs.Tests.Laws.{both, either_l, all_cong}
+use Rattle.guard.proofs.Soundness.Count.{count, count_none, count_more, count_le, at_most_one, once}
 use Rattle.guard.proofs.sound.tree.has_own_key.Statement.{statement}
 use Rattle.guard.proofs.sound.tree.has_own_key.Tie as tie
 
@@ -25,7 +25,7 @@ unnamed a b r h e = rw h e
 alone : (keys : List ℕ) (e : ℕ) → eqb (count 16 (same keys e)) 1 ≡ all 16 (λ m. implies (same keys e m) (eqb (e / 16 * 16 + m) e))
 alone keys e =
     once 16 (same keys e) (e % 16) (omega arith) (let here : e / 16 * 16 + e % 16 ≡ e = omega arith in rw here (eq-eqb (get_or keys e 0) _ refl))
-    ∙ all-cong 16 _ _ (λ m l. ap (implies (same keys e m)) (both (eqb m (e % 16)) (eqb (e / 16 * 16 + m) e)
+    ∙ all_cong 16 _ _ (λ m l. ap (implies (same keys e m)) (both (eqb m (e % 16)) (eqb (e / 16 * 16 + m) e)
     (λ h. eq-eqb (e / 16 * 16 + m) e (omega (arith, eqb-true m (e % 16) h))) (λ h. eq-eqb m (e % 16) (omega (arith, eqb-true (e / 16 * 16 + m) e h)))))
 
 abbrev invariant-loop : tie.invariant-loop
@@ -66,7 +66,7 @@ add-hits c =
     let a = c.before.before.before.before.before.before.args in
     let l = c.before.before.before.loop in
     let has = same a.keys.now a.e in
-    omega (arith, at_most_one (has l.m) _ c.counted.ensures, l.invariant.1, count-le l.m has)
+    omega (arith, at_most_one (has l.m) _ c.counted.ensures, l.invariant.1, count_le l.m has)
 
 add-m : tie.Need-overflow-add-m invariant-loop decreases-loop
 add-m c = omega arith
@@ -75,7 +75,7 @@ loop-less : tie.Need-loop-smaller invariant-loop decreases-loop
 loop-less c = omega arith
 
 loop-again : tie.Need-loop-preserved invariant-loop decreases-loop
-loop-again c = (omega arith, rw (count-more, c.before.before.before.loop.invariant.1, c.counted.ensures))
+loop-again c = (omega arith, rw (count_more, c.before.before.before.loop.invariant.1, c.counted.ensures))
 
 returns-2 : tie.Need-returns-2 invariant-loop decreases-loop
 returns-2 c =

@@ -4,14 +4,14 @@ use Prim.Native.Nat.{◌-◌, ◌≤◌}
 use native.Mathlib.Omega.{arith}
 use mathlib.Core.Path.{refl}
 use lib.ListN.{get_or}
-use Rattle.guard.specs.Tables.{noEntity}
+use Rattle.guard.specs.Tables.{no_entity}
 use Rattle.guard.specs.Private.Tested.{key_of}
-use Rattle.guard.proofs.Soundness.Loops.{Filled, filled_none, filled_more, filled-all}
+use Rattle.guard.proofs.Soundness.Loops.{Filled, filled_none, filled_more, filled_all}
 use Rattle.guard.proofs.sound.tree.keys.Statement.{statement}
 use Rattle.guard.proofs.sound.tree.keys.Tie as tie
 
 abbrev invariant-loop : tie.invariant-loop
-invariant-loop entities a₀ e₀ a e = (e ≤ 64) × Filled (λ k. key_of (get_or entities k noEntity)) e a
+invariant-loop entities a₀ e₀ a e = (e ≤ 64) × Filled (λ k. key_of (get_or entities k no_entity)) e a
 
 abbrev decreases-loop : tie.decreases-loop
 decreases-loop entities a₀ e₀ a e = 64 - e
@@ -44,7 +44,7 @@ loop-again : tie.Need-loop-preserved invariant-loop decreases-loop
 loop-again c = (omega arith, filled_more _ _ _ _ (omega arith) c.before.before.before.loop.invariant.1 c.key.ensures)
 
 returns : tie.Need-returns invariant-loop decreases-loop
-returns c = record { long = c.before.loop.invariant.1.long; at = filled-all _ _ _ (omega arith) c.before.loop.invariant.1 }
+returns c = record { long = c.before.loop.invariant.1.long; at = filled_all _ _ _ (omega arith) c.before.loop.invariant.1 }
 
 pub keys-spec : {M : Type 1} → statement M
 keys-spec =

@@ -3,13 +3,13 @@ use Prim.Native.Nat.{◌+◌, ◌-◌, ◌≤◌}
 use native.Mathlib.Omega.{arith}
 use mathlib.Core.Path.{◌≡◌, refl}
 use lib.ListN.{get_or}
-use Rattle.guard.specs.Private.Tested.{liveByKey}
-use Rattle.guard.proofs.Soundness.DeadSet.{Pushed, pushed_none, pushed_more, pushed-all}
+use Rattle.guard.specs.Private.Tested.{live_by_key}
+use Rattle.guard.proofs.Soundness.DeadSet.{Pushed, pushed_none, pushed_more, pushed_all}
 use Rattle.guard.proofs.sound.tree.live_set.Statement.{statement}
 use Rattle.guard.proofs.sound.tree.live_set.Tie as tie
 
 abbrev invariant-loop : tie.invariant-loop
-invariant-loop keys dead₀ e₀ dead e = (e ≤ 64) × Pushed (liveByKey keys) e dead
+invariant-loop keys dead₀ e₀ dead e = (e ≤ 64) × Pushed (live_by_key keys) e dead
 
 abbrev decreases-loop : tie.decreases-loop
 decreases-loop keys dead₀ e₀ dead e = e
@@ -39,13 +39,13 @@ loop-again : tie.Need-loop-preserved invariant-loop decreases-loop
 loop-again c =
     let l = c.before.before.loop in
     let more : l.e - 1 + 1 ≡ l.e = omega arith in
-    (omega arith, pushed_more (liveByKey c.before.before.before.args.keys.now) (l.e - 1) l.dead _ (omega arith) (rw more l.invariant.1) (key c) refl)
+    (omega arith, pushed_more (live_by_key c.before.before.before.args.keys.now) (l.e - 1) l.dead _ (omega arith) (rw more l.invariant.1) (key c) refl)
 
 returns : tie.Need-returns invariant-loop decreases-loop
 returns c =
     let l = c.before.loop in
     let none : l.e ≡ 0 = omega arith in
-    pushed-all _ _ (rw none at l.invariant.1)
+    pushed_all _ _ (rw none at l.invariant.1)
 
 pub live-set-spec : {M : Type 1} → statement M
 live-set-spec =
