@@ -82,7 +82,7 @@ pub fn small(n: u64) -> u32 {
 }
 
 // A request, and whether it could be read.
-#[derive(Drop)]
+#[derive(Clone, Copy)]
 pub struct Asked {
     pub request: Request,
     pub good: bool,

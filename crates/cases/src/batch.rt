@@ -6,14 +6,14 @@ use guard::sizes::NO_ROLE;
 use guard::{Request, Tables};
 
 // Rows, and how many numbers they have. There is room for 256 rows.
-#[derive(Drop)]
+#[derive(Clone, Copy)]
 pub struct Batch {
     pub rows: [u32; 3328],
     pub count: usize,
 }
 
 // The tables after a batch, the answers and the roles. Where no answer was written there is 255, where no role was, 254.
-#[derive(Drop)]
+#[derive(Clone, Copy)]
 pub struct Done {
     pub tables: Tables,
     pub answers: [u8; 256],

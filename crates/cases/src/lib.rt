@@ -2,6 +2,7 @@
 // of the old width, requests, batches of them, what is printed, and the statements on the state of a run. The program
 // `guard_cases` reads statements from files. It is a crate of its own so that a new case, which is data of the program, leaves
 // it proved.
+#![tactic(auto)]
 pub mod ask;
 pub mod batch;
 pub mod edges;

@@ -83,7 +83,7 @@ fn item(b: u8, n: u64) {
 }
 
 // How many texts are to be passed, and which number of the row comes next.
-#[derive(Drop)]
+#[derive(Clone, Copy)]
 struct Place {
     left: usize,
     at: usize,

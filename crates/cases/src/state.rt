@@ -4,7 +4,7 @@ use crate::{record, show, text};
 use guard::{Label, Tables, User};
 
 // The tables, and those kept to go back to; the batch; and whether the last statement could be read.
-#[derive(Drop)]
+#[derive(Clone, Copy)]
 pub struct State {
     pub now: Tables,
     pub kept: Tables,
@@ -13,7 +13,7 @@ pub struct State {
 }
 
 // A record's kind and number, a field of it, and where the statement goes on.
-#[derive(Drop)]
+#[derive(Clone, Copy)]
 struct Place {
     kind: usize,
     i: usize,

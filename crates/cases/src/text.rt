@@ -2,7 +2,7 @@
 
 // A word: its bytes as one number, 0 for more than eight; the number that it is, where it is decimal; its length, 9 for more
 // than eight; and where the next word begins.
-#[derive(Drop)]
+#[derive(Clone, Copy)]
 pub struct Word {
     pub key: u64,
     pub number: u64,
@@ -24,7 +24,7 @@ fn wide(b: u8) -> u64 {
 }
 
 // A place in the list: the word up to here as a number, and how many words stand before it.
-#[derive(Drop)]
+#[derive(Clone, Copy)]
 struct Spot {
     word: u64,
     before: usize,

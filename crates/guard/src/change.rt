@@ -6,7 +6,7 @@ use crate::kinds;
 
 // The acting session; the entity (create also a role, delete every role and session); the role (revoke, unmake and
 // unjoin also every session).
-#[derive(Drop)]
+#[derive(Clone, Copy)]
 pub enum Change {
     Session,
     Entity,

@@ -4,6 +4,7 @@
 // sound, what each request answers and how it changes the tables is said by the definitions in specs/, in the paper's
 // order. Sets are bit sets: member `i` is bit `i` (crate `bitset`). No record of the tables holds an enum or a reference. Tables
 // of the old width, with a set of eight categories, have records of their own (`old`).
+#![tactic(auto)]
 mod backing;
 mod change;
 mod entities;
@@ -30,14 +31,14 @@ mod view;
 use sizes::{ENTITIES, ROLES, SESSIONS, USERS};
 
 // Label: a confidentiality grade, 0 to 3, and a set of sixteen categories.
-#[derive(Drop)]
+#[derive(Clone, Copy)]
 pub struct Label {
     pub cats: u16,
     pub grade: u8,
 }
 
 // User: the highest level that its sessions may have, 0 to 3, and its clearance.
-#[derive(Drop)]
+#[derive(Clone, Copy)]
 pub struct User {
     pub ceiling: u8,
     pub clearance: Label,
@@ -45,7 +46,7 @@ pub struct User {
 
 // Session (the paper's seat): whose it is, the roles that it holds, the entities that it has open for reading and for
 // writing.
-#[derive(Drop)]
+#[derive(Clone, Copy)]
 pub struct Session {
     pub live: bool,
     pub user: u8,
@@ -57,7 +58,7 @@ pub struct Session {
 
 // Role: the users that it lists, its direct juniors, and for each right, read, write, execute and own, the entities on which its
 // record has it. Records are laid out in the order of their fields: in front of the sets of entities the juniors take no room.
-#[derive(Drop)]
+#[derive(Clone, Copy)]
 pub struct Role {
     pub live: bool,
     pub users: u16,
@@ -70,7 +71,7 @@ pub struct Role {
 
 // Entity: an object (kind 0) or a container (kind 1), with the number of its parent, its mark (1 for a shared container, else 0),
 // its name and its label. Records are laid out in the order of their fields: in front of the name the mark takes no room.
-#[derive(Drop)]
+#[derive(Clone, Copy)]
 pub struct Entity {
     pub live: bool,
     pub kind: u8,
@@ -81,7 +82,7 @@ pub struct Entity {
 }
 
 // The tables, and their edition: 1, or 2, in which a session may read what is below its level. No request changes it.
-#[derive(Drop)]
+#[derive(Clone, Copy)]
 pub struct Tables {
     pub users: [User; USERS],
     pub sessions: [Session; SESSIONS],
@@ -94,7 +95,7 @@ pub struct Tables {
 // the order in which the papers list the nineteen. `grade` and `cats` are the label asked for, `shared` is the mark; join and unjoin
 // have the senior in `role`.
 // A field that the request does not use may hold anything.
-#[derive(Drop)]
+#[derive(Clone, Copy)]
 pub struct Request {
     pub call: u32,
     pub seat: u32,
@@ -112,7 +113,7 @@ pub struct Request {
 }
 
 // Which role let a session in: the role of that number, or none is told.
-#[derive(Drop)]
+#[derive(Clone, Copy)]
 pub enum Told {
     By(u8),
     None,
@@ -120,7 +121,7 @@ pub enum Told {
 
 // What a request hands back: the tables after it; its answer, 0 done, or the number of the refusal; and beside the 0 of openr and
 // openw the lowest-numbered role held that gives the right on the entity. All else tells none.
-#[derive(Drop)]
+#[derive(Clone, Copy)]
 pub struct Outcome {
     pub tables: Tables,
     pub answer: u8,

@@ -8,7 +8,7 @@ use crate::{Request, kinds, sizes};
 
 // The places of the records that a request concerns: where a number is past its range, some other place. `fits`: every number
 // that the request's kind uses is in its range.
-#[derive(Drop)]
+#[derive(Clone, Copy)]
 pub struct Places {
     pub seat: usize,
     pub user: usize,

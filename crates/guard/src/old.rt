@@ -7,19 +7,19 @@ use crate::{Entity, Label, Role, Session, Tables, User};
 
 // The records that hold a label, and roles, which had no juniors. All else in them is as in `User`, `Session`, `Role`, `Entity` and
 // `Tables`.
-#[derive(Drop)]
+#[derive(Clone, Copy)]
 pub struct OldLabel {
     pub cats: u8,
     pub grade: u8,
 }
 
-#[derive(Drop)]
+#[derive(Clone, Copy)]
 pub struct OldUser {
     pub ceiling: u8,
     pub clearance: OldLabel,
 }
 
-#[derive(Drop)]
+#[derive(Clone, Copy)]
 pub struct OldSession {
     pub live: bool,
     pub user: u8,
@@ -29,7 +29,7 @@ pub struct OldSession {
     pub writing: u64,
 }
 
-#[derive(Drop)]
+#[derive(Clone, Copy)]
 pub struct OldRole {
     pub live: bool,
     pub users: u16,
@@ -39,7 +39,7 @@ pub struct OldRole {
     pub owns: u64,
 }
 
-#[derive(Drop)]
+#[derive(Clone, Copy)]
 pub struct OldEntity {
     pub live: bool,
     pub kind: u8,
@@ -48,7 +48,7 @@ pub struct OldEntity {
     pub label: OldLabel,
 }
 
-#[derive(Drop)]
+#[derive(Clone, Copy)]
 pub struct OldTables {
     pub users: [OldUser; USERS],
     pub sessions: [OldSession; SESSIONS],

@@ -23,7 +23,7 @@ const ROLE_SETS: u64 = 65536;
 
 // What roles give together: the entities on which they have each right, themselves or through roles below them; and the roles by
 // which they have it, they and those below.
-#[derive(Drop)]
+#[derive(Clone, Copy)]
 pub struct Rights {
     pub reads: u64,
     pub writes: u64,
@@ -34,7 +34,7 @@ pub struct Rights {
 
 // What the scans find: the rights of the session, whether it reaches the entity, and what 14, 15 and 22 ask; each where the kind
 // asks for it.
-#[derive(Drop)]
+#[derive(Clone, Copy)]
 pub struct Found {
     pub rights: Rights,
     pub reached: bool,

@@ -11,7 +11,7 @@ use crate::{Entity, Role, Session, User};
 // named is live (`alive`), the entity, and the parent (create: the one named; else the entity's). A number past its range has
 // some other record in its place, and `fits` says whether one that the kind uses is. `found` is what the scans found, `edition`
 // that of the tables.
-#[derive(Drop)]
+#[derive(Clone, Copy)]
 pub struct View {
     pub fits: bool,
     pub session: Session,

@@ -31,6 +31,7 @@
 // SENIOR JUNIOR, and so on.
 // It is made by the method of its name and by `step`, and a line tells where the two differ. Behind an answer stands `by role N`
 // where a role is told.
+#![tactic(auto)]
 ghost use Rattle.io.specs.Counts.{IsPrefixLen};
 
 use bytes::scan;

@@ -1,13 +1,14 @@
 // The request program: a written list of requests on standard input, each answer on standard output. What is printed is
 // decided in the crate script; here bytes are only carried, in large blocks, until the run is over, the input ends, or a read
 // or a write fails.
+#![tactic(auto)]
 mod stdio;
 
 use script::runner::Runner;
 use script::{buffer, runner};
 
 // How many bytes of input are at hand, and whether the input has ended or could not be read.
-#[derive(Drop)]
+#[derive(Clone, Copy)]
 struct Stock {
     have: usize,
     end: bool,
@@ -15,7 +16,7 @@ struct Stock {
 }
 
 // The runner after a turn, how many bytes of input are kept, and whether to go on.
-#[derive(Drop)]
+#[derive(Clone, Copy)]
 struct After {
     runner: Runner,
     have: usize,

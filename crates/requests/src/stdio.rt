@@ -7,7 +7,7 @@ use libc::{STDERR_FILENO, STDIN_FILENO, STDOUT_FILENO};
 
 // What a read came to: how many bytes, and whether it failed. None, where there was room and it did not fail, is the end of
 // the input.
-#[derive(Drop)]
+#[derive(Clone, Copy)]
 pub struct Came {
     pub count: usize,
     pub failed: bool,

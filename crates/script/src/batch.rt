@@ -13,7 +13,7 @@ use guard::{Request, sizes};
 
 // How many requests some lines ask, how many lines these are, how many bytes of input they took, and whether `user` is shut
 // out after them.
-#[derive(Drop)]
+#[derive(Clone, Copy)]
 pub struct Gathered {
     pub count: usize,
     pub lines: usize,

@@ -9,14 +9,14 @@ use crate::line::Line;
 use guard::Request;
 
 // What a field is taken as.
-#[derive(Drop)]
+#[derive(Clone, Copy)]
 pub enum Taken {
     Number(u32),
     Fault,
 }
 
 // The first six fields behind `call`.
-#[derive(Drop)]
+#[derive(Clone, Copy)]
 pub struct Six {
     pub seat: u32,
     pub user: u32,
@@ -27,7 +27,7 @@ pub struct Six {
 }
 
 // The first six fields, or a fault in one of them.
-#[derive(Drop)]
+#[derive(Clone, Copy)]
 pub enum Half {
     Numbers(Six),
     Fault,

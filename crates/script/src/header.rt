@@ -7,7 +7,7 @@ use crate::{limits, text};
 
 // The order of columns that a line of names gives: `at` has for each place which name stands there, and behind the last that
 // none does.
-#[derive(Drop)]
+#[derive(Clone, Copy)]
 pub struct Order {
     pub good: bool,
     pub at: [u8; limits::PLACES],

@@ -11,7 +11,7 @@ use crate::{fields, limits, row};
 use guard::Request;
 
 // A value: 1 to 5 decimal digits, a dash, or anything else.
-#[derive(Drop)]
+#[derive(Clone, Copy)]
 pub enum Value {
     Digits(u32),
     Dash,
@@ -19,7 +19,7 @@ pub enum Value {
 }
 
 // What a line asks: a request, a user's record (user, grade, categories, ceiling), or nothing that can be read.
-#[derive(Drop)]
+#[derive(Clone, Copy)]
 pub enum Line {
     Ask(Request),
     SetUser(u32, u32, u32, u32),
@@ -27,7 +27,7 @@ pub enum Line {
 }
 
 // What the first line of some input asks, and its length.
-#[derive(Drop)]
+#[derive(Clone, Copy)]
 pub struct Front {
     pub asked: Line,
     pub len: usize,

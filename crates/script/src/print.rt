@@ -5,7 +5,7 @@ ghost use Rattle.script.specs.Report.{heading, line_text, line_room, last_line};
 ghost use Rattle.script.specs.Private.Slices.{Numbered, Put};
 
 // A number and its last five digits, the last one in `a`.
-#[derive(Drop)]
+#[derive(Clone, Copy)]
 pub struct Numeral {
     pub n: u32,
     pub e: u32,

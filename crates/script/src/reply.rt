@@ -8,7 +8,7 @@ use crate::line::Line;
 use guard::{Label, Tables, User, sizes};
 
 // The bench after a line, and the line's answer.
-#[derive(Drop)]
+#[derive(Clone, Copy)]
 pub struct Reply {
     pub tables: Tables,
     pub shut: bool,

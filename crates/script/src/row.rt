@@ -10,7 +10,7 @@ use crate::{digit, limits, text};
 
 // A value found: its code, its form (0 a number, or a word under `call`; 1 a dash; 2 anything else), where it ends, and
 // whether a space stands there.
-#[derive(Drop)]
+#[derive(Clone, Copy)]
 pub struct Found {
     pub code: u32,
     pub form: u8,
@@ -20,7 +20,7 @@ pub struct Found {
 
 // A row: good where the line has as many values as there are names, each of a form; then `given` is the set of the names whose
 // value is a number. `len` is the line's length.
-#[derive(Drop)]
+#[derive(Clone, Copy)]
 pub struct Row {
     pub good: bool,
     pub given: u16,

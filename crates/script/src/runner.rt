@@ -23,7 +23,7 @@ const AT_END: u8 = 3;
 // Where a run stands: the bench (its tables, and whether a readable line with a word other than `user` has come), the
 // order of the names, the phase, how many lines are done, the names line as 1, and whether the line that is begun has been
 // answered.
-#[derive(Drop)]
+#[derive(Clone, Copy)]
 pub struct Runner {
     tables: Tables,
     shut: bool,
@@ -34,14 +34,14 @@ pub struct Runner {
 }
 
 // The runner after a line, and how many bytes of output were written.
-#[derive(Drop)]
+#[derive(Clone, Copy)]
 struct Said {
     runner: Runner,
     wrote: usize,
 }
 
 // The runner after a piece, how many bytes of the piece were used, and how many bytes of output were written.
-#[derive(Drop)]
+#[derive(Clone, Copy)]
 pub struct Ran {
     pub runner: Runner,
     pub used: usize,

@@ -209,7 +209,7 @@ fn key4(s: &[u8], from: usize) -> u64
 }
 
 // A word and its length, or no word.
-#[derive(Drop)]
+#[derive(Clone, Copy)]
 pub struct Short {
     pub word: u32,
     pub len: usize,

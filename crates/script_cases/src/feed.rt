@@ -6,7 +6,7 @@ use script::runner::Runner;
 use script::{buffer, runner};
 
 // The part of a text, from `from` up to `to`, that is handed over `again` more times. It makes a long input of a short file.
-#[derive(Drop)]
+#[derive(Clone, Copy)]
 pub struct Part {
     pub from: usize,
     pub to: usize,
@@ -14,14 +14,14 @@ pub struct Part {
 }
 
 // The place of the next byte in the text, and how many times the part is still to come again.
-#[derive(Drop)]
+#[derive(Clone, Copy)]
 struct Place {
     at: usize,
     again: usize,
 }
 
 // The place behind the bytes that were handed over, and how many bytes are held now.
-#[derive(Drop)]
+#[derive(Clone, Copy)]
 struct Stock {
     at: usize,
     again: usize,
@@ -29,14 +29,14 @@ struct Stock {
 }
 
 // How many bytes of output there were, and whether they are as they were in the run before.
-#[derive(Drop)]
+#[derive(Clone, Copy)]
 pub struct Told {
     pub count: usize,
     pub same: bool,
 }
 
 // The runner after a call, how many bytes are still held, the output so far, and whether the run is over.
-#[derive(Drop)]
+#[derive(Clone, Copy)]
 struct Worked {
     runner: Runner,
     have: usize,

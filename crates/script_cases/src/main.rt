@@ -3,6 +3,7 @@
 // and 64 bytes, each with room for 12, 13 and 100 bytes of output, and the last line of a case says how many of these nine
 // ways printed the same. The list begins with long inputs: in each a part of the file comes again many times, and the
 // pieces are of 64, 300 and 1,000 bytes. The file stdout holds what the papers say, and a check compares the two.
+#![tactic(auto)]
 mod feed;
 
 ghost use Rattle.std.specs.Prelude.{◌≤◌, ◌<◌, ◌≡◌, length};

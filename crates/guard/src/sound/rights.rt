@@ -18,7 +18,7 @@ const ROLE_COUNT: u8 = ROLES as u8;
 const LEVEL: u8 = LEVEL_ROLES as u8;
 
 // What is found of the roles: whether each is as soundness asks, and if so the set of those that are live.
-#[derive(Drop)]
+#[derive(Clone, Copy)]
 pub struct Roles {
     pub ok: bool,
     pub live: u16,
