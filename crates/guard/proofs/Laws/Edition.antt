@@ -137,4 +137,5 @@ unfolding rule_of
 openr_never_10 t q two is ten =
     let rule : rule_of q ≡ openr = ap (λ n. get_or rules n unknown) is ∙ numbered.4 in
     let met = answer_met t q (λ none. eqb-false 10 0 refl (sym ten ∙ none)) in
-    clash false (sym (no_10 t q two) ∙ (rw (ten, rule) at met)) refl
+    let met10 : condition_of 10 (conditions openr t q) ≡ true = subst (λ (r : Rule). condition_of 10 (conditions r t q) ≡ true) rule (subst (λ (n : ℕ). condition_of n (conditions (rule_of q) t q) ≡ true) ten met) in
+    clash false (sym (no_10 t q two) ∙ met10) refl

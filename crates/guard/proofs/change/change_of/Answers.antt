@@ -1,0 +1,22 @@
+-- `change_of` is the record that a kind changes. Assumes nothing.
+use native.Mathlib.Omega.{arith}
+use borrow.Author.Tests.{le-leb, lt-leb, ne_eqb}
+use Rattle.bitset.specs.Tests.{either}
+use Rattle.guard.specs.Private.Inside.{change_of}
+use Rattle.guard.proofs.change.change_of.Goals as goal
+
+pub returns-in-16 : goal.returns-in-16
+unfolding change_of either
+returns-in-16 c = rw c.in-16.is
+
+pub returns-in-0-to-6 : goal.returns-in-0-to-6
+unfolding change_of
+returns-in-0-to-6 c = rw (le-leb c.args.call 6 (omega (arith, c.if-call-lt7.true)))
+
+pub returns-in-7-to-9 : goal.returns-in-7-to-9
+unfolding change_of either
+returns-in-7-to-9 c = rw (lt-leb _ 6 c.if-call-lt7.false, le-leb c.args.call 9 (omega (arith, c.if-call-lt10.true)))
+
+pub returns-in_default : goal.returns-in_default
+unfolding change_of either
+returns-in_default c = rw (lt-leb _ 6 c.if-call-lt7.false, lt-leb _ 9 c.if-call-lt10.false, ne_eqb _ 16 c.in_default-1.rest.1)

@@ -1,0 +1,36 @@
+-- `asks_rights`: the eight kinds, one after the other. Assumes nothing.
+use Prim.Native.Nat.{ℕ}
+use mathlib.Core.Path.{◌≡◌, refl}
+use mathlib.Core.Bool.{true, false}
+use native.Mathlib.Omega.{arith}
+use Rattle.bitset.specs.Tests.{either}
+use Rattle.guard.specs.Private.Inside.{asks_way, asks_name, asks_rights}
+use Rattle.guard.proofs.Ranges.{span, asks_past}
+use Rattle.guard.proofs.look.asks_rights.Goals as goal
+
+pub returns-in-16 : goal.returns-in-16
+unfolding asks_rights asks_way asks_name either
+returns-in-16 c = rw c.in-16.is
+
+pub returns-in-4 : goal.returns-in-4
+unfolding asks_rights asks_way asks_name either
+returns-in-4 c = span (λ (n : ℕ). true ≡ asks_rights n) 4 2 (refl, (refl, tt)) _ (omega arith) c.if-call-lt6.true
+
+pub returns-in-7 : goal.returns-in-7
+unfolding asks_rights asks_way asks_name either
+returns-in-7 c = span (λ (n : ℕ). true ≡ asks_rights n) 7 3 (refl, (refl, (refl, tt))) _ c.if-call-lt7.false c.if-call-lt10.true
+
+pub returns-in-10 : goal.returns-in-10
+unfolding asks_rights asks_way asks_name either
+returns-in-10 c = span (λ (n : ℕ). true ≡ asks_rights n) 10 2 (refl, (refl, tt)) _ c.if-call-lt10.false c.if-call-lt12.true
+
+pub returns-in_default : goal.returns-in_default
+unfolding asks_rights asks_way asks_name either
+returns-in_default c = span (λ (n : ℕ). false ≡ asks_rights n) 0 4 (refl, (refl, (refl, (refl, tt)))) _ (omega arith) c.if-call-lt4.true
+
+pub returns-in_default-2 : goal.returns-in_default-2
+unfolding asks_rights asks_way asks_name either
+returns-in_default-2 c = span (λ (n : ℕ). false ≡ asks_rights n) 6 1 (refl, tt) _ c.if-call-lt6.false c.if-call-lt7.true
+
+pub returns-in_default-3 : goal.returns-in_default-3
+returns-in_default-3 c = rw (asks_past _ c.if-call-lt12.false c.in_default-1.rest.1)

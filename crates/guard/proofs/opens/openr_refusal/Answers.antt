@@ -1,0 +1,28 @@
+-- `openr_refusal` answers the first condition that is met: 5, 7, 10, 11, 13 or 16. Assumes nothing.
+use Rattle.bitset.specs.Tests.{either}
+use Rattle.guard.proofs.RefusalSearch.{refusing}
+use Rattle.guard.proofs.opens.openr_refusal.Goals as goal
+
+pub returns-then-not-v : goal.returns-then-not-v
+returns-then-not-v c = search refusing depth 14 fits 4000
+
+pub returns-then-not-v-2 : goal.returns-then-not-v-2
+returns-then-not-v-2 c = search refusing depth 14 fits 4000
+
+pub returns-then-too_low : goal.returns-then-too_low
+returns-then-too_low c = search refusing depth 14 fits 4000
+
+pub returns-then-not-dominates : goal.returns-then-not-dominates
+returns-then-not-dominates c = search refusing depth 14 fits 4000
+
+pub returns-then-has64-v : goal.returns-then-has64-v
+unfolding either
+returns-then-has64-v c = rw (← c.has64.ensures) (search refusing depth 14 fits 4000)
+
+pub returns-then-has64 : goal.returns-then-has64
+unfolding either
+returns-then-has64 c = rw (← c.has64.ensures, ← c.has64-2.ensures) (search refusing depth 14 fits 4000)
+
+pub returns : goal.returns
+unfolding either
+returns c = rw (← c.has64.ensures, ← c.has64-2.ensures) (search refusing depth 14 fits 4000)

@@ -1,0 +1,15 @@
+-- `drop_refusal` answers the first condition that is met: 5, 7 or 16. Assumes nothing.
+use Rattle.guard.proofs.RefusalSearch.{refusing}
+use Rattle.guard.proofs.sessions.drop_refusal.Goals as goal
+
+pub returns-then-not-v : goal.returns-then-not-v
+returns-then-not-v c = search refusing depth 14 fits 4000
+
+pub returns-then-not-v-2 : goal.returns-then-not-v-2
+returns-then-not-v-2 c = search refusing depth 14 fits 4000
+
+pub returns-then-not-has16 : goal.returns-then-not-has16
+returns-then-not-has16 c = search refusing depth 14 fits 4000
+
+pub returns : goal.returns
+returns c = search refusing depth 14 fits 4000

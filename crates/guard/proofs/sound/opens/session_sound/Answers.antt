@@ -1,0 +1,9 @@
+-- `guard::sound::opens::session_sound` is the test of one session and of what backs its opens. Assumes nothing.
+use Rattle.guard.proofs.Soundness.Tests.{two_miss, two_last}
+use Rattle.guard.proofs.sound.opens.session_sound.Goals as goal
+
+pub returns-then-not-session_ok : goal.returns-then-not-session_ok
+returns-then-not-session_ok c grants G = two_miss _ _ _ c.session_ok.ensures c.if-not-session_ok.true
+
+pub returns : goal.returns
+returns c grants G = two_last _ _ _ _ c.session_ok.ensures c.if-not-session_ok.false (c.is_backed.ensures grants G)
