@@ -54,8 +54,8 @@ fn listed(set: u16, r: u8, live: bool) -> u16
 
 // The roles, where `live` are the live entities.
 pub fn roles_ok(roles: [Role; ROLES], live: u64) -> Roles
-    ensures ok_value { result.ok ≡ all role_count (λ k. role_test (grantable_in live k) k (get_or roles k no_role)) }
-    ensures k_value { result.ok ≡ true → (k : ℕ) → k < role_count → has result.live k ≡ (get_or roles k no_role).live }
+    ensures ok { result.ok ≡ all role_count (λ k. role_test (grantable_in live k) k (get_or roles k no_role)) }
+    ensures live { result.ok ≡ true → (k : ℕ) → k < role_count → has result.live k ≡ (get_or roles k no_role).live }
 {
     let mut found: u16 = 0;
     let mut r: u8 = 0;

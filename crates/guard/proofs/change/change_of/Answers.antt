@@ -11,12 +11,12 @@ returns-in-16 c = rw c.in-16.is
 
 pub returns-in-0-to-6 : goal.returns-in-0-to-6
 unfolding change_of
-returns-in-0-to-6 c = rw (le-leb c.args.call 6 (omega (arith, c.if-call-lt7.true)))
+returns-in-0-to-6 c = rw (le-leb c.args.call 6 (omega arith))
 
 pub returns-in-7-to-9 : goal.returns-in-7-to-9
 unfolding change_of either
-returns-in-7-to-9 c = rw (lt-leb _ 6 c.if-call-lt7.false, le-leb c.args.call 9 (omega (arith, c.if-call-lt10.true)))
+returns-in-7-to-9 c = rw (lt-leb c.args.call 6 (omega arith), le-leb c.args.call 9 (omega arith))
 
 pub returns-in_default : goal.returns-in_default
 unfolding change_of either
-returns-in_default c = rw (lt-leb _ 6 c.if-call-lt7.false, lt-leb _ 9 c.if-call-lt10.false, ne_eqb _ 16 c.in_default-1.rest.1)
+returns-in_default c = rw (lt-leb c.args.call 6 (omega arith), lt-leb c.args.call 9 (omega arith), ne_eqb c.args.call 16 (omega arith))

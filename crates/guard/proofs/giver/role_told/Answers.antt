@@ -1,4 +1,5 @@
 -- `role_told`: for openr and openw the lowest role that gives the right; all else tells none. Assumes nothing.
+use native.Mathlib.Omega.{arith}
 use mathlib.Core.Path.{◌∙◌}
 use borrow.Author.Tests.{ne_eqb}
 use Rattle.guard.specs.Told.{role_byte}
@@ -16,4 +17,4 @@ returns-in-5 c = c.lowest-in-5.ensures ∙ rw c.in-5.is
 
 pub returns-in_default : goal.returns-in_default
 unfolding opened_by role_byte
-returns-in_default c = let ((_, r), w) = c.in_default.rest in rw (ne_eqb _ kind.openr r, ne_eqb _ kind.openw w)
+returns-in_default c = rw (ne_eqb c.args.call kind.openr (omega arith), ne_eqb c.args.call kind.openw (omega arith))

@@ -19,6 +19,5 @@ returns-in-2 c = rw c.in-2.is
 pub returns-in_default : goal.returns-in_default
 unfolding side_of
 returns-in_default c =
-    let rest = c.in_default.rest in
-    let last : c.args.k ≡ 3 = omega (arith, rest.0.0.1, rest.0.1, rest.1, c.requires) in
+    let last : c.args.k ≡ 3 = omega arith in
     rw last

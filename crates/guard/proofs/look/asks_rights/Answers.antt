@@ -14,23 +14,23 @@ returns-in-16 c = rw c.in-16.is
 
 pub returns-in-4 : goal.returns-in-4
 unfolding asks_rights asks_way asks_name either
-returns-in-4 c = span (λ (n : ℕ). true ≡ asks_rights n) 4 2 (refl, (refl, tt)) _ (omega arith) c.if-call-lt6.true
+returns-in-4 c = span (λ (n : ℕ). true ≡ asks_rights n) 4 2 (refl, (refl, tt)) c.args.call (omega arith) (omega arith)
 
 pub returns-in-7 : goal.returns-in-7
 unfolding asks_rights asks_way asks_name either
-returns-in-7 c = span (λ (n : ℕ). true ≡ asks_rights n) 7 3 (refl, (refl, (refl, tt))) _ c.if-call-lt7.false c.if-call-lt10.true
+returns-in-7 c = span (λ (n : ℕ). true ≡ asks_rights n) 7 3 (refl, (refl, (refl, tt))) c.args.call (omega arith) (omega arith)
 
 pub returns-in-10 : goal.returns-in-10
 unfolding asks_rights asks_way asks_name either
-returns-in-10 c = span (λ (n : ℕ). true ≡ asks_rights n) 10 2 (refl, (refl, tt)) _ c.if-call-lt10.false c.if-call-lt12.true
+returns-in-10 c = span (λ (n : ℕ). true ≡ asks_rights n) 10 2 (refl, (refl, tt)) c.args.call (omega arith) (omega arith)
 
 pub returns-in_default : goal.returns-in_default
 unfolding asks_rights asks_way asks_name either
-returns-in_default c = span (λ (n : ℕ). false ≡ asks_rights n) 0 4 (refl, (refl, (refl, (refl, tt)))) _ (omega arith) c.if-call-lt4.true
+returns-in_default c = span (λ (n : ℕ). false ≡ asks_rights n) 0 4 (refl, (refl, (refl, (refl, tt)))) c.args.call (omega arith) (omega arith)
 
 pub returns-in_default-2 : goal.returns-in_default-2
 unfolding asks_rights asks_way asks_name either
-returns-in_default-2 c = span (λ (n : ℕ). false ≡ asks_rights n) 6 1 (refl, tt) _ c.if-call-lt6.false c.if-call-lt7.true
+returns-in_default-2 c = span (λ (n : ℕ). false ≡ asks_rights n) 6 1 (refl, tt) c.args.call (omega arith) (omega arith)
 
 pub returns-in_default-3 : goal.returns-in_default-3
-returns-in_default-3 c = rw (asks_past _ c.if-call-lt12.false c.in_default-1.rest.1)
+returns-in_default-3 c = rw (asks_past c.args.call (omega arith) (omega arith))

@@ -32,25 +32,22 @@ pub returns-in-16 : goal.returns-in-16
 returns-in-16 c = fits_share _ c.in-16.is
 
 pub returns-in-2 : goal.returns-in-2
-returns-in-2 c = fits_take _ (omega (arith, c.in_default-1.rest.0.0.0.0.0.1, c.in_default-1.rest.0.0.0.0.1)) c.if-call-lt4.true
+returns-in-2 c = fits_take _ (omega arith) (omega arith)
 
 pub returns-in-4 : goal.returns-in-4
-returns-in-4 c = fits_open _ c.if-call-lt4.false c.if-call-lt7.true
+returns-in-4 c = fits_open _ (omega arith) (omega arith)
 
 pub returns-in-10 : goal.returns-in-10
-returns-in-10 c =
-    let rest = c.in_default-1.rest in
-    fits_grant _ (past_nine _ c.if-call-lt7.false rest.0.0.0.1 rest.0.0.1 rest.0.1) c.if-call-lt12.true
+returns-in-10 c = fits_grant _ (omega arith) (omega arith)
 
 pub returns-in-12 : goal.returns-in-12
-returns-in-12 c = fits_list _ c.if-call-lt12.false c.if-call-lt14.true
+returns-in-12 c = fits_list _ (omega arith) (omega arith)
 
 pub returns-in-14 : goal.returns-in-14
-returns-in-14 c = fits_make _ c.if-call-lt14.false c.if-call-lt16.true
+returns-in-14 c = fits_make _ (omega arith) (omega arith)
 
 pub returns-in-17 : goal.returns-in-17
-returns-in-17 c =
-    fits_tie _ (omega (arith, c.if-call-lt16.false, c.in_default-1.rest.1)) c.if-call-lt19.true
+returns-in-17 c = fits_tie _ (omega arith) (omega arith)
 
 pub returns-in-19-to-4294967295 : goal.returns-in-19-to-4294967295
-returns-in-19-to-4294967295 c = fits_none _ c.if-call-lt19.false
+returns-in-19-to-4294967295 c = fits_none _ (omega arith)

@@ -11,9 +11,6 @@ use Rattle.guard.proofs.Soundness.Members.{lowest}
 use Rattle.guard.proofs.Descent.{walk_start, walk_step, walk_less, walk_roles, union_none, union_more, union_all}
 use Rattle.guard.proofs.scan.gather.Goals as goal
 
-low : (c : goal.In-loop-left → (count_trailing_zeros 16 c.loop-left.left < 16) × (has c.loop-left.left (count_trailing_zeros 16 c.loop-left.left) ≡ true)
-low c = lowest 16 c.loop-left.left (omega arith) c.loop-left.invariant.0.small
-
 pub loop-left-init : goal.loop-left-init
 loop-left-init c =
     let grants = c.args.grants.now in
@@ -21,7 +18,7 @@ loop-left-init c =
 
 pub loop-left-smaller : goal.loop-left-smaller
 loop-left-smaller c =
-    let (l, on) = low c in
+    let (l, on) = lowest 16 c.loop-left.left (omega arith) c.loop-left.invariant.0.small in
     let at = c.loop-left in
     rw (c.with16-roles.ensures, mod-eq_of_lt l)
     (omega (arith, walk_less c.args.grants.now _ at.roles at.left _ at.invariant.0 l on, at.invariant.0.little, with_lt 16 at.roles _ at.invariant.0.little l))
@@ -29,7 +26,7 @@ loop-left-smaller c =
 pub loop-left-preserved : goal.loop-left-preserved
 unfolding join
 loop-left-preserved c =
-    let (l, on) = low c in
+    let (l, on) = lowest 16 c.loop-left.left (omega arith) c.loop-left.invariant.0.small in
     let at = c.loop-left in
     let inv = at.invariant in
     let grants = c.args.grants.now in

@@ -1,7 +1,9 @@
 -- `after` is the acting session after a request on it, by the request's number. Assumes nothing.
+use native.Mathlib.Omega.{arith}
 use native.Mathlib.Nat.{mod-eq_of_lt}
 use lib.ListN.{get_or-eq_default}
 use Rattle.guard.specs.Edits.{take_role, open_reading, open_writing, close_both}
+use Rattle.guard.specs.Requests.{logged_in}
 use Rattle.guard.specs.Private.Inside.{session_after}
 use Rattle.guard.proofs.Ranges.{past_five, in_login, in_take, in_openr, in_openw}
 use Rattle.guard.proofs.sessions.after.Goals as goal
@@ -10,8 +12,8 @@ pub entered-requires : goal.entered-requires
 entered-requires c = let r = in_login _ c.requires c.in-0.is in (r.1, r.2, r.3)
 
 pub returns-in-0 : goal.returns-in-0
-unfolding session_after
-returns-in-0 c = rw (c.in-0.is, c.entered.ensures)
+unfolding session_after logged_in
+returns-in-0 c = rw c.in-0.is c.entered.ensures
 
 pub returns-in-1 : goal.returns-in-1
 unfolding session_after
@@ -23,7 +25,7 @@ returns-in-3 c = rw (c.in-3.is, ← c.dropped.ensures) c.backed.ensures
 
 pub returns-in_default : goal.returns-in_default
 unfolding session_after
-returns-in_default c = rw (get_or-eq_default _ (close_both _ _) (past_five _ c.in_default.rest.0.0.0.0.0.1 c.in_default.rest.0.0.0.0.1 c.in_default.rest.0.0.0.1 c.in_default.rest.0.0.1 c.in_default.rest.0.1 c.in_default.rest.1), c.closed.ensures)
+returns-in_default c = rw (get_or-eq_default _ (close_both _ _) (past_five c.args.q.call (omega arith) (omega arith) (omega arith) (omega arith) (omega arith) (omega arith)), c.closed.ensures)
 
 pub returns-in-2 : goal.returns-in-2
 unfolding session_after take_role

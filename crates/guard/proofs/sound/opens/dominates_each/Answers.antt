@@ -11,19 +11,16 @@ use Rattle.bitset.specs.Sets.Laws.{without_le}
 use Rattle.guard.proofs.Soundness.Members.{lowest, without_less, members_next, members_miss, members_none, left_none, left_some}
 use Rattle.guard.proofs.sound.opens.dominates_each.Goals as goal
 
-low : (c : goal.In-loop-m → (count_trailing_zeros 64 c.loop-m.m < 64) × (has c.loop-m.m (count_trailing_zeros 64 c.loop-m.m) ≡ true)
-low c = lowest 64 c.loop-m.m (omega arith) c.loop-m.invariant.0
-
 pub returns-then-top-l : goal.returns-then-top-l
 returns-then-top-l c =
-    sym (c.loop-m.invariant.1 ∙ members_miss _ _ _ (low c).0 (low c).1 (is_false _ (λ h. clash _ (every_at _ h 0) (lt-leb _ _ c.if-top-l.true))))
+    sym (c.loop-m.invariant.1 ∙ members_miss _ _ _ (lowest 64 c.loop-m.m (omega arith) c.loop-m.invariant.0).0 (lowest 64 c.loop-m.m (omega arith) c.loop-m.invariant.0).1 (is_false _ (λ h. clash _ (every_at _ h 0) (lt-leb _ _ c.if-top-l.true))))
 
 pub returns-then-minus16-ne0 : goal.returns-then-minus16-ne0
 returns-then-minus16-ne0 c =
-    sym (c.loop-m.invariant.1 ∙ members_miss _ _ _ (low c).0 (low c).1 (is_false _ (λ h. clash _ (every_at _ h 1) (left_some _ _ _ c.minus16.ensures c.if-minus16-ne0.true))))
+    sym (c.loop-m.invariant.1 ∙ members_miss _ _ _ (lowest 64 c.loop-m.m (omega arith) c.loop-m.invariant.0).0 (lowest 64 c.loop-m.m (omega arith) c.loop-m.invariant.0).1 (is_false _ (λ h. clash _ (every_at _ h 1) (left_some _ _ _ c.minus16.ensures c.if-minus16-ne0.true))))
 
 pub loop-m-smaller : goal.loop-m-smaller
-loop-m-smaller c = rw c.without64-m.ensures (without_less _ _ (low c).1)
+loop-m-smaller c = rw c.without64-m.ensures (without_less _ _ (lowest 64 c.loop-m.m (omega arith) c.loop-m.invariant.0).1)
 
 pub loop-m-preserved : goal.loop-m-preserved
 loop-m-preserved c =

@@ -10,15 +10,12 @@ use Rattle.bitset.specs.Sets.Laws.{without_le}
 use Rattle.guard.proofs.Soundness.Members.{lowest, without_less, members_next, members_miss, members_none}
 use Rattle.guard.proofs.sound.opens.equals_each.Goals as goal
 
-low : (c : goal.In-loop-m → (count_trailing_zeros 64 c.loop-m.m < 64) × (has c.loop-m.m (count_trailing_zeros 64 c.loop-m.m) ≡ true)
-low c = lowest 64 c.loop-m.m (omega arith) c.loop-m.invariant.0
-
 pub returns-then-labels-e : goal.returns-then-labels-e
 returns-then-labels-e c =
-    sym (c.loop-m.invariant.1 ∙ members_miss _ _ _ (low c).0 (low c).1 (ne_eqb _ _ c.if-labels-e.true))
+    sym (c.loop-m.invariant.1 ∙ members_miss _ _ _ (lowest 64 c.loop-m.m (omega arith) c.loop-m.invariant.0).0 (lowest 64 c.loop-m.m (omega arith) c.loop-m.invariant.0).1 (ne_eqb _ _ c.if-labels-e.true))
 
 pub loop-m-smaller : goal.loop-m-smaller
-loop-m-smaller c = rw c.without64-m.ensures (without_less _ _ (low c).1)
+loop-m-smaller c = rw c.without64-m.ensures (without_less _ _ (lowest 64 c.loop-m.m (omega arith) c.loop-m.invariant.0).1)
 
 pub loop-m-preserved : goal.loop-m-preserved
 loop-m-preserved c =

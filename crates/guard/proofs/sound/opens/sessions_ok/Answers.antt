@@ -1,7 +1,7 @@
 -- `sessions_ok` tests each session in turn. Assumes nothing.
 use Prim.Native.Nat.{◌-◌}
 use native.Mathlib.Omega.{arith}
-use Rattle.bitset.specs.Tests.Laws.{all_none}
+use Rattle.bitset.specs.Tests.Laws.{not_of_true, not_of_false, all_none}
 use Rattle.guard.proofs.Soundness.Loops.{all_miss, all_next}
 use Rattle.guard.proofs.sound.opens.sessions_ok.Goals as goal
 
@@ -11,9 +11,9 @@ loop-s-init c = (omega arith, c.gather-rights.ensures, all_none _)
 pub returns-then-not-session_sound : goal.returns-then-not-session_sound
 returns-then-not-session_sound c =
     all_miss _ c.loop-s.s _ _ (omega arith)
-    (c.session_sound.ensures _ c.regather-rights.ensures) c.if-not-session_sound.true
+    (c.session_sound.ensures _ c.regather-rights.ensures) (not_of_false _ c.if-not-session_sound.true)
 
 pub loop-s-preserved : goal.loop-s-preserved
 loop-s-preserved c =
     let rights = c.regather-rights.ensures in
-    (omega arith, rights, all_next _ _ _ c.loop-s.invariant.2 (c.session_sound.ensures _ rights) c.if-not-session_sound.false)
+    (omega arith, rights, all_next _ _ _ c.loop-s.invariant.2 (c.session_sound.ensures _ rights) (not_of_true _ c.if-not-session_sound.false))

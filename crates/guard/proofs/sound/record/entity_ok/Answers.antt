@@ -17,4 +17,4 @@ returns-then-e-eq0 c =
 pub returns : goal.returns
 returns c =
     let a = c.args in
-    entity_other a.e a.n a.p _ _ (of_not_false a.n.live c.if-not-n.false) (ne_eqb _ _ c.if-e-eq0.false) c.entity_fits_lem.ensures c.fits_in.ensures
+    entity_other a.e a.n a.p _ _ (of_not_false a.n.live c.if-not-n.false) (ne_eqb _ _ c.if-e-eq0.false) c.entity_fits.ensures c.fits_in.ensures

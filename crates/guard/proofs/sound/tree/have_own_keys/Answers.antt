@@ -1,7 +1,7 @@
 -- `guard::sound::tree::have_own_keys` tests each entity in turn. Assumes nothing.
 use Prim.Native.Nat.{◌-◌}
 use native.Mathlib.Omega.{arith}
-use Rattle.bitset.specs.Tests.Laws.{all_none}
+use Rattle.bitset.specs.Tests.Laws.{not_of_true, not_of_false, all_none}
 use Rattle.guard.proofs.Soundness.Loops.{all_miss, all_next}
 use Rattle.guard.proofs.sound.tree.have_own_keys.Goals as goal
 
@@ -9,7 +9,7 @@ pub loop-e-init : goal.loop-e-init
 loop-e-init c = (omega arith, all_none _)
 
 pub returns-then-not-has_own_key : goal.returns-then-not-has_own_key
-returns-then-not-has_own_key c = all_miss _ c.loop-e.e _ _ (omega arith) c.has_own_key.ensures c.if-not-has_own_key.true
+returns-then-not-has_own_key c = all_miss _ c.loop-e.e _ _ (omega arith) c.has_own_key.ensures (not_of_false _ c.if-not-has_own_key.true)
 
 pub loop-e-preserved : goal.loop-e-preserved
-loop-e-preserved c = (omega arith, all_next _ _ _ c.loop-e.invariant.1 c.has_own_key.ensures c.if-not-has_own_key.false)
+loop-e-preserved c = (omega arith, all_next _ _ _ c.loop-e.invariant.1 c.has_own_key.ensures (not_of_true _ c.if-not-has_own_key.false))

@@ -7,7 +7,7 @@ use Rattle.guard.specs.Private.Tested.{live_by_key}
 use Rattle.guard.proofs.Soundness.DeadSet.{pushed_more, pushed_all}
 use Rattle.guard.proofs.sound.tree.live_set.Goals as goal
 
-key : (c : goal.After-dead-1 → get_or c.args.keys.now (c.loop-e.e - 1) 0 ≤ 16777216
+key : (c : goal.After-dead-1) → get_or c.args.keys.now (c.loop-e.e - 1) 0 ≤ 16777216
 key c = c.requires _ (omega arith)
 
 pub loop-e-preserved : goal.loop-e-preserved
