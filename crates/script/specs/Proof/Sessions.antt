@@ -17,7 +17,7 @@ record Reached (header : List (List ℕ)) (r : Runner) (s w : List ℕ) (r2 : Ru
   pub fits : Fits known r2
   pub same : rest header r s ≡ told_first w (rest known r2 s2)
 
-session_law : {r r2 : Runner} {s s2 w : List ℕ} → Session r s w r2 s2 → (header : List (List ℕ)) → Fits header r → Reached header r s w r2 s2
+session_law : {r : Runner} {s : List ℕ} {r2 : Runner} {s2 w : List ℕ} → Session r s w r2 s2 → (header : List (List ℕ)) → Fits header r → Reached header r s w r2 s2
 session_law begin header f = record { known = header; fits = f; same = refl }
 session_law (call {w} {piece} {more} {old} {new} {r2} {end} {x} p e k) header f =
     let a = session_law p header f in

@@ -1,0 +1,17 @@
+-- `script::text::key` gathers the bytes of a short text into one number. Assumes nothing.
+use Prim.Native.Nat.{◌-◌}
+use native.Mathlib.Omega.{arith}
+use Rattle.script.proofs.ByKey.{packed_small, packed_more, packed_end, key_long}
+use Rattle.script.proofs.text.key.Goals as goal
+
+pub returns-then-s-gt7 : goal.returns-then-s-gt7
+returns-then-s-gt7 c = key_long _ (omega arith)
+
+pub overflow_mul-k : goal.overflow_mul-k
+overflow_mul-k c = omega (arith, packed_small c.loop-i.invariant (omega arith) (omega arith))
+
+pub loop-i-preserved : goal.loop-i-preserved
+loop-i-preserved c = packed_more c.loop-i.invariant (omega arith) (omega (arith, c.shared_slice_known-1.given c.loop-i.i))
+
+pub returns : goal.returns
+returns c = packed_end c.loop-i.invariant (omega arith) (omega arith)
