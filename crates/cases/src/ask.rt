@@ -2,6 +2,7 @@
 use crate::{record, show, text};
 use guard::sizes::NO_ROLE;
 use guard::{Outcome, Request, Tables, Told};
+use std::io;
 
 // The largest number that a field can hold: what the fields hold that a request does not use, and that are not looked at.
 const MOST: u32 = 4294967295;
@@ -156,7 +157,7 @@ fn role_number(role: Told) -> u64 {
 }
 
 // What `step` hands back. Where the method of the same name hands back anything else, a line says so.
-pub fn made(t: Tables, q: Request) -> Outcome {
+pub fn made(rt: &impl Print, t: Tables, q: Request) -> io::Result<Outcome> {
     let o = t.step(q);
     let m = by_method(t, q);
     let role = o.role;
@@ -165,17 +166,18 @@ pub fn made(t: Tables, q: Request) -> Outcome {
     let other = role_number(role);
     if ((o.answer != m.answer) | (told != other)) | !record::same_tables(o.tables, m.tables) {
         show::form(
+            rt,
             show::BY_METHOD,
             [m.answer as u64, other, o.answer as u64, told, 0, 0, 0, 0],
-        );
-        show::changes(o.tables, m.tables);
-        show::say(show::END);
+        )?;
+        show::changes(rt, o.tables, m.tables)?;
+        show::say(rt, show::END)?;
     }
-    o
+    Ok(o)
 }
 
 // The answer with one field at another number.
-pub fn answer(t: Tables, q: Request, field: u64, n: u32) -> u64 {
-    let o = made(t, with(q, field, n));
-    o.answer as u64
+pub fn answer(rt: &impl Print, t: Tables, q: Request, field: u64, n: u32) -> io::Result<u64> {
+    let o = made(rt, t, with(q, field, n))?;
+    Ok(o.answer as u64)
 }

@@ -4,6 +4,7 @@ ghost use Rattle.std.specs.Prelude.{◌≤◌};
 use crate::{ask, show};
 use guard::sizes::NO_ROLE;
 use guard::{Request, Tables};
+use std::io;
 
 // Rows, and how many numbers they have. There is room for 256 rows.
 #[derive(Clone, Copy)]
@@ -53,30 +54,39 @@ fn ran(t: Tables, rows: [u32; 3328], n: usize, room: usize, told: usize) -> Done
 }
 
 // The first bytes, behind a text. One of them stands for none, as a dash.
-fn bytes(text: usize, list: [u8; 256], room: usize, none: u64)
+fn bytes(rt: &impl Print, text: usize, list: [u8; 256], room: usize, none: u64) -> io::Result<()>
     requires { room ≤ 256 }
 {
-    show::say(text);
+    show::say(rt, text)?;
     let mut i = 0usize;
     while i < room {
-        show::number(list[i] as u64, none);
+        show::number(rt, list[i] as u64, none)?;
         i += 1;
     }
+    Ok(())
 }
 
 // What the batch changes, its answers and its roles, of which there are at most 256 each; hands on the tables.
-pub fn told(name: &[u8], t: Tables, b: Batch, n: u64, room: u64, told: u64) -> Tables {
+pub fn told(
+    rt: &impl Print,
+    name: &[u8],
+    t: Tables,
+    b: Batch,
+    n: u64,
+    room: u64,
+    told: u64,
+) -> io::Result<Tables> {
     let rows = b.rows;
     let room = (room % 257) as usize;
     let told = (told % 257) as usize;
     let r = ran(t, rows, (n % 3329) as usize, room, told);
-    show::word(name);
-    show::say(show::COLON);
-    show::changes(t, r.tables);
+    show::word(rt, name)?;
+    show::say(rt, show::COLON)?;
+    show::changes(rt, t, r.tables)?;
     let answers = r.answers;
-    bytes(show::ANSWERS, answers, room, 256);
+    bytes(rt, show::ANSWERS, answers, room, 256)?;
     let roles = r.roles;
-    bytes(show::ROLES, roles, told, NO_ROLE as u64);
-    show::say(show::END);
-    r.tables
+    bytes(rt, show::ROLES, roles, told, NO_ROLE as u64)?;
+    show::say(rt, show::END)?;
+    Ok(r.tables)
 }

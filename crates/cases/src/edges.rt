@@ -1,6 +1,7 @@
 // The ends of the ranges: a request with one field past its range, or at the last number; and on unsound tables.
 use crate::{ask, record, show};
 use guard::{Request, Tables};
+use std::io;
 
 // The first number past a field's range.
 fn past(field: u64) -> u32 {
@@ -15,26 +16,29 @@ fn past(field: u64) -> u32 {
 
 // The answers with one field past its range, or at the last number: seat, user, role, entity, parent, kind, name, grade,
 // cats, rights, shared, junior.
-fn each(t: Tables, q: Request, most: bool) {
+fn each(rt: &impl Print, t: Tables, q: Request, most: bool) -> io::Result<()> {
     let mut field = 1u64;
     while field <= 12 {
         let n = if most { 4294967295 } else { past(field) };
-        show::form(show::ONE, show::one(ask::answer(t, q, field, n)));
+        let told = ask::answer(rt, t, q, field, n)?;
+        show::form(rt, show::ONE, show::one(told))?;
         field += 1;
     }
+    Ok(())
 }
 
 // The answer; those with one field past its range, and at the last number; and that on tables with one number out of range,
 // of a user that no seat has.
-pub fn edge(name: &[u8], t: Tables, q: Request) -> Tables {
-    let o = ask::made(t, q);
+pub fn edge(rt: &impl Print, name: &[u8], t: Tables, q: Request) -> io::Result<Tables> {
+    let o = ask::made(rt, t, q)?;
     let role = o.role;
-    show::answer(name, o.answer, role);
-    show::say(show::PAST);
-    each(t, q, false);
-    show::say(show::MOST);
-    each(t, q, true);
+    show::answer(rt, name, o.answer, role)?;
+    show::say(rt, show::PAST)?;
+    each(rt, t, q, false)?;
+    show::say(rt, show::MOST)?;
+    each(rt, t, q, true)?;
     let unsound = record::with(t, 1, 3, 0, 4);
-    show::form(show::UNSOUND, show::one(ask::answer(unsound, q, 0, q.call)));
-    o.tables
+    let told = ask::answer(rt, unsound, q, 0, q.call)?;
+    show::form(rt, show::UNSOUND, show::one(told))?;
+    Ok(o.tables)
 }

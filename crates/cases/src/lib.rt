@@ -3,6 +3,7 @@
 // `guard_cases` reads statements from files. It is a crate of its own so that a new case, which is data of the program, leaves
 // it proved.
 #![tactic(auto)]
+
 pub mod ask;
 pub mod batch;
 pub mod edges;

@@ -1,6 +1,7 @@
 // What is printed.
 use crate::record;
 use guard::{Tables, Told};
+use std::io;
 
 // Texts by number, in the list of `form`.
 const ANSWER: usize = 0;
@@ -42,43 +43,40 @@ pub const ROLES: usize = 29;
 
 const DASH: usize = 30;
 
-pub fn word(text: &[u8]) {
-    io::write_all(libc::STDOUT_FILENO, text);
+pub fn word(rt: &impl Print, text: &[u8]) -> io::Result<()> {
+    rt.write_all(text)
 }
 
-fn byte(b: u8) {
+fn byte(rt: &impl Print, b: u8) -> io::Result<()> {
     let a = [b; 1];
-    word(&a);
+    word(rt, &a)
 }
 
 // A set of numbers, as `{ 0 12 }`.
-fn set(members: u64) {
-    byte(b'{');
-    byte(b' ');
+fn set(rt: &impl Print, members: u64) -> io::Result<()> {
+    byte(rt, b'{')?;
+    byte(rt, b' ')?;
     let mut i = 0u32;
     while i < 64 {
         if (members >> i) & 1 == 1 {
-            io::print_decimal(libc::STDOUT_FILENO, i as u64);
-            byte(b' ');
+            print!(rt; "{i} ")?;
         }
         i += 1;
     }
-    byte(b'}');
+    byte(rt, b'}')
 }
 
 // A byte of a text: `@` stands for a number, `#` for a set and `*` for a live mark.
-fn item(b: u8, n: u64) {
+fn item(rt: &impl Print, b: u8, n: u64) -> io::Result<()> {
     match b {
-        b'@' => {
-            io::print_decimal(libc::STDOUT_FILENO, n);
-        }
-        b'#' => set(n),
+        b'@' => print!(rt; "{n}"),
+        b'#' => set(rt, n),
         b'*' => if n == 0 {
-            word(b" dead")
+            word(rt, b" dead")
         } else {
-            word(b" live")
+            word(rt, b" live")
         },
-        _ => byte(b),
+        _ => byte(rt, b),
     }
 }
 
@@ -90,31 +88,31 @@ struct Place {
 }
 
 // A byte of the list: printed where no text is to be passed any more.
-fn passed(p: Place, b: u8, row: [u64; 8]) -> Place {
+fn passed(rt: &impl Print, p: Place, b: u8, row: [u64; 8]) -> io::Result<Place> {
     if b == b'|' {
         let left = p.left;
         if left == 0 {
-            return p;
+            return Ok(p);
         }
-        return Place {
+        return Ok(Place {
             left: left - 1,
             at: 0,
-        };
+        });
     }
     if p.left == 0 {
         let at = p.at % 8;
-        item(b, row[at]);
+        item(rt, b, row[at])?;
         let used = (b == b'@') | ((b == b'#') | (b == b'*'));
-        return Place {
+        return Ok(Place {
             left: 0,
             at: (at + used as usize % 2) % 8,
-        };
+        });
     }
-    p
+    Ok(p)
 }
 
 // Text `k` with the row's numbers in it, in order.
-pub fn form(k: usize, row: [u64; 8]) {
+pub fn form(rt: &impl Print, k: usize, row: [u64; 8]) -> io::Result<()> {
     let list: &[u8] = b": @| kept| changed| seats #| users #| roles #| entities #| edition|\
         \x20 seat @|  user @|  role @|  entity @|  tables|\
         *, user @, label @/@, roles #, reading #, writing #\n|\
@@ -128,11 +126,12 @@ pub fn form(k: usize, row: [u64; 8]) {
     while i < list.len() {
         let b = list[i];
         if (b == b'|') & (p.left == 0) {
-            return;
+            return Ok(());
         }
-        p = passed(p, b, row);
+        p = passed(rt, p, b, row)?;
         i += 1;
     }
+    Ok(())
 }
 
 pub fn one(n: u64) -> [u64; 8] {
@@ -140,52 +139,53 @@ pub fn one(n: u64) -> [u64; 8] {
 }
 
 // A text with no number in it.
-pub fn say(k: usize) {
-    form(k, [0; 8]);
+pub fn say(rt: &impl Print, k: usize) -> io::Result<()> {
+    form(rt, k, [0; 8])
 }
 
 // One number of a list, or a dash where it stands for none.
-pub fn number(n: u64, none: u64) {
+pub fn number(rt: &impl Print, n: u64, none: u64) -> io::Result<()> {
     if n == none {
-        say(DASH);
+        say(rt, DASH)
     } else {
-        form(ONE, one(n));
+        form(rt, ONE, one(n))
     }
 }
 
-pub fn record(t: Tables, kind: usize, i: usize) {
-    form(NUMBERS + kind % 5, one(i as u64));
-    form(RECORDS + kind % 5, record::row(t, kind, i));
+pub fn record(rt: &impl Print, t: Tables, kind: usize, i: usize) -> io::Result<()> {
+    form(rt, NUMBERS + kind % 5, one(i as u64))?;
+    form(rt, RECORDS + kind % 5, record::row(t, kind, i))
 }
 
 // The records that differ.
-pub fn records(a: Tables, b: Tables) {
+pub fn records(rt: &impl Print, a: Tables, b: Tables) -> io::Result<()> {
     let mut kind = 0usize;
     while kind < 5 {
         let set = record::changed(a, b, kind);
         if set != 0 {
-            form(SETS + kind, one(set));
+            form(rt, SETS + kind, one(set))?;
         }
         kind += 1;
     }
+    Ok(())
 }
 
 // Whether tables came back as they went in, and if not, the records that differ.
-pub fn changes(a: Tables, b: Tables) {
+pub fn changes(rt: &impl Print, a: Tables, b: Tables) -> io::Result<()> {
     if record::same_tables(a, b) {
-        say(KEPT);
+        say(rt, KEPT)
     } else {
-        say(CHANGED);
-        records(a, b);
+        say(rt, CHANGED)?;
+        records(rt, a, b)
     }
 }
 
 // A case's name, an answer, and the role where one is told.
-pub fn answer(name: &[u8], n: u8, role: Told) {
-    word(name);
-    form(ANSWER, one(n as u64));
+pub fn answer(rt: &impl Print, name: &[u8], n: u8, role: Told) -> io::Result<()> {
+    word(rt, name)?;
+    form(rt, ANSWER, one(n as u64))?;
     match role {
-        Told::By(r) => form(BY_ROLE, one(r as u64)),
-        Told::None => {}
+        Told::By(r) => form(rt, BY_ROLE, one(r as u64)),
+        Told::None => Ok(()),
     }
 }

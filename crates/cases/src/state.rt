@@ -2,6 +2,7 @@
 use crate::batch::Batch;
 use crate::{record, show, text};
 use guard::{Label, Tables, User};
+use std::io;
 
 // The tables, and those kept to go back to; the batch; and whether the last statement could be read.
 #[derive(Clone, Copy)]
@@ -143,12 +144,12 @@ impl State {
     }
 
     // `show KIND NUMBER`
-    pub fn show(self, s: &[u8], from: usize) -> State {
+    pub fn show(self, rt: &impl Print, s: &[u8], from: usize) -> io::Result<State> {
         let p = record_at(s, from);
         if !p.good {
-            return self.unread();
+            return Ok(self.unread());
         }
-        show::record(self.now, p.kind, p.i);
-        self
+        show::record(rt, self.now, p.kind, p.i)?;
+        Ok(self)
     }
 }

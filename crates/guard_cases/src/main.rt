@@ -32,108 +32,158 @@
 // It is made by the method of its name and by `step`, and a line tells where the two differ. Behind an answer stands `by role N`
 // where a role is told.
 #![tactic(auto)]
-ghost use Rattle.io.specs.Counts.{IsPrefixLen};
 
-use bytes::scan;
+ghost use Rattle.std.specs.Prelude.{◌≤◌, length};
+
 use cases::state::State;
 use cases::{show, text};
+use std::fs::File;
+use std::io;
+use std::io::Read;
+use std::rt::Files;
 
 // Verbs are numbered by their places in the list of `text::place`: `clear`, `keep`, `back`; `fresh`; `old`; `set`; `with`.
-fn edits(b: State, verb: usize, s: &[u8], at: usize, name: &[u8]) -> State {
+fn edits(
+    rt: &impl Print,
+    b: State,
+    verb: usize,
+    s: &[u8],
+    at: usize,
+    name: &[u8],
+) -> io::Result<State> {
     match verb {
-        0..=2 => b.tables(verb),
-        3 => b.fresh(name),
-        4 => b.old(name),
-        5 => b.set(s, at),
-        _ => b.with(s, at),
+        0..=2 => Ok(b.tables(verb)),
+        3 => b.fresh(rt, name),
+        4 => b.old(rt, name),
+        5 => Ok(b.set(s, at)),
+        _ => Ok(b.with(s, at)),
     }
 }
 
 // `show`; `say`; `compare`; `gather`; `run`; `do`, `ask`, `broken`, `edge`; and what is no verb is a request.
-fn verb(b: State, verb: usize, s: &[u8], at: usize, name: &[u8]) -> State {
+fn verb(
+    rt: &impl Print,
+    b: State,
+    verb: usize,
+    s: &[u8],
+    at: usize,
+    name: &[u8],
+) -> io::Result<State> {
     match verb {
-        0..=6 => edits(b, verb, s, at, name),
-        7 => b.show(s, at),
+        0..=6 => edits(rt, b, verb, s, at, name),
+        7 => b.show(rt, s, at),
         8 => {
-            show::word(name);
-            show::say(show::END);
-            b
+            show::word(rt, name)?;
+            show::say(rt, show::END)?;
+            Ok(b)
         }
-        9 => b.compare(name),
-        10 => b.gather(s, at),
-        11 => b.run(s, at, name),
-        12..=15 => b.request(verb - 12, s, at, name),
-        _ => b.request(4, s, 0, name),
+        9 => b.compare(rt, name),
+        10 => Ok(b.gather(s, at)),
+        11 => b.run(rt, s, at, name),
+        12..=15 => b.request(rt, verb - 12, s, at, name),
+        _ => b.request(rt, 4, s, 0, name),
     }
 }
 
-fn statement(b: State, s: &[u8], name: &[u8]) -> State {
+fn statement(rt: &impl Print, b: State, s: &[u8], name: &[u8]) -> io::Result<State> {
     let w = text::next(s, 0);
     let mut b = b;
     b.good = true;
     // an empty line, or the word `#`
     if (w.length == 0) | (w.key == 0x23) {
-        return b;
+        return Ok(b);
     }
-    verb(b, text::place(text::VERBS, w.key), s, w.end, name)
+    verb(rt, b, text::place(text::VERBS, w.key), s, w.end, name)
+}
+
+// Where the byte stands first from `from` on: at the end where it does not.
+fn find(s: &[u8], from: usize, byte: u8) -> usize
+    requires { from ≤ length s.now }
+    ensures lower_bound { from ≤ result }
+    ensures upper_bound { result ≤ length s.now }
+{
+    let mut at = from;
+    while at < s.len() {
+        if s[at] == byte {
+            return at;
+        }
+        at += 1;
+    }
+    at
 }
 
 // A statement, and behind `| ` its name.
-fn line(b: State, s: &[u8]) -> State {
-    let end = scan::find(s, 0, s.len(), b'|');
+fn line(rt: &impl Print, b: State, s: &[u8]) -> io::Result<State> {
+    let end = find(s, 0, b'|');
     if s.len() - end < 2 {
-        return statement(b, s, &s[..0]);
+        return statement(rt, b, s, &s[..0]);
     }
-    statement(b, &s[..end], &s[end + 2..])
+    statement(rt, b, &s[..end], &s[end + 2..])
 }
 
 // Each line of a file. One that cannot be read, or whose request without a name is not done, is told by its number.
-fn lines(b: State, file: &[u8], text: &[u8]) -> State {
+fn lines(rt: &impl Print, b: State, file: &[u8], text: &[u8]) -> io::Result<State> {
     let mut b = b;
     let mut from = 0usize;
     let mut n = 0u64;
     while from < text.len() {
         let at = from;
-        let to = scan::find(text, at, text.len(), b'\n');
+        let to = find(text, at, b'\n');
         from = to + 1;
         n += 1;
-        b = line(b, &text[at..to]);
+        b = line(rt, b, &text[at..to])?;
         if !b.good {
-            show::word(file);
-            show::form(show::UNREAD, show::one(n));
+            show::word(rt, file)?;
+            show::form(rt, show::UNREAD, show::one(n))?;
         }
     }
-    b
+    Ok(b)
 }
 
-// Puts the file of that name into `text`, and says how long it is.
-fn read(name: &[u8], text: &mut [u8]) -> usize
-    ensures { IsPrefixLen result text.new }
+// Reads until `text` is full, the file ends or a read fails, and says how many bytes came.
+fn read_full(file: &mut impl Read, text: &mut [u8]) -> usize
+    ensures { result ≤ length text.new }
 {
-    let fd = os::open_read(name);
-    let n = io::read_full(fd, text);
-    libc::close(fd);
-    n
+    let mut done = 0;
+    while done < text.len() {
+        let n = file.read(&mut text[done..]).unwrap_or(0);
+        if n == 0 {
+            return done;
+        }
+        done += n;
+    }
+    done
 }
 
-fn file(b: State, name: &[u8]) -> State {
-    let mut text = io::large_buffer();
-    let n = read(name, &mut text);
-    lines(b, name, &text[..n])
+// Puts the file of that name into `text`, and says how long it is. One that cannot be opened has no byte.
+fn read(rt: &impl Files, name: &[u8], text: &mut [u8]) -> usize
+    ensures { result ≤ length text.new }
+{
+    match File::open(rt, str::from_utf8(name).unwrap_or("")) {
+        Ok(mut file) => read_full(&mut file, text),
+        Err(_) => 0,
+    }
 }
 
-fn files(list: &[u8]) {
+fn file(rt: &(impl Print + Files), b: State, name: &[u8]) -> io::Result<State> {
+    let mut text = [0u8; 65536];
+    let n = read(rt, name, &mut text);
+    lines(rt, b, name, &text[..n])
+}
+
+fn files(rt: &(impl Print + Files), list: &[u8]) -> io::Result<()> {
     let mut b = State::new();
     let mut from = 0usize;
     while from < list.len() {
-        let to = scan::find(list, from, list.len(), b'\n');
-        b = file(b, &list[from..to]);
+        let to = find(list, from, b'\n');
+        b = file(rt, b, &list[from..to])?;
         from = to + 1;
     }
+    Ok(())
 }
 
-fn main() {
-    let mut list = io::buffer();
-    let n = read(b"list", &mut list);
-    files(&list[..n]);
+fn main(rt: HostRuntime) -> io::Result<()> {
+    let mut list = [0u8; 4096];
+    let n = read(&rt, b"list", &mut list);
+    files(&rt, &list[..n])
 }

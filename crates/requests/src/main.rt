@@ -2,10 +2,12 @@
 // decided in the crate script; here bytes are only carried, in large blocks, until the run is over, the input ends, or a read
 // or a write fails.
 #![tactic(auto)]
+
 mod stdio;
 
 use script::runner::Runner;
 use script::{buffer, runner};
+use std::io::Read;
 
 // How many bytes of input are at hand, and whether the input has ended or could not be read.
 #[derive(Clone, Copy)]
@@ -24,7 +26,7 @@ struct After {
 }
 
 // One read behind the bytes that are kept. Nothing read where there was room is the end of the input.
-fn filled(input: &mut [u8], have: usize) -> Stock {
+fn filled(rt: &impl Eprint, from: &mut impl Read, input: &mut [u8], have: usize) -> Stock {
     if input.len() <= have {
         return Stock {
             have,
@@ -32,7 +34,7 @@ fn filled(input: &mut [u8], have: usize) -> Stock {
             failed: false,
         };
     }
-    let came = stdio::read(&mut input[have..]);
+    let came = stdio::read(rt, from, &mut input[have..]);
     Stock {
         have: have + came.count,
         end: came.count == 0,
@@ -41,7 +43,14 @@ fn filled(input: &mut [u8], have: usize) -> Stock {
 }
 
 // The lines that are whole by now, and their answers written.
-fn turn(r: Runner, input: &mut [u8], have: usize, end: bool, output: &mut [u8]) -> After {
+fn turn(
+    rt: &(impl Print + Eprint),
+    r: Runner,
+    input: &mut [u8],
+    have: usize,
+    end: bool,
+    output: &mut [u8],
+) -> After {
     if input.len() < have {
         return After {
             runner: r,
@@ -59,7 +68,7 @@ fn turn(r: Runner, input: &mut [u8], have: usize, end: bool, output: &mut [u8]) 
             on: false,
         };
     }
-    let written = stdio::write(&output[..wrote]);
+    let written = stdio::write(rt, &output[..wrote]);
     let left = buffer::keep(input, ran.used, have);
     let idle = (ran.used == 0) & (wrote == 0);
     After {
@@ -70,29 +79,28 @@ fn turn(r: Runner, input: &mut [u8], have: usize, end: bool, output: &mut [u8]) 
 }
 
 // Turns, until there is nothing more to do. After a read that failed no answer is printed: what is kept may be half a line.
-// A loop that is proved has to end, so it counts down from a number that no run uses up.
-fn work(input: &mut [u8], output: &mut [u8]) {
+// A loop that is proved has to end, so it has a number of turns that no run uses up.
+fn work(rt: &(impl Input + Print + Eprint), input: &mut [u8], output: &mut [u8]) {
+    let mut from = rt.reader();
     let mut r = Runner::new();
     let mut have = 0usize;
-    let mut turns = u64::MAX;
-    while turns > 0 {
-        let stock = filled(input, have);
+    for _ in 0..u64::MAX {
+        let stock = filled(rt, &mut from, input, have);
         if stock.failed {
             return;
         }
-        let a = turn(r, input, stock.have, stock.end, output);
+        let a = turn(rt, r, input, stock.have, stock.end, output);
         if !a.on {
             return;
         }
         let next = a.runner;
         r = next;
         have = a.have;
-        turns -= 1;
     }
 }
 
-fn main() {
-    let mut input = io::large_buffer();
-    let mut output = io::large_buffer();
-    work(&mut input, &mut output);
+fn main(rt: HostRuntime) {
+    let mut input = [0u8; 65536];
+    let mut output = [0u8; 65536];
+    work(&rt, &mut input, &mut output);
 }

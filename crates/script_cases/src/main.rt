@@ -4,13 +4,16 @@
 // ways printed the same. The list begins with long inputs: in each a part of the file comes again many times, and the
 // pieces are of 64, 300 and 1,000 bytes. The file stdout holds what the papers say, and a check compares the two.
 #![tactic(auto)]
+
 mod feed;
 
 ghost use Rattle.std.specs.Prelude.{◌≤◌, ◌<◌, ◌≡◌, length};
-ghost use Rattle.io.specs.Counts.{IsPrefixLen};
 
 use feed::Part;
-use libc::STDOUT_FILENO;
+use std::fs::File;
+use std::io;
+use std::io::Read;
+use std::rt::Files;
 
 const PIECES: [usize; 9] = [1, 1, 1, 7, 7, 7, 64, 64, 64];
 
@@ -25,8 +28,8 @@ fn huge_buffer() -> [u8; 600000]
     [0; 600000]
 }
 
-fn word(text: &[u8]) {
-    io::write_all(STDOUT_FILENO, text);
+fn word(rt: &impl Print, text: &[u8]) -> io::Result<()> {
+    rt.write_all(text)
 }
 
 // Whether the input, in pieces of `piece` bytes and with so much room, prints again the `n` bytes that `want` holds.
@@ -94,61 +97,88 @@ fn digest(s: &[u8]) -> u64 {
     d
 }
 
-fn line(n: u64) {
-    io::print_decimal(STDOUT_FILENO, n);
-    word(b"\n");
+fn line(rt: &impl Print, n: u64) -> io::Result<()> {
+    println!(rt; "{n}")
 }
 
 // An output in short: how many bytes it has, its digest, and its last 17 bytes.
-fn summary(s: &[u8]) {
-    line(s.len() as u64);
-    line(digest(s));
+fn summary(rt: &impl Print, s: &[u8]) -> io::Result<()> {
+    line(rt, s.len() as u64)?;
+    line(rt, digest(s))?;
     if s.len() < 17 {
-        return;
+        return Ok(());
     }
     let from = s.len() - 17;
-    word(&s[from..]);
+    word(rt, &s[from..])
 }
 
-fn show(s: &[u8]) {
+fn show(rt: &impl Print, s: &[u8]) -> io::Result<()> {
     if 16384 < s.len() {
-        summary(s);
-        return;
+        return summary(rt, s);
     }
-    word(s);
+    word(rt, s)
 }
 
 // One input, whole and in pieces.
-fn whole_and_cut(text: &[u8], part: Part, held: &mut [u8], output: &mut [u8], want: &mut [u8]) {
+fn whole_and_cut(
+    rt: &impl Print,
+    text: &[u8],
+    part: Part,
+    held: &mut [u8],
+    output: &mut [u8],
+    want: &mut [u8],
+) -> io::Result<()> {
     let told = feed::feed(text, part, 65536, held, output, want);
     let n = told.count;
     if want.len() < n {
-        return;
+        return Ok(());
     }
-    show(&want[..n]);
+    show(rt, &want[..n])?;
     let same = ways(text, part, n, held, output, want);
-    word(b"same: ");
-    line(same as u64);
+    word(rt, b"same: ")?;
+    line(rt, same as u64)
 }
 
-// Puts the file of that name into `text`, and says how long it is.
-fn read(name: &[u8], text: &mut [u8]) -> usize
-    ensures { IsPrefixLen result text.new }
+// Reads until `text` is full, the file ends or a read fails, and says how many bytes came.
+fn read_full(file: &mut impl Read, text: &mut [u8]) -> usize
+    ensures { result ≤ length text.new }
 {
-    let fd = os::open_read(name);
-    let n = io::read_full(fd, text);
-    libc::close(fd);
-    n
+    let mut done = 0;
+    while done < text.len() {
+        let n = file.read(&mut text[done..]).unwrap_or(0);
+        if n == 0 {
+            return done;
+        }
+        done += n;
+    }
+    done
+}
+
+// Puts the file of that name into `text`, and says how long it is. One that cannot be opened has no byte.
+fn read(rt: &impl Files, name: &[u8], text: &mut [u8]) -> usize
+    ensures { result ≤ length text.new }
+{
+    match File::open(rt, str::from_utf8(name).unwrap_or("")) {
+        Ok(mut file) => read_full(&mut file, text),
+        Err(_) => 0,
+    }
 }
 
 // The case of the file of that name. Its length is told too: a file that is missing has none.
-fn case(name: &[u8], part: Part, held: &mut [u8], output: &mut [u8], want: &mut [u8]) {
-    let mut text = io::large_buffer();
-    let n = read(name, &mut text);
-    word(name);
-    word(b": ");
-    line(n as u64);
-    whole_and_cut(&text[..n], part, held, output, want);
+fn case(
+    rt: &(impl Print + Files),
+    name: &[u8],
+    part: Part,
+    held: &mut [u8],
+    output: &mut [u8],
+    want: &mut [u8],
+) -> io::Result<()> {
+    let mut text = [0u8; 65536];
+    let n = read(rt, name, &mut text);
+    word(rt, name)?;
+    word(rt, b": ")?;
+    line(rt, n as u64)?;
+    whole_and_cut(rt, &text[..n], part, held, output, want)
 }
 
 // Where the line that begins at `from` ends.
@@ -203,27 +233,39 @@ fn part_at(k: usize) -> Part {
 }
 
 // The case of each line of the list.
-fn each(list: &[u8], held: &mut [u8], output: &mut [u8], want: &mut [u8]) {
+fn each(
+    rt: &(impl Print + Files),
+    list: &[u8],
+    held: &mut [u8],
+    output: &mut [u8],
+    want: &mut [u8],
+) -> io::Result<()> {
     let mut from = 0;
     let mut k = 0;
     while from < list.len() {
         let to = end(list, from);
         let part = part_at(k);
-        case(&list[from..to], part, held, output, want);
+        case(rt, &list[from..to], part, held, output, want)?;
         from = to + 1;
         k += 1;
     }
+    Ok(())
 }
 
-fn all(held: &mut [u8], output: &mut [u8], want: &mut [u8]) {
-    let mut list = io::buffer();
-    let n = read(b"list", &mut list);
-    each(&list[..n], held, output, want);
+fn all(
+    rt: &(impl Print + Files),
+    held: &mut [u8],
+    output: &mut [u8],
+    want: &mut [u8],
+) -> io::Result<()> {
+    let mut list = [0u8; 4096];
+    let n = read(rt, b"list", &mut list);
+    each(rt, &list[..n], held, output, want)
 }
 
-fn main() {
-    let mut held = io::large_buffer();
-    let mut output = io::large_buffer();
+fn main(rt: HostRuntime) -> io::Result<()> {
+    let mut held = [0u8; 65536];
+    let mut output = [0u8; 65536];
     let mut want = huge_buffer();
-    all(&mut held, &mut output, &mut want);
+    all(&rt, &mut held, &mut output, &mut want)
 }
