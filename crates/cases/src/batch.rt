@@ -23,16 +23,13 @@ pub struct Done {
 
 // So many rows more, as long as there is room.
 pub fn with(mut b: Batch, q: Request, times: u64) -> Batch {
-    let mut at = b.count;
-    let mut left = times % 257 * 13;
-    while left > 0 {
+    for _ in 0..times % 257 * 13 {
+        let at = b.count;
         if 3328 <= at {
             return b;
         }
         b.rows[at] = ask::field(q, at % 13);
-        at += 1;
-        b.count = at;
-        left -= 1;
+        b.count = at + 1;
     }
     b
 }
@@ -58,10 +55,8 @@ fn bytes(rt: &impl Print, text: usize, list: [u8; 256], room: usize, none: u64) 
     requires { room ≤ 256 }
 {
     show::say(rt, text)?;
-    let mut i = 0usize;
-    while i < room {
-        show::number(rt, list[i] as u64, none)?;
-        i += 1;
+    for n in &list[..room] {
+        show::number(rt, *n as u64, none)?;
     }
     Ok(())
 }

@@ -17,12 +17,10 @@ fn past(field: u64) -> u32 {
 // The answers with one field past its range, or at the last number: seat, user, role, entity, parent, kind, name, grade,
 // cats, rights, shared, junior.
 fn each(rt: &impl Print, t: Tables, q: Request, most: bool) -> io::Result<()> {
-    let mut field = 1u64;
-    while field <= 12 {
+    for field in 1..=12 {
         let n = if most { 4294967295 } else { past(field) };
         let told = ask::answer(rt, t, q, field, n)?;
         show::form(rt, show::ONE, show::one(told))?;
-        field += 1;
     }
     Ok(())
 }

@@ -82,10 +82,8 @@ fn with(mut old: OldTables, t: Tables, i: usize) -> OldTables {
 
 pub fn narrowed(t: Tables) -> OldTables {
     let mut old = begun(t);
-    let mut i = 0usize;
-    while i < 64 {
+    for i in 0..64 {
         old = with(old, t, i);
-        i += 1;
     }
     old
 }

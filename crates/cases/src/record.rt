@@ -180,10 +180,8 @@ pub fn with(mut t: Tables, kind: usize, i: usize, field: usize, n: u64) -> Table
 
 fn same(a: [u64; 8], b: [u64; 8]) -> bool {
     let mut same = true;
-    let mut i = 0usize;
-    while i < 8 {
+    for i in 0..8 {
         same = same & (a[i] == b[i]);
-        i += 1;
     }
     same
 }
@@ -192,14 +190,12 @@ fn same(a: [u64; 8], b: [u64; 8]) -> bool {
 pub fn changed(a: Tables, b: Tables, kind: usize) -> u64 {
     let n = count(kind);
     let mut set = 0u64;
-    let mut i = 0usize;
-    while i < 64 {
+    for i in 0..64 {
         if i < n {
             if !same(row(a, kind, i), row(b, kind, i)) {
                 set = set | (1 << i);
             }
         }
-        i += 1;
     }
     set
 }

@@ -56,12 +56,10 @@ fn byte(rt: &impl Print, b: u8) -> io::Result<()> {
 fn set(rt: &impl Print, members: u64) -> io::Result<()> {
     byte(rt, b'{')?;
     byte(rt, b' ')?;
-    let mut i = 0u32;
-    while i < 64 {
+    for i in 0..64u32 {
         if (members >> i) & 1 == 1 {
             print!(rt; "{i} ")?;
         }
-        i += 1;
     }
     byte(rt, b'}')
 }
@@ -122,14 +120,11 @@ pub fn form(rt: &impl Print, k: usize, row: [u64; 8]) -> io::Result<()> {
         , edition @\n|\
         \n|; broken|; past|; most|; unsound @\n| @|:|; answers| line @: not read, or not done\n|by the method @, role @, by step @, role @;| by role @|; roles| -|";
     let mut p = Place { left: k, at: 0 };
-    let mut i = 0usize;
-    while i < list.len() {
-        let b = list[i];
-        if (b == b'|') & (p.left == 0) {
+    for b in list {
+        if (*b == b'|') & (p.left == 0) {
             return Ok(());
         }
-        p = passed(rt, p, b, row)?;
-        i += 1;
+        p = passed(rt, p, *b, row)?;
     }
     Ok(())
 }
@@ -159,13 +154,11 @@ pub fn record(rt: &impl Print, t: Tables, kind: usize, i: usize) -> io::Result<(
 
 // The records that differ.
 pub fn records(rt: &impl Print, a: Tables, b: Tables) -> io::Result<()> {
-    let mut kind = 0usize;
-    while kind < 5 {
+    for kind in 0..5 {
         let set = record::changed(a, b, kind);
         if set != 0 {
             form(rt, SETS + kind, one(set))?;
         }
-        kind += 1;
     }
     Ok(())
 }

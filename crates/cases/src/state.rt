@@ -117,7 +117,8 @@ impl State {
         if !p.good {
             return b.unread();
         }
-        while p.field < 8 {
+        for field in p.field..8 {
+            p.field = field;
             let w = text::next(s, p.end);
             if w.length == 0 {
                 return b;
@@ -127,7 +128,6 @@ impl State {
             }
             b = b.store(p, w.number);
             p.end = w.end;
-            p.field = p.field + 1;
         }
         b
     }

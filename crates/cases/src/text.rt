@@ -56,17 +56,14 @@ pub fn place(from: usize, key: u64) -> usize {
         live kind parent name grade cats shared - \
         edition - - - - - - - ";
     let mut s = Spot { word: 0, before: 0 };
-    let mut i = 0usize;
-    while i < list.len() {
-        let b = list[i];
-        if (b == b' ') & (s.word == key) {
+    for b in list {
+        if (*b == b' ') & (s.word == key) {
             let n = s.before;
             if from <= n {
                 return n - from;
             }
         }
-        s = seen(s, b);
-        i += 1;
+        s = seen(s, *b);
     }
     128
 }
@@ -109,11 +106,9 @@ pub fn next(s: &[u8], from: usize) -> Word {
         length: 0,
         end: from,
     };
-    let mut i = from;
-    while i < s.len() {
+    for i in from..s.len() {
         let b = s[i];
-        i += 1;
-        w.end = i;
+        w.end = i + 1;
         if b == b' ' {
             return w;
         }
