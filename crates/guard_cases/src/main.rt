@@ -102,14 +102,12 @@ fn find(s: &[u8], from: usize, byte: u8) -> usize
     ensures lower_bound { from ≤ result }
     ensures upper_bound { result ≤ length s.now }
 {
-    let mut at = from;
-    while at < s.len() {
+    for at in from..s.len() {
         if s[at] == byte {
             return at;
         }
-        at += 1;
     }
-    at
+    s.len()
 }
 
 // A statement, and behind `| ` its name.
