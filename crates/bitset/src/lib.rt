@@ -3,6 +3,7 @@
 // Each function equals the operation of the same name in specs/Sets, which is free of the width, for any arguments. A set of w
 // bits has no place for a member past it, so `with` takes a number past the width by its remainder. Assumes nothing.
 #![tactic(auto)]
+
 ghost use Rattle.std.specs.Prelude.{◌≡◌, ◌%◌};
 ghost use Rattle.bitset.specs.Sets.{has, with, without, contains, minus};
 

@@ -8,7 +8,7 @@
 --     tie_none, tie_away, tie_last  the test of the ties of one role
 --     side_given                    the set of one right
 -- Assumes nothing.
-use Prim.Native.Nat.{ℕ, ◌+◌, ◌*◌, ◌%◌, ◌^◌, ◌<◌}
+use Prim.Native.Nat.{ℕ, ◌+◌, ◌*◌, ◌^◌, ◌<◌}
 use mathlib.Core.Path.{◌≡◌, refl, sym, ap, ◌∙◌}
 use mathlib.Core.Bool.{Bool, true, false, not, ◌&&◌, ◌||◌, and-true}
 use mathlib.Core.List.{List, [], ◌∷◌}
@@ -20,7 +20,7 @@ use lib.Dec.{eqb}
 use lib.ListN.{get_or}
 use borrow.Author.Tests.{eqb-true, eq-eqb}
 use Rattle.bitset.specs.Tests.{every, implies, all, some}
-use Rattle.bitset.specs.Tests.Laws.{both, clash, is_false, not_of_false, of_not_true, of_not_false, either_l, every_i, every_at, implies_i, all_i, some_i, some_e, or_l, or_r, or_e}
+use Rattle.bitset.specs.Tests.Laws.{both, clash, is_false, not_of_false, of_not_true, of_not_false, every_i, every_at, implies_i, all_i, some_i, some_e, or_l, or_r, or_e}
 use Rattle.bitset.specs.Sets.{has, contains, with, without, join, minus}
 use Rattle.bitset.specs.Sets.Laws.{has_none, has_meet, has_join, has_with_same, has_with_other, has_with_old, has_with_lem, has_either, has_minus_e, has_without_same, has_without_other, has_below, sets_ext, join_lt, with_lt, minus_le}
 use Rattle.guard.specs.Level.{role_level}

@@ -5,6 +5,7 @@
 // order. Sets are bit sets: member `i` is bit `i` (crate `bitset`). No record of the tables holds an enum or a reference. Tables
 // of the old width, with a set of eight categories, have records of their own (`old`).
 #![tactic(auto)]
+
 mod backing;
 mod change;
 mod entities;

@@ -1,5 +1,5 @@
 -- The report: the bytes of the whole output, from the bytes of a whole input.
-use Rattle.std.specs.Prelude.{ℕ, ◌+◌, Bool, true, false, not, cond, List, [], ◌∷◌, ◌++◌, leb, ltb, length, set, take, replicate}
+use Rattle.std.specs.Prelude.{ℕ, ◌+◌, Bool, true, false, cond, List, [], ◌∷◌, ◌++◌, leb, ltb, set, take, replicate}
 use Rattle.bitset.specs.Tests.{every}
 use Rattle.guard.specs.Level.{user_count, top_level}
 use Rattle.guard.specs.Label.{label, label_in_range}

@@ -1,5 +1,6 @@
 // The request program as a library on slices: what it prints for an input is `report` of specs/Report.
 #![tactic(auto)]
+
 mod batch;
 pub mod buffer;
 mod digit;

@@ -5,13 +5,13 @@
 use Prim.Native.Nat.{ℕ, zero, suc, ◌+◌, ◌*◌, ◌-◌, ◌/◌, ◌%◌, ◌^◌, ◌≤◌, ◌<◌}
 use mathlib.Core.Bool.{Bool, true, false, not, cond, not-not}
 use mathlib.Core.Path.{◌≡◌, refl, sym, ap, ◌∙◌}
-use native.Mathlib.Nat.{div-one, pow-suc, mod-eq_of_lt, lt_of_lt_of_le}
+use native.Mathlib.Nat.{div-one, pow-suc, lt_of_lt_of_le}
 use native.Mathlib.Omega.{arith}
 use lib.Bits.{bit_or, or_shifted}
 use lib.Dec.{ltb}
 use lib.Pow.{pow_mono, shl_exact}
 use borrow.Author.Tests.{eq-eqb, ne_eqb, ltb-true, ltb-false}
-use Rattle.bitset.specs.Sets.{has, minus}
+use Rattle.bitset.specs.Sets.{has}
 use Rattle.bitset.specs.Sets.Laws.{has_minus}
 use Rattle.bitset.specs.Tests.{all}
 use Rattle.bitset.specs.Tests.Laws.{all_e}

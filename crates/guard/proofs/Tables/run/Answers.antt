@@ -1,5 +1,5 @@
 -- `run` is the log of its rows: each turn of the loop looks up what a request concerns, decides it and stores what it does. Assumes nothing.
-use Prim.Native.Nat.{ℕ, ◌+◌, ◌-◌, ◌≤◌, ◌<◌}
+use Prim.Native.Nat.{ℕ, ◌+◌, ◌≤◌, ◌<◌}
 use mathlib.Core.Path.{◌≡◌, refl, sym, ◌∙◌}
 use mathlib.Core.Bool.{true, cond}
 use mathlib.Core.List.{List}
@@ -9,7 +9,6 @@ use lib.Dec.{eqb}
 use lib.ListN.{length, set, length-set}
 use Rattle.guard.specs.Label.{all_categories}
 use Rattle.guard.specs.Tables.{session_at, entity_at}
-use Rattle.guard.specs.Sound.{sound}
 use Rattle.guard.specs.Requests.{rule_of}
 use Rattle.guard.specs.Told.{role_byte}
 use Rattle.guard.specs.Step.{role_opening}
@@ -31,47 +30,47 @@ use Rattle.guard.proofs.Columns.{keys_set, keys_other, grants_other, grants_role
 use Rattle.guard.proofs.Seen.{view_at, parent_in, seen_of}
 use Rattle.guard.proofs.Answers.{done_in_range}
 use Rattle.guard.proofs.Stored.{told, session_stored, create_stored, delete_stored, alone_stored, role_stored, loss_stored, loses, no_loss}
-use Rattle.guard.proofs.Turns.{Held, held_none, held_more, held_length, held_roles, held_all, no_batch, unsound_batch, Stepped, refuses, does, opens_nothing, opens_by}
+use Rattle.guard.proofs.Turns.{Held, held_none, held_more, held_length, held_roles, no_batch, unsound_batch, Stepped, refuses, does, opens_nothing, opens_by}
 use Rattle.guard.proofs.Tables.run.Goals as goal
 
 -- ---- one turn: the batch has room for its answers and for its roles
 module _ {t₀ t : Tables} {rows old old_roles said roles keys grants : List ℕ} {i n : ℕ} (held : Held t₀ rows old old_roles i t said roles keys grants)
     (on : i < n) (all : n ≡ batch_count rows old old_roles)
   where
-  within : i < length old
-  within = omega (arith, on, all, batch_room (length rows) (length old) (length old_roles))
+    within : i < length old
+    within = omega (arith, on, all, batch_room (length rows) (length old) (length old_roles))
 
-  within_roles : i < length old_roles
-  within_roles = omega (arith, on, all, batch_space (length rows) (length old) (length old_roles))
+    within_roles : i < length old_roles
+    within_roles = omega (arith, on, all, batch_space (length rows) (length old) (length old_roles))
 
-  room : i < length said
-  room = rw (held_length _ _ _ _ _ _ _ _ _ _ held (omega (arith, within))) within
+    room : i < length said
+    room = rw (held_length _ _ _ _ _ _ _ _ _ _ held (omega (arith, within))) within
 
-  space : i < length roles
-  space = rw (held_roles _ _ _ _ _ _ _ _ _ _ held (omega (arith, within_roles))) within_roles
+    space : i < length roles
+    space = rw (held_roles _ _ _ _ _ _ _ _ _ _ held (omega (arith, within_roles))) within_roles
 
-  -- the next turn holds, by what the tables and the columns are then, and what is stored of the role
-  turned : {q : Request} {a : ℕ} → q ≡ request_at rows i → (u : Tables) (b : ℕ) → Stepped t q u a b
-      → (roles' : List ℕ) → roles' ≡ set roles i b → (k g : List ℕ) → Keys u.entities k → Grants u.roles g
-      → (i + 1 ≤ n) × (n ≡ batch_count rows old old_roles) × Held t₀ rows old old_roles (i + 1) u (set said i a) roles' k g
-  turned asked u b step roles' same k g K G = rw same (omega (arith, on), all, held_more _ _ _ _ _ _ _ _ _ _ held _ asked within within_roles u _ _ step k g K G)
+    -- the next turn holds, by what the tables and the columns are then, and what is stored of the role
+    turned : {q : Request} {a : ℕ} → q ≡ request_at rows i → (u : Tables) (b : ℕ) → Stepped t q u a b
+        → (roles' : List ℕ) → roles' ≡ set roles i b → (k g : List ℕ) → Keys u.entities k → Grants u.roles g
+        → (i + 1 ≤ n) × (n ≡ batch_count rows old old_roles) × Held t₀ rows old old_roles (i + 1) u (set said i a) roles' k g
+    turned asked u b step roles' same k g K G = rw same (omega (arith, on), all, held_more _ _ _ _ _ _ _ _ _ _ held _ asked within within_roles u _ _ step k g K G)
 
-  -- ---- the decision
-  judged : {q : Request} {p : Places} {o a : ℕ} {f : Found} {v : View} → Placed q p → o ≡ cond (eqb q.call kind.create) p.parent (entity_at t p.entity).parent
-      → FoundBy keys grants q (session_at t p.seat).roles p.entity o p.role p.junior f → v ≡ view_at t p o f
-      → ((s : Tables) → Seen s q v → a ≡ number (rule_of q) s q) → a ≡ number (rule_of q) t q
-  judged near above found seen says = says _ (seen_of _ held.is_sound _ _ near _ above _ _ held.keys held.grants _ found _ seen)
+    -- ---- the decision
+    judged : {q : Request} {p : Places} {o a : ℕ} {f : Found} {v : View} → Placed q p → o ≡ cond (eqb q.call kind.create) p.parent (entity_at t p.entity).parent
+        → FoundBy keys grants q (session_at t p.seat).roles p.entity o p.role p.junior f → v ≡ view_at t p o f
+        → ((s : Tables) → Seen s q v → a ≡ number (rule_of q) s q) → a ≡ number (rule_of q) t q
+    judged near above found seen says = says _ (seen_of _ held.is_sound _ _ near _ above _ _ held.keys held.grants _ found _ seen)
 
-  -- ---- where the answer is 0
-  module _ (q : Request) (a : ℕ) (z : a ≡ 0) (decided : a ≡ number (rule_of q) t q) where
-    zero : 0 ≡ number (rule_of q) t q
-    zero = sym z ∙ decided
+    -- ---- where the answer is 0
+    module _ (q : Request) (a : ℕ) (z : a ≡ 0) (decided : a ≡ number (rule_of q) t q) where
+      zero : 0 ≡ number (rule_of q) t q
+      zero = sym z ∙ decided
 
-    fits : in_ranges q ≡ true
-    fits = done_in_range _ _ zero
+      fits : in_ranges q ≡ true
+      fits = done_in_range _ _ zero
 
-    does_so : (u : Tables) → u ≡ (rule_of q).effect q t → (b : ℕ) → b ≡ role_byte (role_opening t q) → Stepped t q u a b
-    does_so u e b r = does _ _ _ held.is_sound decided z u e b r
+      does_so : (u : Tables) → u ≡ (rule_of q).effect q t → (b : ℕ) → b ≡ role_byte (role_opening t q) → Stepped t q u a b
+      does_so u e b r = does _ _ _ held.is_sound decided z u e b r
 
 many : {t₀ t : Tables} {rows old old_roles said roles keys grants : List ℕ} {i : ℕ} → Held t₀ rows old old_roles i t said roles keys grants → Formed all_categories t
 many held = formed_e _ held.is_sound
@@ -153,8 +152,7 @@ pub after-f2-requires : goal.after-f2-requires
 after-f2-requires c =
     let held = c.loop-i.invariant.2 in
     let on = c.loop-i-test.true in
-    let all = c.loop-i.invariant.1 in
-    (
+    let all = c.loop-i.invariant.1 in (
       told AnEntity _ _ c.change_of-changed.ensures c.in-Entity.is,
       fits held on all _ _ c.if-n-eq0.true (judged held on all c.look_up-at.ensures c.parent_of-o.ensures c.find-found.ensures c.seen-v.ensures c.judge-n.ensures),
     )

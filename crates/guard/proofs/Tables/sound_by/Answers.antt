@@ -1,13 +1,9 @@
 -- `sound_by` is `sound`: a part that fails shows tables that are not sound, and the last part decides. Assumes nothing.
-use mathlib.Core.Path.{◌≡◌, sym, ◌∙◌}
-use mathlib.Core.Bool.{◌&&◌}
-use mathlib.Core.List.{[], ◌∷◌}
-use Rattle.bitset.specs.Tests.{every}
+use mathlib.Core.Path.{sym, ◌∙◌}
 use Rattle.bitset.specs.Tests.Laws.{not_of_true, not_of_false, of_not_false, every_i, every_at}
-use Rattle.guard.specs.Sound.{edition_in_range}
 use Rattle.guard.proofs.Soundness.Tests.{and_two}
 use Rattle.guard.proofs.Soundness.Loops.{long}
-use Rattle.guard.proofs.Soundness.Whole.{Sized, refuted, met, decided, users_test, keys_small, edition_pass, users_pass, entities_pass, chains_pass, names_pass, roles_pass, ties_pass}
+use Rattle.guard.proofs.Soundness.Whole.{refuted, met, decided, keys_small, edition_pass, users_pass, entities_pass, chains_pass, names_pass, roles_pass, ties_pass}
 use Rattle.guard.proofs.Tables.sound_by.Goals as goal
 
 pub returns-then-not-users_in_range-edition_in_range : goal.returns-then-not-users_in_range-edition_in_range

@@ -1,5 +1,4 @@
 -- `swept` takes each session by `left`. Assumes nothing.
-use Prim.Native.Nat.{◌-◌}
 use native.Mathlib.Omega.{arith}
 use Rattle.guard.specs.Tables.{no_session}
 use Rattle.guard.proofs.Sweeps.{mapped_step}

@@ -1,6 +1,5 @@
 -- `across` asks what 25 asks, by the number of the request. Assumes nothing.
 use Rattle.std.proofs.Common.{ne_eqb}
-use Rattle.guard.specs.Kind as kind
 use Rattle.guard.specs.Private.Firm.{across_firms}
 use Rattle.guard.proofs.firm.across.Goals as goal
 

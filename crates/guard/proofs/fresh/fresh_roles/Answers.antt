@@ -1,5 +1,4 @@
 -- `fresh::fresh_roles` fills the roles number by number (Filling). Assumes nothing.
-use Prim.Native.Nat.{◌-◌}
 use native.Mathlib.Omega.{arith}
 use borrow.Author.Rules.{rules}
 use Rattle.guard.specs.Tables.{no_role}

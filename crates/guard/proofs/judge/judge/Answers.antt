@@ -1,6 +1,5 @@
 -- `judge` answers every request by the rule of its number: each arm of the match by what its function ensures, the closing one
 -- since the number is none of the nineteen. Assumes nothing.
-use borrow.Author.Rules.{rules as proof_rules}
 use Prim.Native.Nat.{ℕ, ◌≤◌, ◌<◌}
 use mathlib.Core.Path.{◌≡◌, refl, sym, ap, ◌∙◌}
 use mathlib.Core.Bool.{true, not, cond}
@@ -23,7 +22,7 @@ use Rattle.guard.specs.declared.Request.{Request}
 use Rattle.guard.specs.declared.view.View.{View}
 use Rattle.guard.proofs.Laws.Refusals.{alike_first}
 use Rattle.guard.proofs.Ranges.{in_login, in_logout, in_take, in_drop, in_openr, in_openw, in_close, in_create, in_delete, in_rename, in_grant, in_revoke, in_list, in_unlist, in_make, in_unmake, in_share, in_tie}
-use Rattle.guard.proofs.Answers.{out_of_range, by_rule, none_of, past_kinds}
+use Rattle.guard.proofs.Answers.{out_of_range, by_rule, past_kinds}
 use Rattle.guard.proofs.judge.judge.Goals as goal
 
 -- join and unjoin are refused alike, but for 22

@@ -5,7 +5,7 @@ use native.Mathlib.Omega.{arith}
 use Rattle.bitset.specs.Tests.{every}
 use Rattle.guard.specs.Label.{label_in_range_in}
 use Rattle.guard.specs.Requests.{field_in_range_in, rules, login, logout, create, delete, rename}
-use Rattle.guard.proofs.Ranges.{past_nine, ranges_at, fits_take, fits_open, fits_grant, fits_list, fits_make, fits_share, fits_tie, fits_none}
+use Rattle.guard.proofs.Ranges.{ranges_at, fits_take, fits_open, fits_grant, fits_list, fits_make, fits_share, fits_tie, fits_none}
 use Rattle.guard.proofs.look.fits.Goals as goal
 
 pub returns-in-0 : goal.returns-in-0

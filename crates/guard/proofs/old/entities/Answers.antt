@@ -1,5 +1,4 @@
 -- `old::entities` takes over entity by entity (Taking). Assumes nothing.
-use Prim.Native.Nat.{◌-◌}
 use mathlib.Core.Path.{◌≡◌}
 use native.Mathlib.Omega.{arith}
 use Rattle.guard.proofs.Taking.{taken_step, taken_end}

@@ -1,5 +1,4 @@
 -- `without_entity` takes the rights on an entity from each role. Assumes nothing.
-use Prim.Native.Nat.{◌-◌}
 use native.Mathlib.Omega.{arith}
 use Rattle.guard.specs.Tables.{no_role}
 use Rattle.guard.proofs.Sweeps.{mapped_step}

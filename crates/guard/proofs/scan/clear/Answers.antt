@@ -1,5 +1,4 @@
 -- `clear` takes the entity out of every set. Assumes nothing.
-use Prim.Native.Nat.{◌-◌}
 use mathlib.Core.Path.{◌≡◌}
 use native.Mathlib.Omega.{arith}
 use Rattle.guard.proofs.Sweeps.{mapped_step}

@@ -1,11 +1,9 @@
 -- `gather` goes through the roles held and those below them, and joins what each of them gives. Assumes nothing.
-use Prim.Native.Nat.{◌*◌, ◌-◌, ◌<◌}
-use mathlib.Core.Bool.{true}
-use mathlib.Core.Path.{◌≡◌}
+use Prim.Native.Nat.{◌*◌}
 use native.Mathlib.Nat.{add-zero, mod-eq_of_lt}
 use native.Mathlib.Omega.{arith}
 use lib.Count.{count_trailing_zeros}
-use Rattle.bitset.specs.Sets.{has, join}
+use Rattle.bitset.specs.Sets.{join}
 use Rattle.bitset.specs.Sets.Laws.{with_lt}
 use Rattle.guard.proofs.Soundness.Members.{lowest}
 use Rattle.guard.proofs.Descent.{walk_start, walk_step, walk_less, walk_roles, union_none, union_more, union_all}

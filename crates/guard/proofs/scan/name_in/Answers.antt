@@ -1,5 +1,4 @@
 -- `name_in` looks at each entity of the level for the key. Assumes nothing.
-use Prim.Native.Nat.{◌-◌}
 use mathlib.Core.Path.{◌≡◌, sym}
 use native.Mathlib.Omega.{arith}
 use Rattle.bitset.specs.Tests.Laws.{some_none, some_more}

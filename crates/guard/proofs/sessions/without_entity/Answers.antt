@@ -1,5 +1,4 @@
 -- `without_entity` closes an entity in each session. Assumes nothing.
-use Prim.Native.Nat.{◌-◌}
 use native.Mathlib.Omega.{arith}
 use Rattle.guard.specs.Tables.{no_session}
 use Rattle.guard.proofs.Sweeps.{mapped_step}

@@ -1,5 +1,4 @@
 -- `gather`: the loop over lines keeps Taken (GatherLoop). Assumes nothing.
-use Prim.Native.Nat.{◌-◌}
 use mathlib.Core.Path.{sym, ◌∙◌}
 use native.Mathlib.Omega.{arith}
 use Rattle.script.proofs.GatherLoop.{taken_none, taken_next, taken_all, count_few, goes_on}

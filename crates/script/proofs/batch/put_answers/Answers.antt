@@ -1,5 +1,4 @@
 -- `put_answers` writes one line after another. Assumes nothing.
-use Prim.Native.Nat.{◌-◌}
 use native.Mathlib.Nat.{add-zero}
 use native.Mathlib.Omega.{arith}
 use Rattle.script.proofs.LinesInBatch.{one_least}

@@ -1,5 +1,4 @@
 -- `shift`: the first i bytes are in their new place, the others as they were (Shifting of ShiftLoop). Assumes nothing.
-use Prim.Native.Nat.{◌-◌}
 use Rattle.script.proofs.ShiftLoop.{shift_more}
 use Rattle.script.proofs.buffer.shift.Goals as goal
 

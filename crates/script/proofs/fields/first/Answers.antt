@@ -1,9 +1,7 @@
 -- `script::fields::first` meets its contract: where the fields so far were numbers, `got` says so, and the next one is a
 -- number too or a fault. Assumes nothing.
-use Prim.Native.Nat.{ℕ}
-use mathlib.Core.List.{List, [], ◌∷◌, ◌++◌}
 use Rattle.script.specs.Private.Rows.{ahead}
-use Rattle.script.proofs.FieldsTaken.{Took, took_none, took, faulty}
+use Rattle.script.proofs.FieldsTaken.{took_none, took, faulty}
 use Rattle.script.proofs.fields.first.Goals as goal
 
 pub returns-in_default : goal.returns-in_default

@@ -1,10 +1,9 @@
 -- `script::fields::second` meets its contract: where the fields so far were numbers, `got` says so, and the next one is a
 -- number too or a fault. Assumes nothing.
-use Prim.Native.Nat.{ℕ}
-use mathlib.Core.List.{List, [], ◌∷◌, ◌++◌}
+use mathlib.Core.List.{[]}
 use Rattle.script.specs.Line.{these, joined}
 use Rattle.script.specs.Private.Rows.{front}
-use Rattle.script.proofs.FieldsTaken.{Took, took_none, took, faulty, asks_bad, asks_user, asks_request}
+use Rattle.script.proofs.FieldsTaken.{took_none, took, faulty, asks_bad, asks_user, asks_request}
 use Rattle.script.proofs.fields.second.Goals as goal
 
 pub returns-in_default : goal.returns-in_default

@@ -1,11 +1,11 @@
 -- `script::header::header` meets its contract. The loop's invariant: the names so far, and the set of those seen and of what is
 -- none. The measure is what is left of the line. Assumes nothing.
-use Prim.Native.Nat.{ℕ, ◌-◌, ◌%◌}
+use Prim.Native.Nat.{ℕ, ◌%◌}
 use mathlib.Core.List.{List}
 use mathlib.Core.Path.{◌≡◌, sym, ap, ◌∙◌}
 use native.Mathlib.Nat.{mod-eq_of_lt}
 use native.Mathlib.Omega.{arith}
-use Rattle.bitset.specs.Sets.{has, with}
+use Rattle.bitset.specs.Sets.{with}
 use Rattle.script.specs.Names.{all_names, column}
 use Rattle.script.proofs.ValuesInTurn.{part_length}
 use Rattle.script.proofs.HeaderLoop.{seen_start, seen_few, seen_more, seen_end, seen_again, name_fits}

@@ -7,11 +7,10 @@ use Rattle.script.proofs.print.put_decimal.Goals as goal
 
 pub returns : goal.returns
 unfolding decimal
-returns c =
-    (
-      put_then c.put_place-i.ensures.0
-          (put_then c.put_place-j.ensures.0
-          (put_then c.put_place-k.ensures.0
-          (put_then c.put_place-l.ensures.0 (rw (← c.requires.0.first) (put_cons refl put_nil))))),
-      omega arith,
-    )
+returns c = (
+  put_then c.put_place-i.ensures.0
+      (put_then c.put_place-j.ensures.0
+      (put_then c.put_place-k.ensures.0
+      (put_then c.put_place-l.ensures.0 (rw (← c.requires.0.first) (put_cons refl put_nil))))),
+  omega arith,
+)

@@ -1,6 +1,5 @@
 -- `script::row::read_row` meets its contract. The loop's invariant: the numbers so far stand under their names. The measure is
 -- what is left of the slice. Assumes nothing.
-use Prim.Native.Nat.{◌-◌}
 use mathlib.Core.Path.{ap, ◌∙◌}
 use native.Mathlib.Nat.{mod-eq_of_lt}
 use native.Mathlib.Omega.{arith}

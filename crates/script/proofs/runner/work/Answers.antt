@@ -1,6 +1,5 @@
 -- `work`: the loop over a piece. The invariant says what is left to tell from here (Held of PieceLoop), the measure is what
 -- is left of the piece. Assumes nothing.
-use Prim.Native.Nat.{◌-◌}
 use mathlib.Core.Path.{◌∙◌}
 use Rattle.script.proofs.PieceLoop.{loop_more, loop_done}
 use Rattle.script.proofs.runner.work.Goals as goal

@@ -1,5 +1,4 @@
 -- `script::text::find` stands where what is before the first delimiter ends. Assumes nothing.
-use Prim.Native.Nat.{◌-◌}
 use native.Mathlib.Omega.{arith}
 use Rattle.script.proofs.Texts.{find_stop, find_more, find_end}
 use Rattle.script.proofs.text.find.Goals as goal

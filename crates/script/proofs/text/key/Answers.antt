@@ -1,5 +1,4 @@
 -- `script::text::key` gathers the bytes of a short text into one number. Assumes nothing.
-use Prim.Native.Nat.{◌-◌}
 use native.Mathlib.Omega.{arith}
 use Rattle.script.proofs.ByKey.{packed_small, packed_more, packed_end, key_long}
 use Rattle.script.proofs.text.key.Goals as goal

@@ -1,5 +1,4 @@
 -- `script::text::span` looks for the end of the first value. Assumes nothing.
-use Prim.Native.Nat.{◌-◌}
 use native.Mathlib.Omega.{arith}
 use Rattle.script.proofs.FirstValue.{span_space, span_line, span_more, span_end}
 use Rattle.script.proofs.text.span.Goals as goal

@@ -1,5 +1,4 @@
 -- `script::text::value` tells a dash and a number of at most five digits. Assumes nothing.
-use Prim.Native.Nat.{◌-◌}
 use native.Mathlib.Omega.{arith}
 use Rattle.script.proofs.Texts.{none_other, long_other, one_dash, dash_other, read_more, read_low, read_high, read_end}
 use Rattle.script.proofs.text.value.Goals as goal

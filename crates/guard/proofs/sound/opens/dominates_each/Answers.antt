@@ -1,12 +1,9 @@
 -- `guard::sound::opens::dominates_each` tests each member in turn. Assumes nothing.
-use Prim.Native.Nat.{◌<◌}
 use native.Mathlib.Omega.{arith}
-use mathlib.Core.Bool.{true}
 use mathlib.Core.Path.{◌≡◌, sym, ◌∙◌}
 use lib.Count.{count_trailing_zeros}
 use borrow.Author.Tests.{le-leb, lt-leb}
 use Rattle.bitset.specs.Tests.Laws.{is_false, clash, every_i, every_at}
-use Rattle.bitset.specs.Sets.{has}
 use Rattle.bitset.specs.Sets.Laws.{without_le}
 use Rattle.guard.proofs.Soundness.Members.{lowest, without_less, members_next, members_miss, members_none, left_none, left_some}
 use Rattle.guard.proofs.sound.opens.dominates_each.Goals as goal

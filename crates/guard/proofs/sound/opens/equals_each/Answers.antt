@@ -1,11 +1,8 @@
 -- `guard::sound::opens::equals_each` tests each member in turn. Assumes nothing.
-use Prim.Native.Nat.{◌<◌}
 use native.Mathlib.Omega.{arith}
-use mathlib.Core.Bool.{true}
 use mathlib.Core.Path.{◌≡◌, sym, ◌∙◌}
 use lib.Count.{count_trailing_zeros}
 use borrow.Author.Tests.{eq-eqb, ne_eqb}
-use Rattle.bitset.specs.Sets.{has}
 use Rattle.bitset.specs.Sets.Laws.{without_le}
 use Rattle.guard.proofs.Soundness.Members.{lowest, without_less, members_next, members_miss, members_none}
 use Rattle.guard.proofs.sound.opens.equals_each.Goals as goal

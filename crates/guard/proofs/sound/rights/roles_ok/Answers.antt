@@ -1,11 +1,9 @@
 -- `roles_ok` tests each role in turn, and lists those that are live. Assumes nothing.
-use Prim.Native.Nat.{◌-◌}
 use native.Mathlib.Omega.{arith}
-use mathlib.Core.Path.{◌≡◌, ◌∙◌}
+use mathlib.Core.Path.{◌∙◌}
 use lib.ListN.{get_or}
 use Rattle.bitset.specs.Tests.Laws.{not_of_true, not_of_false, all_none}
 use Rattle.guard.specs.Tables.{no_role}
-use Rattle.guard.specs.Private.Tested.{grantable_in, role_test}
 use Rattle.guard.proofs.Soundness.Loops.{all_miss, all_next, listed_none, listed_more}
 use Rattle.guard.proofs.Soundness.Grants.{role_masked}
 use Rattle.guard.proofs.sound.rights.roles_ok.Goals as goal

@@ -1,5 +1,4 @@
 -- `ties_ok` tests each role in turn. Assumes nothing.
-use Prim.Native.Nat.{◌-◌}
 use native.Mathlib.Omega.{arith}
 use Rattle.bitset.specs.Tests.Laws.{not_of_true, not_of_false, all_none}
 use Rattle.guard.proofs.Soundness.Loops.{all_miss, all_next}

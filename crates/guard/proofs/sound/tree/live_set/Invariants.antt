@@ -1,5 +1,5 @@
 -- `guard::sound::tree::live_set` collects what is dead, from the last entity down, and gives the others. Assumes nothing.
-use Prim.Native.Nat.{◌-◌, ◌≤◌}
+use Prim.Native.Nat.{◌≤◌}
 use Rattle.guard.specs.Private.Tested.{live_by_key}
 use Rattle.guard.proofs.Soundness.DeadSet.{Pushed}
 use Rattle.guard.proofs.sound.tree.live_set.Given as goal
