@@ -72,8 +72,7 @@ fn fill(
     let mut at = from;
     let mut again = times;
     let mut i = have;
-    let mut left = piece;
-    while left > 0 {
+    for _ in 0..piece {
         if text.len() <= at {
             return Stock { at, again, have: i };
         }
@@ -85,7 +84,6 @@ fn fill(
         at = p.at;
         again = p.again;
         i += 1;
-        left -= 1;
     }
     Stock { at, again, have: i }
 }
@@ -110,8 +108,7 @@ fn supply(
 fn compare(want: &mut [u8], count: usize, output: &[u8], n: usize) -> Told {
     let mut at = count;
     let mut same = true;
-    let mut i = 0;
-    while i < n {
+    for i in 0..n {
         if output.len() <= i {
             return Told {
                 count: at,
@@ -127,7 +124,6 @@ fn compare(want: &mut [u8], count: usize, output: &[u8], n: usize) -> Told {
         same = same & (want[at] == output[i]);
         want[at] = output[i];
         at += 1;
-        i += 1;
     }
     Told { count: at, same }
 }
@@ -160,7 +156,7 @@ fn work(
 }
 
 // A whole run of the input in pieces of `piece` bytes; the room for output is all of `output`. A loop that is proved has to
-// end, so it counts down from a number that no run uses up.
+// end, so it has a number of turns that no run uses up.
 pub fn feed(
     text: &[u8],
     part: Part,
@@ -175,8 +171,7 @@ pub fn feed(
     let mut have = 0;
     let mut count = 0;
     let mut same = true;
-    let mut turns = u64::MAX;
-    while turns > 0 {
+    for _ in 0..u64::MAX {
         let stock = supply(text, part, at, again, held, have, piece);
         let given = stock.have;
         if held.len() < given {
@@ -193,7 +188,6 @@ pub fn feed(
         at = stock.at;
         again = stock.again;
         have = w.have;
-        turns -= 1;
     }
     Told { count, same: false }
 }

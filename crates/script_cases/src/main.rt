@@ -21,11 +21,18 @@ const LONG_PIECES: [usize; 9] = [64, 64, 64, 300, 300, 300, 1000, 1000, 1000];
 
 const ROOMS: [usize; 9] = [12, 13, 100, 12, 13, 100, 12, 13, 100];
 
+// As many zeros. A check counts them one by one where their number is a literal, and runs out of room at the longest output.
+fn zeros<const N: usize>() -> [u8; N]
+    ensures { N ≡ length result }
+{
+    [0; N]
+}
+
 // Room for the longest output: 65,534 lines.
 fn huge_buffer() -> [u8; 600000]
     ensures { 600000 ≡ length result }
 {
-    [0; 600000]
+    zeros()
 }
 
 fn word(rt: &impl Print, text: &[u8]) -> io::Result<()> {
@@ -69,15 +76,13 @@ fn ways(
     output: &mut [u8],
     want: &mut [u8],
 ) -> usize {
-    let mut i = 0;
-    while i < 9 {
+    for i in 0..9 {
         let piece = piece_at(i, part.again);
         if !again(text, part, piece, ROOMS[i], n, held, output, want) {
             return i;
         }
-        i += 1;
     }
-    i
+    9
 }
 
 fn wide(b: u8) -> u64
@@ -89,10 +94,8 @@ fn wide(b: u8) -> u64
 // A number that hangs on every byte of a text and on its place.
 fn digest(s: &[u8]) -> u64 {
     let mut d = 0u64;
-    let mut i = 0;
-    while i < s.len() {
-        d = d % 4294967291 * 257 + wide(s[i]);
-        i += 1;
+    for b in s {
+        d = d % 4294967291 * 257 + wide(*b);
     }
     d
 }
@@ -187,14 +190,12 @@ fn end(text: &[u8], from: usize) -> usize
     ensures lower_bound { from ≤ result }
     ensures upper_bound { result ≤ length text.now }
 {
-    let mut at = from;
-    while at < text.len() {
+    for at in from..text.len() {
         if text[at] == b'\n' {
             return at;
         }
-        at += 1;
     }
-    at
+    text.len()
 }
 
 // The part that comes again in case `k`: the list begins with the long inputs.
