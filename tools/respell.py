@@ -7,7 +7,7 @@ declares. A pair of names that would fall together is an error. --check writes n
 import pathlib, re, sys
 
 ROOT = pathlib.Path(__file__).resolve().parent.parent / "crates"
-NAME = re.compile(r"[^\s(){}\[\];,.:\"@«»]+")
+NAME = re.compile(r"[^\s(){}\[\];,.:\"@«»`]+")
 DECLARED = re.compile(r"^\s*(?:pub |abbrev |unfoldable |ruleset )*(?:record |data )?([^\s(){};,.:]+)(?: [({].*)? :(?: |$)")
 BINDER = re.compile(r"[({]([^(){}:]+?) : |λ ([^.(]+)\.|\blet \(?([^=()]+?)\)? (?:=|:)")
 
@@ -42,7 +42,7 @@ def main():
             for b in BINDER.finditer(code):
                 own.update(next(g for g in b.groups() if g).replace(",", " ").split())
             u = re.match(r"\s*(?:pub )?use (\S+?)\.\{(.*)\}", code)
-            if u and not re.match(r"Rattle\.(bitset|guard|script|worked|isolation|cases)\b", u[1]):
+            if u and re.match(r"(Prim|mathlib|native|lib|borrow|Rattle\.std)\b", u[1]):
                 foreign.update(x.split(" as ")[0].strip() for x in u[2].split(","))
     own = {n for n in own if changes(n)} - foreign
     table = {n: snake(n) for n in own}

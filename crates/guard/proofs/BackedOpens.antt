@@ -1,7 +1,7 @@
 -- What the rights gathered over the roles held tell of the opens of a session.
 --     kept_of          the members of a set that a mask has are what `keeping` leaves of it
---     opens_given_lem      the tests by mask are `opensGiven`
---     opens_kept       the session with the opens that the masks leave is `backedBy`
+--     opens_given_lem      the tests by mask are `opens_given`
+--     opens_kept       the session with the opens that the masks leave is `backed_by`
 --     lost_as          what a role lost, by the sets of it and of its juniors
 -- Assumes nothing.
 use Prim.Native.Nat.{ℕ, ◌^◌, ◌<◌}

@@ -15,13 +15,13 @@ use Rattle.guard.specs.declared.Tables.{Tables}
 use Rattle.guard.specs.declared.Request.{Request}
 use Rattle.guard.proofs.Laws.Sound.{formed_e, backed_e, sound_i}
 use Rattle.guard.proofs.Laws.Step.{next_by_lem, Each, each_rule}
-use Sessions.{Keeps, keeps-login, keeps-logout, keeps-take, keeps-drop, keeps-openr, keeps-openw, keeps-close}
-use Backed.{KeepsBacked, backs-login, backs-logout, backs-take, backs-drop, backs-openr, backs-openw, backs-close, backs-create, backs-delete, backs-rename, backs-grant, backs-revoke, backs-list, backs-unlist, backs-make, backs-unmake, backs-share, backs-join, backs-unjoin}
-use Roles.{keeps-grant, keeps-revoke, keeps-list, keeps-unlist, keeps-make, keeps-unmake, keeps-join, keeps-unjoin}
-use Rename.{keeps-rename}
-use Delete.{keeps-delete}
-use Create.{keeps-create}
-use Share.{keeps-share}
+use Sessions.{Keeps, keeps_login, keeps_logout, keeps_take, keeps_drop, keeps_openr, keeps_openw, keeps_close}
+use Backed.{KeepsBacked, backs_login, backs_logout, backs_take, backs_drop, backs_openr, backs_openw, backs_close, backs_create, backs_delete, backs_rename, backs_grant, backs_revoke, backs_list, backs_unlist, backs_make, backs_unmake, backs_share, backs_join, backs_unjoin}
+use Roles.{keeps_grant, keeps_revoke, keeps_list, keeps_unlist, keeps_make, keeps_unmake, keeps_join, keeps_unjoin}
+use Rename.{keeps_rename}
+use Delete.{keeps_delete}
+use Create.{keeps_create}
+use Share.{keeps_share}
 pub mod EachStays
 pub mod Ties
 pub mod Sessions
@@ -35,10 +35,10 @@ pub mod Backed
 
 each_keeps : (width : ℕ) → Each (Keeps width) rules
 unfolding rules
-each_keeps width = (keeps-login, (keeps-logout, (keeps-take, (keeps-drop, (keeps-openr, (keeps-openw, (keeps-close, (keeps-create, (keeps-delete, (keeps-rename, more))))))))))
+each_keeps width = (keeps_login, (keeps_logout, (keeps_take, (keeps_drop, (keeps_openr, (keeps_openw, (keeps_close, (keeps_create, (keeps_delete, (keeps_rename, more))))))))))
   where
     more : Each (Keeps width) (grant ∷ revoke ∷ list ∷ unlist ∷ make ∷ unmake ∷ share ∷ join ∷ unjoin ∷ [])
-    more = (keeps-grant, (keeps-revoke, (keeps-list, (keeps-unlist, (keeps-make, (keeps-unmake, (keeps-share, (keeps-join, (keeps-unjoin, tt)))))))))
+    more = (keeps_grant, (keeps_revoke, (keeps_list, (keeps_unlist, (keeps_make, (keeps_unmake, (keeps_share, (keeps_join, (keeps_unjoin, tt)))))))))
 
 keeps_unknown : (width : ℕ) → Keeps width unknown
 unfolding unknown
@@ -46,10 +46,10 @@ keeps_unknown width t q d = formed_e t d.is_sound
 
 each_backs : (width : ℕ) → Each (KeepsBacked width) rules
 unfolding rules
-each_backs width = (backs-login, (backs-logout, (backs-take, (backs-drop, (backs-openr, (backs-openw, (backs-close, (backs-create, (backs-delete, (backs-rename, more))))))))))
+each_backs width = (backs_login, (backs_logout, (backs_take, (backs_drop, (backs_openr, (backs_openw, (backs_close, (backs_create, (backs_delete, (backs_rename, more))))))))))
   where
     more : Each (KeepsBacked width) (grant ∷ revoke ∷ list ∷ unlist ∷ make ∷ unmake ∷ share ∷ join ∷ unjoin ∷ [])
-    more = (backs-grant, (backs-revoke, (backs-list, (backs-unlist, (backs-make, (backs-unmake, (backs-share, (backs-join, (backs-unjoin, tt)))))))))
+    more = (backs_grant, (backs_revoke, (backs_list, (backs_unlist, (backs_make, (backs_unmake, (backs_share, (backs_join, (backs_unjoin, tt)))))))))
 
 backs_unknown : (width : ℕ) → KeepsBacked width unknown
 unfolding unknown

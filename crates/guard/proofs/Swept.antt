@@ -1,6 +1,6 @@
 -- What the sweep leaves of the sessions is what the end of the opens leaves, where soundness held before: a session that has none of the
 -- entities open on which the role lost rights, its own or those of the roles below it, has the right still on each of its opens.
---     kept_is             one role replaced: what `keptBy` leaves of a session
+--     kept_is             one role replaced: what `kept_by` leaves of a session
 --     unmade_is           .. by an empty one, which nobody holds then
 -- Assumes nothing.
 use Prim.Native.Nat.{ℕ, ◌<◌}

@@ -31,7 +31,7 @@ shorter a b = cond (leb a b) a b
 unfoldable pub batch_length : ℕ → ℕ → ℕ → ℕ
 batch_length numbers answers roles = shorter (numbers / row_length) (shorter roles answers)
 
--- how many requests a host hands over in `rows`, lending `old` for the answers and `oldRoles` for the roles; their log
+-- how many requests a host hands over in `rows`, lending `old` for the answers and `old_roles` for the roles; their log
 abbrev pub batch_count : List ℕ → List ℕ → List ℕ → ℕ
 batch_count rows old old_roles = batch_length (length rows) (length old) (length old_roles)
 
@@ -39,7 +39,7 @@ abbrev pub batch : List ℕ → List ℕ → List ℕ → List Request
 batch rows old old_roles = requests (batch_count rows old old_roles) rows
 
 -- What the host gets: the tables u after the log, in the place of the first bytes of `old` the answer to each request, and in the
--- place of those of `oldRoles` the role that it tells; the bytes behind them are as they were.
+-- place of those of `old_roles` the role that it tells; the bytes behind them are as they were.
 pub record RunsBatch (t : Tables) (rows old new old_roles new_roles : List ℕ) (u : Tables) : Type 0 where
   pub tables : u ≡ run t (batch rows old old_roles)
   pub answered : new ≡ answers t (batch rows old old_roles) ++ drop (batch_count rows old old_roles) old

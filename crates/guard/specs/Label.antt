@@ -17,7 +17,7 @@ abbrev pub old_width : ℕ
 old_width = 255
 
 -- The width is the largest set. The rules are given for any width: a definition that rests on it takes it, under a name that
--- ends in `In`. The same name without that ending is of the rules in force, whose width is `allCategories`.
+-- ends in `In`. The same name without that ending is of the rules in force, whose width is `all_categories`.
 unfoldable pub label_in_range_in : ℕ → Label → Bool
 label_in_range_in width a = every (leb a.grade top_grade ∷ leb a.cats width ∷ [])
 

@@ -215,7 +215,7 @@ sound_in width t =
     ∷ none_below_itself t
     ∷ [])
 
--- ---- the rules in force: the width is `allCategories`
+-- ---- the rules in force: the width is `all_categories`
 abbrev pub users_in_range : List User → Bool
 users_in_range = users_in_range_in all_categories
 

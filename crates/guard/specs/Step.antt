@@ -51,7 +51,7 @@ answers_in width = each_in width (answer_in width)
 abbrev pub roles_told_in : ℕ → Tables → List Request → List Told
 roles_told_in width = each_in width (role_told_in width)
 
--- ---- the rules in force: the width is `allCategories`
+-- ---- the rules in force: the width is `all_categories`
 abbrev pub answer : Tables → Request → ℕ
 answer = answer_in all_categories
 

@@ -1,40 +1,28 @@
--- What the isolation rule speaks of and what it shuts out, for level 1, on concrete tables and logs, by computing.
---     lower_logs_differ, lower_parts_differ      logs that differ below in kind, number and place, and leave different lower parts
---     unused_differ                              upper requests that differ in a field that they do not use ask the same
---     named_lower                                an upper request that names something lower, answered 12 in one log and 7 in the other
---     reading_down, lower_opens_differ           edition 2: an upper session reads down in one log and is refused it in the other; its
---                                                lower opens then differ, the upper parts do not
---     lower_roles_differ                         edition 2: a read down that two logs allow by different roles
---     edition_counts, ties_count                 without the edition, or the ties, in the upper part the rule would be false
---     guard_isolates                             the rule for the step by any rules: guard's isolate ..
---     openw_fails .. join_fails                  .. and five misreadings do not
--- Assumes nothing.
-use Rattle.std.specs.Prelude.{ℕ, ◌≤◌, ◌≡◌, refl, Bool, true, false, not, cond, List, [], ◌∷◌, map, eqb, get_or}
-use Rattle.std.proofs.Common.{sym, ap, true≢false, lit≤}
+-- The tables, logs and misreadings of proofs/Teeth, which shows on them what the isolation rule speaks of and what it shuts out.
+--     start, start_2, start_tied      where all logs start
+--     log_a .. log_h                  the logs
+--     Isolates                        the rule for the step by any rules
+--     misread                         a misreading: the rule of one call, with another condition at one number
+use Rattle.std.specs.Prelude.{ℕ, ◌≤◌, ◌≡◌, Bool, true, false, not, cond, List, [], ◌∷◌, map, eqb}
 use Rattle.bitset.specs.Tests.{every}
-use Rattle.bitset.specs.Sets.{has, from}
 use Rattle.guard.specs.Level.{role_level}
 use Rattle.guard.specs.Label.{all_categories, no_label}
-use Rattle.guard.specs.Tables.{edition1, edition2, no_session, no_role, no_entity, execute, has_right}
+use Rattle.guard.specs.Tables.{edition1, edition2, execute, has_right}
 use Rattle.guard.specs.Sound.{sound}
 use Rattle.guard.specs.Fresh.{fresh}
 use Rattle.worked.proofs.Morning.{morning_users}
-use Rattle.guard.proofs.Laws.Edition.{with_edition}
-use Rattle.guard.specs.Edits.{at_session, at_role, at_entity, each_role, listing, tying, tie_junior, made_role}
+use Rattle.guard.specs.Edits.{at_session, at_role, at_entity, listing, tie_junior, made_role}
 use Rattle.guard.specs.Refusals.{Refusal, ◌when◌, first}
 use Rattle.guard.specs.Conditions.{recorded_parent}
 use Rattle.guard.specs.Requests.{Rule, field_in_range_in, rule_of}
-use Rattle.guard.specs.Step.{in_ranges_in, answer_in, next_in, role_opening, role_told_in, answers, roles_told, run, run_in}
+use Rattle.guard.specs.Step.{role_opening}
 use Rattle.guard.specs.Methods.{share_request, tie_request}
-use Rattle.guard.specs.SameRequest.{same_field, same_request}
-use Rattle.isolation.specs.Upper.{upper_session, upper_role, upper, is_upper, field_upper, names_upper, upper_requests, upper_answers}
+use Rattle.isolation.specs.Upper.{upper, is_upper, names_upper, upper_requests}
 use Rattle.guard.specs.declared.Tables.{Tables}
 use Rattle.guard.specs.declared.Request.{Request}
 use Rattle.guard.specs.declared.Told.{Told}
-use Rattle.guard.specs.declared.Told.TheVariants.{By, None}
-use Rattle.guard.proofs.Compute.{computing}
+use Rattle.guard.specs.declared.Told.TheVariants.{None}
 use Rattle.isolation.specs.Log.{run_log, answers_of}
-use Rattle.isolation.specs.Proof.Rule.{isolated}
 
 -- ---- where all logs of this file start: fresh tables with object 17 in root 16 (level 1), with role 5 (level 1), which lists user 0,
 -- and with seat 0 (level 0) signed in, which holds the keepers 0 and 4 of levels 0 and 1
@@ -50,21 +38,9 @@ start = start_in edition1
 abbrev pub start_2 : Tables
 start_2 = start_in edition2
 
-pub start_sound : sound start ≡ true
-unfolding computing morning_users start_in
-start_sound = refl
-
-pub start_2_sound : sound start_2 ≡ true
-unfolding computing morning_users start_in
-start_2_sound = refl
-
 -- .. or with the keeper 4 as a junior of role 5
 unfoldable pub start_tied : Tables
 start_tied = at_role 5 (tie_junior 4) start
-
-pub start_tied_sound : sound start_tied ≡ true
-unfolding computing morning_users start_in start_tied
-start_tied_sound = refl
 
 -- one request: call, seat, role, entity, rights; the other fields are 0
 abbrev pub ask : ℕ → ℕ → ℕ → ℕ → ℕ → Request
@@ -120,28 +96,6 @@ log_a = make_1 ∷ join_0_1 ∷ login_4 ∷ take_4 ∷ join_by_4 ∷ []
 abbrev pub log_b : List Request
 log_b = login_4 ∷ openr_by_1 ∷ logout_0 ∷ take_4 ∷ join_by_4 ∷ []
 
-pub lower_logs_differ : (upper_requests 1 log_a ≡ upper_requests 1 log_b) × (upper 1 (run start log_a) ≡ upper 1 (run start log_b))
-    × (answers start log_a ≡ 0 ∷ 0 ∷ 0 ∷ 0 ∷ 0 ∷ []) × (answers start log_b ≡ 0 ∷ 5 ∷ 0 ∷ 0 ∷ 0 ∷ [])
-unfolding computing morning_users start_in run_in upper upper_session upper_role from is_upper upper_requests
-lower_logs_differ = (refl, refl, refl, refl)
-
--- .. and leaves different lower parts: seat 0 is still signed in after the first
-pub lower_parts_differ : upper 0 (run start log_a) ≡ upper 0 (run start log_b) → ⊥
-unfolding computing morning_users start_in run_in upper upper_session upper_role from
-lower_parts_differ e = true≢false (ap (λ (v : Tables). (get_or v.sessions 0 no_session).live) e)
-
--- ---- two logouts of the upper seat 4 that differ in the role, which logout does not use, ask the same; two takes do not
-pub unused_differ : (same_request (ask 1 4 0 0 0) (ask 1 4 9 0 0) ≡ true) × (same_request take_4 take_1 ≡ false)
-unfolding computing same_field same_request
-unused_differ = (refl, refl)
-
--- ---- an upper request that names the lower role 1: not listed in the one log, where it was made, not live in the other
-pub named_lower : (upper_requests 1 (make_1 ∷ login_4 ∷ take_1 ∷ []) ≡ upper_requests 1 (login_4 ∷ take_1 ∷ []))
-    × (answers start (make_1 ∷ login_4 ∷ take_1 ∷ []) ≡ 0 ∷ 0 ∷ 12 ∷ []) × (answers start (login_4 ∷ take_1 ∷ []) ≡ 0 ∷ 7 ∷ [])
-    × (names_upper 1 take_1 ≡ false)
-unfolding computing morning_users start_in is_upper upper_requests field_upper names_upper
-named_lower = (refl, refl, refl, refl)
-
 -- ---- edition 2: seat 4 takes the keeper of level 0 and reads the root of level 0. In one log seat 0 has taken the right from that
 -- role before
 abbrev pub revoke_0 : Request
@@ -159,16 +113,6 @@ log_c = login_4 ∷ take_0 ∷ openr_0 ∷ []
 abbrev pub log_d : List Request
 log_d = revoke_0 ∷ login_4 ∷ take_0 ∷ openr_0 ∷ []
 
-pub reading_down : (upper_requests 1 log_c ≡ upper_requests 1 log_d) × (upper 1 (run start_2 log_c) ≡ upper 1 (run start_2 log_d))
-    × (answers start_2 log_c ≡ 0 ∷ 0 ∷ 0 ∷ []) × (answers start_2 log_d ≡ 0 ∷ 0 ∷ 0 ∷ 13 ∷ []) × (answers start log_c ≡ 0 ∷ 0 ∷ 10 ∷ [])
-unfolding computing morning_users start_in run_in upper upper_session upper_role from is_upper upper_requests
-reading_down = (refl, refl, refl, refl, refl)
-
--- the lower parts are different: what seat 4 has open for reading
-pub lower_opens_differ : upper 0 (run start_2 log_c) ≡ upper 0 (run start_2 log_d) → ⊥
-unfolding computing morning_users start_in run_in upper upper_session upper_role from
-lower_opens_differ e = true≢false (ap (λ (v : Tables). has (get_or v.sessions 4 no_session).reading 0) e)
-
 -- ---- edition 2: seat 4 holds the keepers 0 and 4 and reads the root of level 0, which is lower. In one log it does so by role 0; in
 -- the other seat 0 has granted the right to role 4 and taken it from role 0 before. So the rule cannot compare the role there, and
 -- does not: the request names something lower
@@ -178,31 +122,15 @@ log_f = login_4 ∷ take_0 ∷ take_4 ∷ openr_0 ∷ []
 abbrev pub log_g : List Request
 log_g = ask 10 0 4 0 1 ∷ revoke_0 ∷ login_4 ∷ take_0 ∷ take_4 ∷ openr_0 ∷ []
 
-pub lower_roles_differ : (upper_requests 1 log_f ≡ upper_requests 1 log_g) × (upper 1 (run start_2 log_f) ≡ upper 1 (run start_2 log_g))
-    × (roles_told start_2 log_f ≡ None ∷ None ∷ None ∷ By 0 ∷ []) × (roles_told start_2 log_g ≡ None ∷ None ∷ None ∷ None ∷ None ∷ By 4 ∷ [])
-    × (names_upper 1 openr_0 ≡ false)
-unfolding computing morning_users start_in run_in upper upper_session upper_role from is_upper upper_requests field_upper names_upper
-lower_roles_differ = (refl, refl, refl, refl, refl)
-
 -- ---- two tables that differ in the edition alone: an upper request that names only what is upper, openr by seat 8 of root 16, is
 -- answered 10 in edition 1 and 0 in edition 2. So the rule needs the edition in the upper part
 abbrev pub log_e : List Request
 log_e = ask 0 8 0 0 0 ∷ ask 2 8 4 0 0 ∷ ask 4 8 0 16 0 ∷ []
 
-pub edition_counts : (with_edition 0 (upper 1 start) ≡ with_edition 0 (upper 1 start_2))
-    × (upper_answers 1 start log_e ≡ (0, None) ∷ (0, None) ∷ (10, None) ∷ []) × (upper_answers 1 start_2 log_e ≡ (0, None) ∷ (0, None) ∷ (0, By 4) ∷ [])
-unfolding computing morning_users start_in upper upper_session upper_role from is_upper field_upper names_upper upper_answers
-edition_counts = (refl, refl, refl)
-
 -- ---- two tables that differ in a tie between upper roles alone: openr by seat 4 of root 16 is answered 0 where the keeper 4 is a junior
 -- of role 5, which the seat holds, and 13 where it is not. So the rule needs the ties in the upper part
 abbrev pub log_h : List Request
 log_h = login_4 ∷ ask 2 4 5 0 0 ∷ ask 4 4 0 16 0 ∷ []
-
-pub ties_count : (each_role (tying 0) (upper 1 start_tied) ≡ each_role (tying 0) (upper 1 start))
-    × (upper_answers 1 start_tied log_h ≡ (0, None) ∷ (0, None) ∷ (0, By 5) ∷ []) × (upper_answers 1 start log_h ≡ (0, None) ∷ (0, None) ∷ (13, None) ∷ [])
-unfolding computing morning_users start_in start_tied upper upper_session upper_role from is_upper field_upper names_upper upper_answers
-ties_count = (refl, refl, refl)
 
 -- ---- the step by other rules, and the isolation rule for it
 module _ (rule : Request → Rule) where
@@ -221,10 +149,6 @@ module _ (rule : Request → Rule) where
       → (a b : List Request) → upper_requests L a ≡ upper_requests L b
       → (upper L (run_log next_by t a) ≡ upper L (run_log next_by u b))
       × (answers_of next_by answer_by (is_upper L) (names_upper L) t a ≡ answers_of next_by answer_by (is_upper L) (names_upper L) u b)
-
-pub guard_isolates : Isolates rule_of
-unfolding number_by answer_by next_by answer_in next_in role_told_in in_ranges_in
-guard_isolates L low high = isolated L
 
 -- ---- a misreading: the rule of one call, with another condition at one number
 unfoldable pub instead : ℕ → Bool → List Refusal → List Refusal
@@ -256,40 +180,3 @@ share_without_10 = misread 16 10 (λ t q. false)
 -- join without asking that the seat is not below the senior: 10 is that the two differ in level, alone
 abbrev pub join_from_below : Request → Rule
 join_from_below = misread 17 10 (λ t q. not (eqb (role_level q.junior) (role_level q.role)))
-
--- what the lower seat 0 asks below, guard refuses
-pub refused : answers start (openw_16 ∷ grant_16 ∷ delete_17 ∷ share_16 ∷ join_5_4 ∷ []) ≡ 10 ∷ 10 ∷ 13 ∷ 10 ∷ 10 ∷ []
-unfolding computing morning_users start_in
-refused = refl
-
--- two logs of no upper requests but those of `after`, the first of which begins with q: what a test tells of the upper
--- parts at their ends
-module _ (rule : Request → Rule) (isolates : Isolates rule) (q : Request) (after : List Request) where
-  told : (P : Tables → Bool) → upper_requests 1 (q ∷ after) ≡ upper_requests 1 after
-      → P (upper 1 (run_log (next_by rule) start (q ∷ after))) ≡ P (upper 1 (run_log (next_by rule) start after))
-  told P same = ap P (isolates 1 (lit≤ tt) (lit≤ tt) start start start_sound start_sound refl (q ∷ after) after same).0
-
--- seat 0 opens root 16 for writing, the tables are not sound from then on, and seat 4 cannot sign in
-pub openw_fails : Isolates openw_without_10 → ⊥
-unfolding computing morning_users start_in upper upper_session upper_role from is_upper upper_requests run_log next_by number_by misread instead
-openw_fails h = true≢false (sym (told openw_without_10 h openw_16 (login_4 ∷ []) (λ v. (get_or v.sessions 0 no_session).live) refl))
-
--- seat 0 gives the upper role 8 a right on root 16
-pub grant_fails : Isolates grant_without_10 → ⊥
-unfolding computing morning_users start_in upper upper_session upper_role from is_upper upper_requests run_log next_by number_by misread instead
-grant_fails h = true≢false (told grant_without_10 h grant_16 [] (λ v. has (get_or v.roles 4 no_role).reads 0) refl)
-
--- seat 0 deletes object 17
-pub delete_fails : Isolates delete_unopened → ⊥
-unfolding computing morning_users start_in upper upper_session upper_role from is_upper upper_requests run_log next_by number_by misread instead
-delete_fails h = true≢false (sym (told delete_unopened h delete_17 [] (λ v. (get_or v.entities 1 no_entity).live) refl))
-
--- seat 0 shares root 16, on which it has own by the keeper of level 1
-pub share_fails : Isolates share_without_10 → ⊥
-unfolding computing morning_users start_in upper upper_session upper_role from is_upper upper_requests run_log next_by number_by misread instead
-share_fails h = true≢false (told share_without_10 h share_16 [] (λ v. eqb (get_or v.entities 0 no_entity).shared 1) refl)
-
--- seat 0 ties the keeper 4 to role 5
-pub join_fails : Isolates join_from_below → ⊥
-unfolding computing morning_users start_in upper upper_session upper_role from is_upper upper_requests run_log next_by number_by misread instead
-join_fails h = true≢false (told join_from_below h join_5_4 [] (λ v. has (get_or v.roles 1 no_role).juniors 0) refl)

@@ -1,5 +1,5 @@
 -- The upper part for a level L, in the paper's words. `upper` (Upper) cuts lists and sets off at L and compares them by
--- one equation; here the same stands sentence by sentence. That the two say the same is `upper-iff` (Proof/UpperInWords).
+-- one equation; here the same stands sentence by sentence. That the two say the same is `upper_iff` (proofs/OneRequest/UpperInWords).
 use Rattle.std.specs.Prelude.{ℕ, ◌≤◌, ◌≡◌, length}
 use Rattle.guard.specs.Level.{session_count, role_count, entity_count, session_level, role_level, entity_level}
 use Rattle.guard.specs.Tables.{session_at, role_at, entity_at, holds, is_reading, is_writing, lists, is_junior, rights_on}

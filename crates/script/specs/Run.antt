@@ -1,6 +1,6 @@
 -- A run of the program from its middle: what a runner has yet to print for the input that is left. The contracts of the
 -- runner and the statements on whole runs (Theorem) are put in these words; `rest` of the runner that nothing has been done
--- with is `report` (`rest-unbegun`, Proof/Sessions).
+-- with is `report` (`rest_unbegun`, Proof/Sessions).
 use Rattle.std.specs.Prelude.{ℕ, ◌+◌, ◌-◌, ◌≤◌, ◌<◌, ◌≡◌, Bool, true, false, cond, List, [], ◌∷◌, ◌++◌, eqb, leb, ltb, length, take, drop, replicate}
 use Rattle.guard.specs.declared.Tables.{Tables}
 use Rattle.script.specs.Text.{lines, values, after}
@@ -73,7 +73,7 @@ pub record Fits (header : List (List ℕ)) (r : Runner) : Type 0 where
   pub knows : r.phase ≡ at_lines → Ordered header r.at
 
 -- the run is over, after a bad first line or with the last line that is read: nothing is left to tell, whatever input
--- follows (`over-silent`, Proof/Silent)
+-- follows (`over_silent`, Proof/Silent)
 unfoldable pub is_over : Runner → Bool
 is_over r = cond (eqb r.phase at_lines) (leb last_line r.done) (ltb at_lines r.phase)
 

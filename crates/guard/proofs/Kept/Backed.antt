@@ -2,7 +2,7 @@
 -- are not backed any more; and where an entity goes, its opens go too.
 --     KeepsBacked                           a rule after which each open is backed
 --     session_backed, more_backed           one session replaced; roles replaced that give no less
---     backs-login .. backs-unjoin           the rules
+--     backs_login .. backs_unjoin           the rules
 -- Assumes nothing.
 use Prim.Native.Nat.{ℕ, ◌<◌}
 use mathlib.Core.Path.{◌≡◌, refl, sym, ◌∙◌}
@@ -48,27 +48,27 @@ nothing_backed roles s r w =
       writing = λ e l m. absurd (clash _ (rw w at m) (has_none e));
     }
 
-pub backs-login : {width : ℕ} → KeepsBacked width login
+pub backs_login : {width : ℕ} → KeepsBacked width login
 unfolding login logged_in
-backs-login t q d = session_backed t q.seat _ (formed_e t d.is_sound) (backed_e _ t d.is_sound) (λ l old. nothing_backed _ _ refl refl)
+backs_login t q d = session_backed t q.seat _ (formed_e t d.is_sound) (backed_e _ t d.is_sound) (λ l old. nothing_backed _ _ refl refl)
 
-pub backs-logout : {width : ℕ} → KeepsBacked width logout
+pub backs_logout : {width : ℕ} → KeepsBacked width logout
 unfolding logout
-backs-logout t q d = session_backed t q.seat _ (formed_e t d.is_sound) (backed_e _ t d.is_sound) (λ l old. nothing_backed _ _ refl refl)
+backs_logout t q d = session_backed t q.seat _ (formed_e t d.is_sound) (backed_e _ t d.is_sound) (λ l old. nothing_backed _ _ refl refl)
 
 -- with a role more
-pub backs-take : {width : ℕ} → KeepsBacked width take
+pub backs_take : {width : ℕ} → KeepsBacked width take
 unfolding take take_role
-backs-take t q d =
+backs_take t q d =
     session_backed t q.seat _ (formed_e t d.is_sound) (backed_e _ t d.is_sound) (λ l old.
     record { reading = λ e k m. more (session_at t q.seat).roles read e (old.reading e k m); writing = λ e k m. more (session_at t q.seat).roles write e (old.writing e k m) })
   where
     more : (held right e : ℕ) → right_by t.roles held right e ≡ true → right_by t.roles (with held q.role) right e ≡ true
     more held right e = right_more t.roles t.roles held (with held q.role) right e (λ r k on gives. (has_with_old held q.role r on, gives))
 
-pub backs-drop : {width : ℕ} → KeepsBacked width drop
+pub backs_drop : {width : ℕ} → KeepsBacked width drop
 unfolding drop
-backs-drop t q d = ended_backed _
+backs_drop t q d = ended_backed _
 
 -- with an entity more, on which it has the right
 opened_backed : (t : Tables) (x right set e : ℕ) → ((i : ℕ) → i < 64 → has set i ≡ true → right_by t.roles (session_at t x).roles right i ≡ true)
@@ -79,23 +79,23 @@ opened_backed t x right set e old new i l m = go (ℕ_discrete i e)
     go (yes same) = rw same (sym (right_by_lem t x right e) ∙ new)
     go (no ne) = old i l (sym (has_with_other set e i ne) ∙ m)
 
-pub backs-openr : {width : ℕ} → KeepsBacked width openr
+pub backs_openr : {width : ℕ} → KeepsBacked width openr
 unfolding openr open_reading cannot_open
-backs-openr t q d =
+backs_openr t q d =
     let right = of_not_false _ (either_no_l _ _ (unmet _ refl d.none 13)) in
     session_backed t q.seat _ (formed_e t d.is_sound) (backed_e _ t d.is_sound) (λ l old.
     record { reading = opened_backed t q.seat read _ q.entity old.reading right; writing = old.writing })
 
-pub backs-openw : {width : ℕ} → KeepsBacked width openw
+pub backs_openw : {width : ℕ} → KeepsBacked width openw
 unfolding openw open_writing cannot_open
-backs-openw t q d =
+backs_openw t q d =
     let right = of_not_false _ (either_no_l _ _ (unmet _ refl d.none 13)) in
     session_backed t q.seat _ (formed_e t d.is_sound) (backed_e _ t d.is_sound) (λ l old.
     record { reading = old.reading; writing = opened_backed t q.seat write _ q.entity old.writing right })
 
-pub backs-close : {width : ℕ} → KeepsBacked width close
+pub backs_close : {width : ℕ} → KeepsBacked width close
 unfolding close close_both
-backs-close t q d =
+backs_close t q d =
     session_backed t q.seat _ (formed_e t d.is_sound) (backed_e _ t d.is_sound) (λ l old.
     record {
       reading = λ e k m. old.reading e k (has_without _ q.entity e m).0;
@@ -152,31 +152,31 @@ no_less_added : (e n : ℕ) (p : Role) → NoLess p (add_rights e n p)
 unfolding add_rights set_rights
 no_less_added e n p = record { juniors = λ j m. m; reads = added e n 1 _ p (contains_read p e); writes = added e n 2 _ p (contains_write p e) }
 
-pub backs-create : {width : ℕ} → KeepsBacked width create
+pub backs_create : {width : ℕ} → KeepsBacked width create
 unfolding create at_entity
-backs-create t q d =
+backs_create t q d =
     more_backed _ q.role _ (formed_e t d.is_sound).many_roles (backed_e _ t d.is_sound) (λ l. no_less_added q.entity _ _)
 
-pub backs-grant : {width : ℕ} → KeepsBacked width grant
+pub backs_grant : {width : ℕ} → KeepsBacked width grant
 unfolding grant
-backs-grant t q d = more_backed t q.role _ (formed_e t d.is_sound).many_roles (backed_e _ t d.is_sound) (λ l. no_less_added q.entity _ _)
+backs_grant t q d = more_backed t q.role _ (formed_e t d.is_sound).many_roles (backed_e _ t d.is_sound) (λ l. no_less_added q.entity _ _)
 
-pub backs-revoke : {width : ℕ} → KeepsBacked width revoke
+pub backs_revoke : {width : ℕ} → KeepsBacked width revoke
 unfolding revoke
-backs-revoke t q d = ended_backed _
+backs_revoke t q d = ended_backed _
 
-pub backs-list : {width : ℕ} → KeepsBacked width list
+pub backs_list : {width : ℕ} → KeepsBacked width list
 unfolding list list_user
-backs-list t q d = more_backed t q.role _ (formed_e t d.is_sound).many_roles (backed_e _ t d.is_sound) (λ l. record { juniors = λ j m. m; reads = λ e m. m; writes = λ e m. m })
+backs_list t q d = more_backed t q.role _ (formed_e t d.is_sound).many_roles (backed_e _ t d.is_sound) (λ l. record { juniors = λ j m. m; reads = λ e m. m; writes = λ e m. m })
 
-pub backs-unlist : {width : ℕ} → KeepsBacked width unlist
+pub backs_unlist : {width : ℕ} → KeepsBacked width unlist
 unfolding unlist unlist_user
-backs-unlist t q d = more_backed t q.role _ (formed_e t d.is_sound).many_roles (backed_e _ t d.is_sound) (λ l. record { juniors = λ j m. m; reads = λ e m. m; writes = λ e m. m })
+backs_unlist t q d = more_backed t q.role _ (formed_e t d.is_sound).many_roles (backed_e _ t d.is_sound) (λ l. record { juniors = λ j m. m; reads = λ e m. m; writes = λ e m. m })
 
 -- a role that was dead gave nothing
-pub backs-make : {width : ℕ} → KeepsBacked width make
+pub backs_make : {width : ℕ} → KeepsBacked width make
 unfolding make
-backs-make t q d =
+backs_make t q d =
     let ok = formed_e t d.is_sound in
     let dead = unmet _ refl d.none 8 in
     more_backed t q.role _ ok.many_roles (backed_e _ t d.is_sound) (λ l.
@@ -187,25 +187,25 @@ backs-make t q d =
       writes = λ e m. absurd (clash _ (rw (old.writes.none dead) at m) (has_none e));
     })
 
-pub backs-unmake : {width : ℕ} → KeepsBacked width unmake
+pub backs_unmake : {width : ℕ} → KeepsBacked width unmake
 unfolding unmake
-backs-unmake t q d = ended_backed _
+backs_unmake t q d = ended_backed _
 
 -- ---- a tie comes, or goes
-pub backs-join : {width : ℕ} → KeepsBacked width joining
+pub backs_join : {width : ℕ} → KeepsBacked width joining
 unfolding joining tie_junior
-backs-join t q d =
+backs_join t q d =
     more_backed t q.role _ (formed_e t d.is_sound).many_roles (backed_e _ t d.is_sound) (λ l.
     record { juniors = has_with_old (role_at t q.role).juniors q.junior; reads = λ e m. m; writes = λ e m. m })
 
-pub backs-unjoin : {width : ℕ} → KeepsBacked width unjoin
+pub backs_unjoin : {width : ℕ} → KeepsBacked width unjoin
 unfolding unjoin
-backs-unjoin t q d = ended_backed _
+backs_unjoin t q d = ended_backed _
 
 -- ---- an entity goes, with the opens of it and the rights on it; what is open beside it keeps its rights
-pub backs-delete : {width : ℕ} → KeepsBacked width delete
+pub backs_delete : {width : ℕ} → KeepsBacked width delete
 unfolding delete at_entity each_role each_session close_both clear_rights set_rights
-backs-delete t q d =
+backs_delete t q d =
     let ok = formed_e t d.is_sound in
     let backs = backed_e _ t d.is_sound in
     map_each (λ s r. BackedBy (map (clear_rights q.entity) t.roles) r) (close_both q.entity) 16 t.sessions no_session ok.many_sessions (λ s l.
@@ -233,10 +233,10 @@ backs-delete t q d =
     )
 
 -- ---- an entity changes
-pub backs-rename : {width : ℕ} → KeepsBacked width rename
+pub backs_rename : {width : ℕ} → KeepsBacked width rename
 unfolding rename at_entity
-backs-rename t q d = backed_e _ t d.is_sound
+backs_rename t q d = backed_e _ t d.is_sound
 
-pub backs-share : {width : ℕ} → KeepsBacked width share
+pub backs_share : {width : ℕ} → KeepsBacked width share
 unfolding share at_entity
-backs-share t q d = backed_e _ t d.is_sound
+backs_share t q d = backed_e _ t d.is_sound

@@ -3,7 +3,7 @@
 --     new_chain               the new entity's chain ends at the root: no ancestor of its parent is dead, so their line stays,
 --                             and it ends one step earlier
 --     made_formed              the edit
---     keeps-create            the rule
+--     keeps_create            the rule
 -- Assumes nothing.
 use Prim.Native.Nat.{ℕ, zero, suc, ◌<◌}
 use mathlib.Core.Path.{◌≡◌, refl, ap, sym, ◌∙◌}
@@ -91,9 +91,9 @@ made_formed width t e n ok l dead live range mark name fits free =
       );
     })
 
-pub keeps-create : {width : ℕ} → Keeps width create
+pub keeps_create : {width : ℕ} → Keeps width create
 unfolding create created create_out_of_level at_entity add_rights set_rights field_in_range_in entity_in_range_in is_mark_allowed
-keeps-create t q d =
+keeps_create t q d =
     let no = unmet _ refl d.none in
     let range = every_at _ d.ranges in
     let l = ltb-true _ _ (range 1) in

@@ -2,7 +2,7 @@
 --     barren                              an entity without children that is no root is no live entity's parent
 --     emptied_formed                       the edit, of an entity that nobody uses
 --     cleared_formed, cleared_unused       what makes it so
---     keeps-delete                        the rule
+--     keeps_delete                        the rule
 -- Assumes nothing.
 use Prim.Native.Nat.{ℕ, ◌<◌}
 use mathlib.Core.Path.{◌≡◌, refl, ap, sym, ◌∙◌}
@@ -88,9 +88,9 @@ module _ (width : ℕ) (t : Tables) (e : ℕ) (ok : Formed width t) (l : e < 64)
       }
 
 -- clearing first and emptying then is the same as the rule's order
-pub keeps-delete : {width : ℕ} → Keeps width delete
+pub keeps_delete : {width : ℕ} → Keeps width delete
 unfolding delete at_entity each_role each_session field_in_range_in
-keeps-delete t q d =
+keeps_delete t q d =
     let no = unmet _ refl d.none in
     let l = ltb-true _ _ (every_at _ d.ranges 1) in
     emptied_formed _ (cleared _ t q.entity (formed_e t d.is_sound) l) q.entity (cleared_formed _ t q.entity (formed_e t d.is_sound) l) (no 6)

@@ -1,7 +1,7 @@
 -- Tables stay formed where an entity gets another name, which no other child of its parent has: rename.
 --     free_name               a name that is not taken is no child's
 --     renamed_formed           the edit
---     keeps-rename            the rule
+--     keeps_rename            the rule
 -- Assumes nothing.
 use Prim.Native.Nat.{ℕ, ◌<◌}
 use mathlib.Core.Path.{◌≡◌, refl}
@@ -41,9 +41,9 @@ renamed_formed width t e name ok l other live low high free =
     (every_i _ (range 0, (range 1, (high, (range 3, (range 4, tt))))))
     (λ root. absurd (clash _ root other)) old.mark (λ _. (low, λ f k ne. free f k))
 
-pub keeps-rename : {width : ℕ} → Keeps width rename
+pub keeps_rename : {width : ℕ} → Keeps width rename
 unfolding rename field_in_range_in
-keeps-rename t q d =
+keeps_rename t q d =
     let no = unmet _ refl d.none in
     let name = every_at _ d.ranges 2 in
     renamed_formed _ t q.entity q.name (formed_e t d.is_sound) (ltb-true _ _ (every_at _ d.ranges 1)) (no 6) (of_not_false _ (no 7))

@@ -3,7 +3,7 @@
 --     listed_ok, empty_ok                     a role with other users listed, or with nothing
 --     granted_ok, fewer_ok                    .. with other rights on one entity: any that it may have, or none that it has not
 --     role_kept, each_role_kept               the edits, of one role and of each
---     keeps-grant .. keeps-unjoin             the rules; revoked_formed, unmade_formed and untied_formed before opens end
+--     keeps_grant .. keeps_unjoin             the rules; revoked_formed, unmade_formed and untied_formed before opens end
 -- Assumes nothing.
 use Prim.Native.Nat.{ℕ, ◌<◌}
 use mathlib.Core.Path.{◌≡◌, refl, sym, ap, ◌∙◌}
@@ -143,9 +143,9 @@ each_role_kept width t f ok live juniors new =
     (each_ties t.roles f ok.many_roles ok.ties live juniors)
 
 -- ---- the rules
-pub keeps-grant : {width : ℕ} → Keeps width grant
+pub keeps_grant : {width : ℕ} → Keeps width grant
 unfolding grant grant_below add_rights set_rights field_in_range_in
-keeps-grant t q d =
+keeps_grant t q d =
     let no = unmet _ refl d.none in
     let level = not_below (role_level q.role) (entity_level q.entity) (either_no_r _ _ (no 10)) in
     let can : grantable q.role q.entity (entity_at t q.entity) ≡ true =
@@ -162,28 +162,28 @@ revoked_formed t q d =
     (λ l old. fewer_ok _ _ _ old q.entity _ (contains_minus _ q.rights))
     (ties_kept t q.role _ (formed_e t d.is_sound) refl (λ live. live))
 
-pub keeps-revoke : {width : ℕ} → Keeps width revoke
+pub keeps_revoke : {width : ℕ} → Keeps width revoke
 unfolding revoke
-keeps-revoke t q d = ended_kept _ (revoked_formed t q d)
+keeps_revoke t q d = ended_kept _ (revoked_formed t q d)
 
-pub keeps-list : {width : ℕ} → Keeps width list
+pub keeps_list : {width : ℕ} → Keeps width list
 unfolding list list_user field_in_range_in
-keeps-list t q d =
+keeps_list t q d =
     role_kept _ t q.role _ (formed_e t d.is_sound) (λ s l m live. live) (λ l old.
     listed_ok _ _ _ old _
     (with_ok _ _ _ _ q.user old.users (of_not_false _ (unmet _ refl d.none 7)) (ltb-true _ _ (every_at _ d.ranges 2)) refl))
     (ties_kept t q.role _ (formed_e t d.is_sound) refl (λ live. live))
 
-pub keeps-unlist : {width : ℕ} → Keeps width unlist
+pub keeps_unlist : {width : ℕ} → Keeps width unlist
 unfolding unlist unlist_user
-keeps-unlist t q d =
+keeps_unlist t q d =
     role_kept _ t q.role _ (formed_e t d.is_sound) (λ s l m live. live)
     (λ l old. listed_ok _ _ _ old _ (without_ok _ _ _ _ q.user old.users))
     (ties_kept t q.role _ (formed_e t d.is_sound) refl (λ live. live))
 
-pub keeps-make : {width : ℕ} → Keeps width make
+pub keeps_make : {width : ℕ} → Keeps width make
 unfolding make
-keeps-make t q d =
+keeps_make t q d =
     role_kept _ t q.role _ (formed_e t d.is_sound) (λ s l m live. refl) (λ l old. empty_ok _ _ true (λ k. refl))
     (role_ties t.roles q.role _ (formed_e t d.is_sound).many_roles (formed_e t d.is_sound).ties (λ j l h. absurd (clash _ h (has_none j))) (λ k l way live. refl))
 
@@ -206,14 +206,14 @@ unmade_formed t q d =
         map_each (λ s a. has a.roles q.role ≡ false) (drop_role q.role) 16 t.sessions no_session (formed_e t d.is_sound).many_sessions
         (λ s l. has_without_same _ q.role)
 
-pub keeps-unmake : {width : ℕ} → Keeps width unmake
+pub keeps_unmake : {width : ℕ} → Keeps width unmake
 unfolding unmake
-keeps-unmake t q d = ended_kept _ (unmade_formed t q d)
+keeps_unmake t q d = ended_kept _ (unmade_formed t q d)
 
 -- ---- ties
-pub keeps-join : {width : ℕ} → Keeps width join
+pub keeps_join : {width : ℕ} → Keeps width join
 unfolding join tie_junior tie_out_of_level closes_cycle field_in_range_in
-keeps-join t q d =
+keeps_join t q d =
     let ok = formed_e t d.is_sound in
     let no = unmet _ refl d.none in
     let senior = ltb-true _ _ (every_at _ d.ranges 1) in
@@ -233,6 +233,6 @@ untied_formed t q d =
     (λ l old. tied_ok _ _ _ old _ (without_ok _ _ _ _ q.junior old.juniors))
     (role_ties t.roles q.role _ ok.many_roles ok.ties (λ j l h. (has_without _ q.junior j h).0) (λ k l way live. live))
 
-pub keeps-unjoin : {width : ℕ} → Keeps width unjoin
+pub keeps_unjoin : {width : ℕ} → Keeps width unjoin
 unfolding unjoin
-keeps-unjoin t q d = ended_kept _ (untied_formed t q d)
+keeps_unjoin t q d = ended_kept _ (untied_formed t q d)

@@ -4,7 +4,7 @@
 --     dropped_ok, closed_ok                   .. with one less of them
 --     session_kept, each_session_kept         the edits, of one session and of each
 --     ended_kept                              .. and the end of the opens that are no longer backed
---     keeps-login .. keeps-close              the rules
+--     keeps_login .. keeps_close              the rules
 -- Assumes nothing.
 use Prim.Native.Nat.{ℕ, ◌<◌}
 use mathlib.Core.Path.{◌≡◌, refl, ◌∙◌}
@@ -114,32 +114,32 @@ not_below a b h = le-leb b a (ltb-false a b h)
 every_no : (a b : Bool) → a ≡ true → every (a ∷ b ∷ []) ≡ false → b ≡ false
 every_no a b h k = is_false b (λ m. clash _ (every_i _ (h, (m, tt))) k)
 
-pub keeps-login : {width : ℕ} → Keeps width login
+pub keeps_login : {width : ℕ} → Keeps width login
 unfolding login logged_in field_in_range_in
-keeps-login t q d =
+keeps_login t q d =
     session_kept t q.seat _ (formed_e t d.is_sound)
     (λ l old. nothing_ok _ _ _ true q.user (label_asked q) (ltb-true _ _ (every_at _ d.ranges 1)) (every_at _ d.ranges 2) (λ dead. absurd (clash true refl dead)))
 
-pub keeps-logout : {width : ℕ} → Keeps width logout
+pub keeps_logout : {width : ℕ} → Keeps width logout
 unfolding logout same_label every
-keeps-logout t q d =
+keeps_logout t q d =
     session_kept t q.seat _ (formed_e t d.is_sound) (λ l old. nothing_ok _ _ _ false 0 no_label (omega arith) (none_in_range _) (λ dead. (refl, refl)))
 
-pub keeps-take : {width : ℕ} → Keeps width take
+pub keeps_take : {width : ℕ} → Keeps width take
 unfolding take take_role field_in_range_in
-keeps-take t q d =
+keeps_take t q d =
     let no = unmet _ refl d.none in
     session_kept t q.seat _ (formed_e t d.is_sound) (λ l old.
     held_ok _ _ _ _ old _
     (with_ok _ _ _ _ q.role old.held (of_not_false _ (no 5)) (ltb-true _ _ (every_at _ d.ranges 1)) (of_not_false _ (no 7))))
 
-pub keeps-drop : {width : ℕ} → Keeps width drop
+pub keeps_drop : {width : ℕ} → Keeps width drop
 unfolding drop
-keeps-drop t q d = ended_kept _ (session_kept t q.seat _ (formed_e t d.is_sound) (λ l old. dropped_ok _ _ _ _ old q.role))
+keeps_drop t q d = ended_kept _ (session_kept t q.seat _ (formed_e t d.is_sound) (λ l old. dropped_ok _ _ _ _ old q.role))
 
-pub keeps-openr : {width : ℕ} → Keeps width openr
+pub keeps_openr : {width : ℕ} → Keeps width openr
 unfolding openr open_reading field_in_range_in
-keeps-openr t q d =
+keeps_openr t q d =
     let no = unmet _ refl d.none in
     let level = implies_i _ _ (λ first. not_below (entity_level q.entity) (session_level q.seat) (every_no _ _ first (no 10))) in
     session_kept t q.seat _ (formed_e t d.is_sound) (λ l old.
@@ -148,9 +148,9 @@ keeps-openr t q d =
     (every_i _ (of_not_false _ (no 7), (level, (of_not_false _ (no 11), tt)))))
     old.writing)
 
-pub keeps-openw : {width : ℕ} → Keeps width openw
+pub keeps_openw : {width : ℕ} → Keeps width openw
 unfolding openw open_writing field_in_range_in
-keeps-openw t q d =
+keeps_openw t q d =
     let no = unmet _ refl d.none in
     let level = not_below (session_level q.seat) (entity_level q.entity) (no 10) in
     session_kept t q.seat _ (formed_e t d.is_sound) (λ l old.
@@ -159,6 +159,6 @@ keeps-openw t q d =
     (with_ok _ _ _ _ q.entity old.writing (of_not_false _ (no 5)) (ltb-true _ _ (every_at _ d.ranges 1))
     (every_i _ (of_not_false _ (no 7), (level, (of_not_false _ (no 11), tt))))))
 
-pub keeps-close : {width : ℕ} → Keeps width close
+pub keeps_close : {width : ℕ} → Keeps width close
 unfolding close
-keeps-close t q d = session_kept t q.seat _ (formed_e t d.is_sound) (λ l old. closed_ok _ _ _ _ old q.entity)
+keeps_close t q d = session_kept t q.seat _ (formed_e t d.is_sound) (λ l old. closed_ok _ _ _ _ old q.entity)

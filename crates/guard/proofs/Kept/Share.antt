@@ -1,6 +1,6 @@
 -- Tables stay formed where a container gets another mark: share.
 --     marked_formed            the edit
---     keeps-share             the rule
+--     keeps_share             the rule
 -- Assumes nothing.
 use Prim.Native.Nat.{ℕ, ◌<◌}
 use mathlib.Core.Path.{◌≡◌, refl}
@@ -29,9 +29,9 @@ marked_formed width t e mark ok l live container high =
     old.root (implies_i _ _ (λ object. absurd (clash _ object container)))
     (λ other. let place = old.placed live other in (place.named, place.own_name))
 
-pub keeps-share : {width : ℕ} → Keeps width share
+pub keeps_share : {width : ℕ} → Keeps width share
 unfolding share field_in_range_in
-keeps-share t q d =
+keeps_share t q d =
     let no = unmet _ refl d.none in
     let range = every_at _ d.ranges in
     marked_formed _ t q.entity q.shared (formed_e t d.is_sound) (ltb-true _ _ (range 1)) (of_not_false _ (no 7)) (no 9) (range 2)

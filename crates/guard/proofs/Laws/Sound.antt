@@ -1,5 +1,5 @@
 -- Sound tables, read as facts (Facts), and with the paper's own chain of parents (Chains).
---     formed_e, backed_e, sound_i     the test `soundIn` says this, and no more
+--     formed_e, backed_e, sound_i     the test `sound_in` says this, and no more
 --     writing_level, parent_level     two of the facts, of the tables
 -- Assumes nothing.
 use Prim.Native.Nat.{ℕ, ◌^◌, ◌≤◌, ◌<◌}

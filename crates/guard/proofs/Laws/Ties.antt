@@ -2,7 +2,7 @@
 --     below_transitive, below_irreflexive      in sound tables below is an order
 --     join_gives                               joining never takes a right away
 --     unjoin_takes                             unjoining never gives one
--- A role without juniors has what its record says: `untied-has` (Juniors). "To any depth": `below-iff` (Below).
+-- A role without juniors has what its record says: `untied_has` (Juniors). "To any depth": `below_iff` (Below).
 -- Assumes nothing.
 use Prim.Native.Nat.{ℕ, ◌<◌}
 use mathlib.Core.Path.{◌≡◌, sym, ◌∙◌}

@@ -1,4 +1,4 @@
--- The ranges in force: the width is `allCategories`.
+-- The ranges in force: the width is `all_categories`.
 use Rattle.std.specs.Prelude.{Bool}
 use Rattle.guard.specs.Label.{all_categories}
 use Rattle.guard.specs.Sound.{user_in_range_in, session_in_range_in, entity_in_range_in, fields_in_range_in}

@@ -1,7 +1,7 @@
 -- A host's calls, one after another.
 --     session_law       what was left to tell is what was told, and what is left now
 --     told_all          .. so where nothing is left to tell, all has been told
---     ended, stopped    Theorem's `whole-report` and `early-report`
+--     ended, stopped    Theorem's `whole_report` and `early_report`
 -- Assumes nothing.
 use Rattle.std.specs.Prelude.{ℕ, ◌-◌, ◌≤◌, ◌≡◌, refl, true, List, [], ◌++◌, length, take, drop}
 use Rattle.std.proofs.Common.{ap, sym, ◌∙◌, true≢false, append-nil, arith}

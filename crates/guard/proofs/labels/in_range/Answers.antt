@@ -1,4 +1,4 @@
--- `labels::in_range` is `labelInRange`: the categories of a `u16` are in range. Assumes nothing.
+-- `labels::in_range` is `label_in_range`: the categories of a `u16` are in range. Assumes nothing.
 use native.Mathlib.Omega.{arith}
 use mathlib.Core.Bool.{and-true}
 use borrow.Author.Tests.{le-leb}

@@ -1,4 +1,4 @@
--- `climbs` walks the chain that `climbsBy` says. Assumes nothing.
+-- `climbs` walks the chain that `climbs_by` says. Assumes nothing.
 use mathlib.Core.Path.{◌≡◌, sym, ◌∙◌}
 use native.Mathlib.Omega.{arith}
 use borrow.Author.Tests.{eq-eqb, ne_eqb}

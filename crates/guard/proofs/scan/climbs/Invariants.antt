@@ -1,4 +1,4 @@
--- `climbs` walks the chain that `climbsBy` says. Assumes nothing.
+-- `climbs` walks the chain that `climbs_by` says. Assumes nothing.
 use Prim.Native.Nat.{◌≤◌, ◌<◌}
 use mathlib.Core.Path.{◌≡◌}
 use Rattle.bitset.specs.Sets.{has}

@@ -1,4 +1,4 @@
--- `guard::sound::record::edition_in_range` is `editionInRange`. Assumes nothing.
+-- `guard::sound::record::edition_in_range` is `edition_in_range`. Assumes nothing.
 use mathlib.Core.Bool.{and-true}
 use Rattle.bitset.specs.Tests.{every}
 use Rattle.guard.specs.Sound.{edition_in_range}

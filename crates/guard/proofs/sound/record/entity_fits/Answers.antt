@@ -1,4 +1,4 @@
--- `guard::sound::record::entity_fits` is `entityFits`: a mark that is at most a kind in its range is in its own, and 0 where the kind
+-- `guard::sound::record::entity_fits` is `entity_fits`: a mark that is at most a kind in its range is in its own, and 0 where the kind
 -- is; the name of a `u16` is in range. Assumes nothing.
 use native.Mathlib.Omega.{arith}
 use borrow.Author.Tests.{le-leb}

@@ -1,4 +1,4 @@
--- `guard::sound::record::is_empty_entity` is `isEmptyEntity`. Assumes nothing.
+-- `guard::sound::record::is_empty_entity` is `is_empty_entity`. Assumes nothing.
 use mathlib.Core.Bool.{and-true}
 use Rattle.bitset.specs.Tests.{every}
 use Rattle.guard.specs.Sound.{is_empty_entity}

@@ -1,4 +1,4 @@
--- `guard::sound::record::is_empty_session` is `isEmptySession`. Assumes nothing.
+-- `guard::sound::record::is_empty_session` is `is_empty_session`. Assumes nothing.
 use mathlib.Core.Bool.{and-true}
 use Rattle.bitset.specs.Tests.{every}
 use Rattle.guard.specs.Sound.{is_empty_session}

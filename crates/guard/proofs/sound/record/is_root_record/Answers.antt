@@ -1,4 +1,4 @@
--- `guard::sound::record::is_root_record` is `isRootRecord`. Assumes nothing.
+-- `guard::sound::record::is_root_record` is `is_root_record`. Assumes nothing.
 use mathlib.Core.Bool.{and-true}
 use Rattle.bitset.specs.Tests.{every}
 use Rattle.guard.specs.Sound.{is_root_record}

@@ -1,4 +1,4 @@
--- `guard::sound::record::session_in_range` is `sessionInRange`: the sets are of their words' widths. Assumes nothing.
+-- `guard::sound::record::session_in_range` is `session_in_range`: the sets are of their words' widths. Assumes nothing.
 use native.Mathlib.Omega.{arith}
 use mathlib.Core.Bool.{and-true}
 use borrow.Author.Tests.{lt-ltb}

@@ -1,4 +1,4 @@
--- `guard::sound::record::user_in_range` is `userInRange`. Assumes nothing.
+-- `guard::sound::record::user_in_range` is `user_in_range`. Assumes nothing.
 use mathlib.Core.Bool.{and-true}
 use Rattle.bitset.specs.Tests.{every}
 use Rattle.guard.specs.Sound.{user_in_range_in}

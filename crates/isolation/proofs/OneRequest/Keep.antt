@@ -26,11 +26,11 @@ use Rattle.guard.specs.declared.Request.{Request}
 use Rattle.guard.proofs.Laws.Refusals.{unmet}
 use Rattle.guard.proofs.Laws.Step.{Done, each_rule}
 use Rattle.guard.proofs.Laws.Sound.{writing_level, parent_level}
-use Rattle.isolation.specs.Proof.Lists.{Hidden}
-use Rattle.isolation.specs.Proof.Views.{Same, lower_seat, lower_role, lower_entity}
-use Rattle.isolation.specs.Proof.Edits.{session_table, role_table, entity_table, same_refl, same_trans, row_low, row_hidden, rows_hidden, taking, dropping, opening_r, opening_w, closing, setting}
-use Rattle.isolation.specs.Proof.Ending.{ending_hidden}
-use Rattle.isolation.specs.Proof.{◌and◌}
+use Rattle.isolation.proofs.OneRequest.Lists.{Hidden}
+use Rattle.isolation.proofs.OneRequest.Views.{Same, lower_seat, lower_role, lower_entity}
+use Rattle.isolation.proofs.OneRequest.Edits.{session_table, role_table, entity_table, same_refl, same_trans, row_low, row_hidden, rows_hidden, taking, dropping, opening_r, opening_w, closing, setting}
+use Rattle.isolation.proofs.OneRequest.Ending.{ending_hidden}
+use Rattle.isolation.proofs.OneRequest.{◌and◌}
 
 -- not every test is met, and the first is
 rest_false : (l : List Bool) → every (true ∷ l) ≡ false → every l ≡ false

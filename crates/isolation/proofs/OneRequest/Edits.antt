@@ -17,8 +17,8 @@ use Rattle.guard.specs.declared.Session.{Session}
 use Rattle.guard.specs.declared.Role.{Role}
 use Rattle.guard.specs.declared.Entity.{Entity}
 use Rattle.guard.specs.declared.Tables.{Tables}
-use Rattle.isolation.specs.Proof.Lists.{seen, Hidden, Image, Seen, seen_at, set_hidden, set_same, set_alike, each_hidden, each_alike, image_alike}
-use Rattle.isolation.specs.Proof.Views.{Same, upper_rights}
+use Rattle.isolation.proofs.OneRequest.Lists.{seen, Hidden, Image, Seen, seen_at, set_hidden, set_same, set_alike, each_hidden, each_alike, image_alike}
+use Rattle.isolation.proofs.OneRequest.Views.{Same, upper_rights}
 
 -- ---- one of the three tables of records: what is seen of a record, from which number on, and how a list is replaced
 pub record Table (L : ℕ) (A : Type 0) : Type 1 where

@@ -18,8 +18,8 @@ use Rattle.guard.specs.declared.Tables.{Tables}
 use Rattle.guard.proofs.Laws.Rights.{contains_read, contains_write, contains_execute, contains_own}
 use Rattle.guard.proofs.Laws.Sound.{formed_e}
 use Rattle.isolation.specs.UpperInWords.{Sized, SameUpper}
-use Rattle.isolation.specs.Proof.Lists.{seen_ext}
-use Rattle.isolation.specs.Proof.Views.{Same, same_of, of_same, live_same, user_same, label_same, holds_same, reading_same, writing_same, live_same_at, listed_same, rights_on_same, junior_same, entity_same}
+use Rattle.isolation.proofs.OneRequest.Lists.{seen_ext}
+use Rattle.isolation.proofs.OneRequest.Views.{Same, same_of, of_same, live_same, user_same, label_same, holds_same, reading_same, writing_same, live_same_at, listed_same, rights_on_same, junior_same, entity_same}
 
 module _ (L : ℕ) (t u : Tables) where
   words_of : Same L t u → SameUpper L t u

@@ -17,7 +17,7 @@ use Rattle.guard.specs.declared.Tables.{Tables}
 use Rattle.guard.specs.declared.Request.{Request}
 use Rattle.guard.specs.Requests.{Field, call, seat, user, role, entity, parent, kind, name, label, rights, shared, junior, rule_of}
 use Rattle.guard.proofs.Laws.SameRequest.{SameField, map_same, same_rule, same_fields, same_seat, same_answer, same_next, same_role, same_refl}
-use Rattle.isolation.specs.Proof.Rule.{rule}
+use Rattle.isolation.proofs.OneRequest.Rule.{rule}
 
 -- ---- two requests that ask the same
 upper_same : (p q : Request) (L : ℕ) (f : Field) → SameField p q f → field_upper L p f ≡ field_upper L q f

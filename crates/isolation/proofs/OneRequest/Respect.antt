@@ -19,11 +19,11 @@ use Rattle.guard.specs.declared.Entity.{Entity}
 use Rattle.guard.specs.declared.Tables.{Tables}
 use Rattle.guard.specs.declared.Request.{Request}
 use Rattle.guard.proofs.Laws.Step.{each_rule}
-use Rattle.isolation.specs.Proof.Lists.{Image, const_image, whole_image}
-use Rattle.isolation.specs.Proof.Views.{Same, upper_seat, upper_role_lem, upper_entity}
-use Rattle.isolation.specs.Proof.Edits.{session_table, role_table, entity_table, row_alike, rows_alike, taking, dropping, opening_r, opening_w, closing, setting, listing_image, unlisting_image, tying_image, untying_image}
-use Rattle.isolation.specs.Proof.Ending.{ending_alike}
-use Rattle.isolation.specs.Proof.{◌and◌}
+use Rattle.isolation.proofs.OneRequest.Lists.{Image, const_image, whole_image}
+use Rattle.isolation.proofs.OneRequest.Views.{Same, upper_seat, upper_role_lem, upper_entity}
+use Rattle.isolation.proofs.OneRequest.Edits.{session_table, role_table, entity_table, row_alike, rows_alike, taking, dropping, opening_r, opening_w, closing, setting, listing_image, unlisting_image, tying_image, untying_image}
+use Rattle.isolation.proofs.OneRequest.Ending.{ending_alike}
+use Rattle.isolation.proofs.OneRequest.{◌and◌}
 
 module _ (L : ℕ) (q : Request) where
   -- f takes equal upper parts to equal ones

@@ -28,8 +28,8 @@ use Rattle.guard.proofs.Laws.Refusals.{Alike}
 use Rattle.guard.proofs.Laws.Step.{each_rule}
 use Rattle.guard.proofs.Laws.Sound.Facts.{TiesOk}
 use Rattle.guard.proofs.Laws.Sound.{formed_e, parent_level}
-use Rattle.isolation.specs.Proof.{◌and◌}
-use Rattle.isolation.specs.Proof.Views.{upper_seat, upper_role_lem, upper_entity, Same, live_same, user_same, label_same, holds_same, reading_same, writing_same, live_same_at, listed_same, junior_same, entity_same, tie_same, below_same, has_right_same, reaches_same, none_below, child_same}
+use Rattle.isolation.proofs.OneRequest.{◌and◌}
+use Rattle.isolation.proofs.OneRequest.Views.{upper_seat, upper_role_lem, upper_entity, Same, live_same, user_same, label_same, holds_same, reading_same, writing_same, live_same_at, listed_same, junior_same, entity_same, tie_same, below_same, has_right_same, reaches_same, none_below, child_same}
 
 -- one condition after another, each the same in both; a later one may use that the one before is unmet
 infixr 10 ◌also◌

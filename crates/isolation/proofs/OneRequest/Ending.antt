@@ -26,8 +26,8 @@ use Rattle.guard.specs.declared.Tables.{Tables}
 use Rattle.guard.proofs.Filling.{length_tabulate, get_d_tabulate}
 use Rattle.guard.proofs.Laws.Sound.{formed_e, backed_e}
 use Rattle.guard.proofs.Laws.Backed.{ends_nothing}
-use Rattle.isolation.specs.Proof.Lists.{seen_ext}
-use Rattle.isolation.specs.Proof.Views.{Same, session_same, live_same, user_same, label_same, reading_same, writing_same, has_right_same}
+use Rattle.isolation.proofs.OneRequest.Lists.{seen_ext}
+use Rattle.isolation.proofs.OneRequest.Views.{Same, session_same, live_same, user_same, label_same, reading_same, writing_same, has_right_same}
 
 -- the members from k on of what two tests keep
 keeping_alike : (p q : ℕ → Bool) (a b k : ℕ) → ((e : ℕ) → k ≤ e → has a e ≡ has b e) → ((e : ℕ) → k ≤ e → p e ≡ q e)

@@ -25,11 +25,11 @@ use Rattle.guard.proofs.Laws.Step.{Done, next_by_lem, each_rule}
 use Rattle.guard.proofs.Laws.Sound.{formed_e}
 use Rattle.guard.proofs.Kept.{sound_next}
 use Rattle.isolation.specs.Log.{run_log, upper_of, answers_of, logs}
-use Rattle.isolation.specs.Proof.{◌and◌}
-use Rattle.isolation.specs.Proof.Views.{upper_seat, upper_entity, same_of, of_same, role_for_same}
-use Rattle.isolation.specs.Proof.Keep.{keeps}
-use Rattle.isolation.specs.Proof.Respect.{respects}
-use Rattle.isolation.specs.Proof.Agree.{agrees}
+use Rattle.isolation.proofs.OneRequest.{◌and◌}
+use Rattle.isolation.proofs.OneRequest.Views.{upper_seat, upper_entity, same_of, of_same, role_for_same}
+use Rattle.isolation.proofs.OneRequest.Keep.{keeps}
+use Rattle.isolation.proofs.OneRequest.Respect.{respects}
+use Rattle.isolation.proofs.OneRequest.Agree.{agrees}
 
 -- every rule uses the acting seat, first
 abbrev SeatFirst : List Field → Type 0

@@ -34,7 +34,7 @@ use Rattle.guard.proofs.Laws.Told.{lowest_cong}
 use Rattle.guard.proofs.Laws.Below.{Below, direct, through, below_e, below_i}
 use Rattle.guard.proofs.Laws.Sound.Facts.{TiesOk}
 use Rattle.guard.proofs.Laws.Sound.{formed_e, parent_level}
-use Rattle.isolation.specs.Proof.Lists.{map_whole, seen, seen_at}
+use Rattle.isolation.proofs.OneRequest.Lists.{map_whole, seen, seen_at}
 
 -- ---- upper and lower numbers
 module _ (L n : ℕ) where

@@ -10,7 +10,7 @@ use Rattle.guard.specs.SameRequest.{same_requests}
 use Rattle.isolation.specs.Upper.{upper, upper_requests, upper_answers}
 use Rattle.guard.specs.declared.Tables.{Tables}
 use Rattle.guard.specs.declared.Request.{Request}
-use Rattle.isolation.specs.Proof.SameRequests.{rule_same}
+use Rattle.isolation.proofs.OneRequest.SameRequests.{rule_same}
 
 pub isolation :
     -- For every level L from 1 to 3

@@ -1,0 +1,4 @@
+pub mod Theorem
+pub mod Calls
+pub mod OneRequest
+pub mod Teeth
