@@ -1,4 +1,4 @@
-// Whose users and roles are: the house's or the agents' (specs/Firm).
+// Whose users and roles are: the house's or the agents' (specs/Private/Firm).
 ghost use Rattle.std.specs.Prelude.{ℕ, ◌≤◌, ◌<◌, ◌≡◌, eqb};
 ghost use Rattle.bitset.specs.Sets.{has};
 ghost use Rattle.guard.specs.Level.{user_count, role_count};

@@ -1,13 +1,13 @@
 // Labels: a grade and a set of sixteen categories.
 ghost use Rattle.std.specs.Prelude.{◌≤◌, ◌≡◌};
-ghost use Rattle.guard.specs.Label.{label_in_range, dominates as dominatesOf, same_label, label, all_categories, top_grade};
+ghost use Rattle.guard.specs.Label.{label_in_range, dominates as dominates_of, same_label, label, all_categories, top_grade};
 
 use crate::Label;
 use crate::sizes::TOP_GRADE;
 
 // Whether `a`'s grade is at least `b`'s and `a`'s set contains `b`'s.
 pub fn dominates(a: Label, b: Label) -> bool
-    ensures { result ≡ dominatesOf a b }
+    ensures { result ≡ dominates_of a b }
 {
     (b.grade <= a.grade) & bitset::contains16(a.cats, b.cats)
 }

@@ -7,7 +7,7 @@ ghost use Rattle.guard.specs.Tables.{no_role, all_rights};
 ghost use Rattle.guard.specs.Edits.{clear_rights};
 ghost use Rattle.guard.specs.Refusals.{first, ◌when◌};
 ghost use Rattle.guard.specs.Kind as kind;
-ghost use Rattle.guard.specs.Private.Inside.{users_after, juniors_after, set_after, granted_after, role_after, owning as owningOf};
+ghost use Rattle.guard.specs.Private.Inside.{users_after, juniors_after, set_after, granted_after, role_after, owning as owning_of};
 ghost use Rattle.guard.specs.Private.InForce.{in_ranges};
 
 use crate::sizes::ROLES;
@@ -235,7 +235,7 @@ pub fn after(q: Request, p: Role) -> Role
 // Role `p` with own on entity `e`, as the role named at a create gains it.
 pub fn owning(e: u32, p: Role) -> Role
     requires { e < entity_count }
-    ensures { result ≡ owningOf e p }
+    ensures { result ≡ owning_of e p }
 {
     let mut n = p;
     n.owns = bitset::with64(p.owns, e);

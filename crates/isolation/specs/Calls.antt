@@ -20,8 +20,8 @@ use Rattle.guard.specs.declared.Outcome.{Outcome}
 pub data Call : Tables → List Request → List ℕ → List ℕ → Tables → Type 0 where
   -- `t.step(q)` handed back o
   stepped : {t : Tables} {q : Request} {o : Outcome} → o ≡ step t q → Call t (q ∷ []) (o.answer ∷ []) (role_byte o.role ∷ []) o.tables
-  -- `t.run(&rows, &mut answers, &mut roles)` handed back u, and made `new` of the answers `old` and `newRoles` of the roles
-  -- `oldRoles`: one for each request, the rest as it was
+  -- `t.run(&rows, &mut answers, &mut roles)` handed back u, and made `new` of the answers `old` and `new_roles` of the roles
+  -- `old_roles`: one for each request, the rest as it was
   ran : {t u : Tables} {rows old new old_roles new_roles : List ℕ} → RunsBatch t rows old new old_roles new_roles u
       → Call t (batch rows old old_roles) (take (length (batch rows old old_roles)) new) (take (length (batch rows old old_roles)) new_roles) u
 
