@@ -36,10 +36,8 @@
 ghost use Rattle.std.specs.Prelude.{◌≤◌, length};
 
 use cases::state::State;
-use cases::{show, text};
-use std::fs::File;
+use cases::{folder, show, text};
 use std::io;
-use std::io::Read;
 use std::rt::Files;
 
 // Verbs are numbered by their places in the list of `text::place`: `clear`, `keep`, `back`; `fresh`; `old`; `set`; `with`.
@@ -138,34 +136,9 @@ fn lines(rt: &impl Print, b: State, file: &[u8], text: &[u8]) -> io::Result<Stat
     Ok(b)
 }
 
-// Reads until `text` is full, the file ends or a read fails, and says how many bytes came.
-fn read_full(file: &mut impl Read, text: &mut [u8]) -> usize
-    ensures { result ≤ length text.new }
-{
-    let mut done = 0;
-    while done < text.len() {
-        let n = file.read(&mut text[done..]).unwrap_or(0);
-        if n == 0 {
-            return done;
-        }
-        done += n;
-    }
-    done
-}
-
-// Puts the file of that name into `text`, and says how long it is. One that cannot be opened has no byte.
-fn read(rt: &impl Files, name: &[u8], text: &mut [u8]) -> usize
-    ensures { result ≤ length text.new }
-{
-    match File::open(rt, str::from_utf8(name).unwrap_or("")) {
-        Ok(mut file) => read_full(&mut file, text),
-        Err(_) => 0,
-    }
-}
-
 fn file(rt: &(impl Print + Files), b: State, name: &[u8]) -> io::Result<State> {
     let mut text = [0u8; 65536];
-    let n = read(rt, name, &mut text);
+    let n = folder::read(rt, name, &mut text);
     lines(rt, b, name, &text[..n])
 }
 
@@ -182,6 +155,6 @@ fn files(rt: &(impl Print + Files), list: &[u8]) -> io::Result<()> {
 
 fn main(rt: HostRuntime) -> io::Result<()> {
     let mut list = [0u8; 4096];
-    let n = read(&rt, b"list", &mut list);
+    let n = folder::read(&rt, b"list", &mut list);
     files(&rt, &list[..n])
 }

@@ -9,10 +9,9 @@ mod feed;
 
 ghost use Rattle.std.specs.Prelude.{◌≤◌, ◌<◌, ◌≡◌, length};
 
+use cases::folder;
 use feed::Part;
-use std::fs::File;
 use std::io;
-use std::io::Read;
 use std::rt::Files;
 
 const PIECES: [usize; 9] = [1, 1, 1, 7, 7, 7, 64, 64, 64];
@@ -142,31 +141,6 @@ fn whole_and_cut(
     line(rt, same as u64)
 }
 
-// Reads until `text` is full, the file ends or a read fails, and says how many bytes came.
-fn read_full(file: &mut impl Read, text: &mut [u8]) -> usize
-    ensures { result ≤ length text.new }
-{
-    let mut done = 0;
-    while done < text.len() {
-        let n = file.read(&mut text[done..]).unwrap_or(0);
-        if n == 0 {
-            return done;
-        }
-        done += n;
-    }
-    done
-}
-
-// Puts the file of that name into `text`, and says how long it is. One that cannot be opened has no byte.
-fn read(rt: &impl Files, name: &[u8], text: &mut [u8]) -> usize
-    ensures { result ≤ length text.new }
-{
-    match File::open(rt, str::from_utf8(name).unwrap_or("")) {
-        Ok(mut file) => read_full(&mut file, text),
-        Err(_) => 0,
-    }
-}
-
 // The case of the file of that name. Its length is told too: a file that is missing has none.
 fn case(
     rt: &(impl Print + Files),
@@ -177,7 +151,7 @@ fn case(
     want: &mut [u8],
 ) -> io::Result<()> {
     let mut text = [0u8; 65536];
-    let n = read(rt, name, &mut text);
+    let n = folder::read(rt, name, &mut text);
     word(rt, name)?;
     word(rt, b": ")?;
     line(rt, n as u64)?;
@@ -260,7 +234,7 @@ fn all(
     want: &mut [u8],
 ) -> io::Result<()> {
     let mut list = [0u8; 4096];
-    let n = read(rt, b"list", &mut list);
+    let n = folder::read(rt, b"list", &mut list);
     each(rt, &list[..n], held, output, want)
 }
 

@@ -33,47 +33,72 @@ use Rattle.guard.proofs.Stored.{told, session_stored, create_stored, delete_stor
 use Rattle.guard.proofs.Turns.{Held, held_none, held_more, held_length, held_roles, no_batch, unsound_batch, Stepped, refuses, does, opens_nothing, opens_by}
 use Rattle.guard.proofs.Tables.run.Goals as goal
 
--- ---- one turn: the batch has room for its answers and for its roles
+-- ---- one turn of the loop, once its request is decided: what held before it, the request, where its records stand, and its answer
+record Turn (t₀ t : Tables) (rows old old_roles said roles keys grants : List ℕ) (i n : ℕ) (q : Request) (p : Places) (a : ℕ) : Type 0 where
+  pub held : Held t₀ rows old old_roles i t said roles keys grants
+  pub on : i < n
+  pub all : n ≡ batch_count rows old old_roles
+  pub asked : q ≡ request_at rows i
+  pub near : Placed q p
+  pub decided : a ≡ number (rule_of q) t q
+
+-- the batch has room for its answers and for its roles
 module _ {t₀ t : Tables} {rows old old_roles said roles keys grants : List ℕ} {i n : ℕ} (held : Held t₀ rows old old_roles i t said roles keys grants)
     (on : i < n) (all : n ≡ batch_count rows old old_roles)
   where
-    within : i < length old
-    within = omega (arith, on, all, batch_room (length rows) (length old) (length old_roles))
+  within : i < length old
+  within = omega (arith, on, all, batch_room (length rows) (length old) (length old_roles))
 
-    within_roles : i < length old_roles
-    within_roles = omega (arith, on, all, batch_space (length rows) (length old) (length old_roles))
+  within_roles : i < length old_roles
+  within_roles = omega (arith, on, all, batch_space (length rows) (length old) (length old_roles))
 
-    room : i < length said
-    room = rw (held_length _ _ _ _ _ _ _ _ _ _ held (omega (arith, within))) within
+  room : i < length said
+  room = rw (held_length _ _ _ _ _ _ _ _ _ _ held (omega (arith, within))) within
 
-    space : i < length roles
-    space = rw (held_roles _ _ _ _ _ _ _ _ _ _ held (omega (arith, within_roles))) within_roles
+  space : i < length roles
+  space = rw (held_roles _ _ _ _ _ _ _ _ _ _ held (omega (arith, within_roles))) within_roles
 
-    -- the next turn holds, by what the tables and the columns are then, and what is stored of the role
-    turned : {q : Request} {a : ℕ} → q ≡ request_at rows i → (u : Tables) (b : ℕ) → Stepped t q u a b
-        → (roles' : List ℕ) → roles' ≡ set roles i b → (k g : List ℕ) → Keys u.entities k → Grants u.roles g
-        → (i + 1 ≤ n) × (n ≡ batch_count rows old old_roles) × Held t₀ rows old old_roles (i + 1) u (set said i a) roles' k g
-    turned asked u b step roles' same k g K G = rw same (omega (arith, on), all, held_more _ _ _ _ _ _ _ _ _ _ held _ asked within within_roles u _ _ step k g K G)
+  -- the decision
+  turn_of : {q : Request} {p : Places} {o a : ℕ} {f : Found} {v : View} → q ≡ request_at rows i → Placed q p
+      → o ≡ cond (eqb q.call kind.create) p.parent (entity_at t p.entity).parent
+      → FoundBy keys grants q (session_at t p.seat).roles p.entity o p.role p.junior f → v ≡ view_at t p o f
+      → ((s : Tables) → Seen s q v → a ≡ number (rule_of q) s q) → Turn t₀ t rows old old_roles said roles keys grants i n q p a
+  turn_of asked near above found seen says = record {
+    held = held;
+    on = on;
+    all = all;
+    asked = asked;
+    near = near;
+    decided = says _ (seen_of _ held.is_sound _ _ near _ above _ _ held.keys held.grants _ found _ seen);
+  }
 
-    -- ---- the decision
-    judged : {q : Request} {p : Places} {o a : ℕ} {f : Found} {v : View} → Placed q p → o ≡ cond (eqb q.call kind.create) p.parent (entity_at t p.entity).parent
-        → FoundBy keys grants q (session_at t p.seat).roles p.entity o p.role p.junior f → v ≡ view_at t p o f
-        → ((s : Tables) → Seen s q v → a ≡ number (rule_of q) s q) → a ≡ number (rule_of q) t q
-    judged near above found seen says = says _ (seen_of _ held.is_sound _ _ near _ above _ _ held.keys held.grants _ found _ seen)
+module _ {t₀ t : Tables} {rows old old_roles said roles keys grants : List ℕ} {i n : ℕ} {q : Request} {p : Places} {a : ℕ}
+    (turn : Turn t₀ t rows old old_roles said roles keys grants i n q p a)
+  where
+  -- the next turn holds, by what the tables and the columns are then, and what is stored of the role
+  turned : (u : Tables) (b : ℕ) → Stepped t q u a b → (roles' : List ℕ) → roles' ≡ set roles i b → (k g : List ℕ) → Keys u.entities k → Grants u.roles g
+      → (i + 1 ≤ n) × (n ≡ batch_count rows old old_roles) × Held t₀ rows old old_roles (i + 1) u (set said i a) roles' k g
+  turned u b step roles' same k g K G =
+      rw same (
+        omega (arith, turn.on),
+        turn.all,
+        held_more _ _ _ _ _ _ _ _ _ _ turn.held _ turn.asked (within turn.held turn.on turn.all) (within_roles turn.held turn.on turn.all) u _ _ step k g K G,
+      )
 
-    -- ---- where the answer is 0
-    module _ (q : Request) (a : ℕ) (z : a ≡ 0) (decided : a ≡ number (rule_of q) t q) where
-      zero : 0 ≡ number (rule_of q) t q
-      zero = sym z ∙ decided
+  many : Formed all_categories t
+  many = formed_e _ turn.held.is_sound
 
-      fits : in_ranges q ≡ true
-      fits = done_in_range _ _ zero
+  -- where the answer is 0
+  zero : a ≡ 0 → 0 ≡ number (rule_of q) t q
+  zero z = sym z ∙ turn.decided
 
-      does_so : (u : Tables) → u ≡ (rule_of q).effect q t → (b : ℕ) → b ≡ role_byte (role_opening t q) → Stepped t q u a b
-      does_so u e b r = does _ _ _ held.is_sound decided z u e b r
+  fits : a ≡ 0 → in_ranges q ≡ true
+  fits z = done_in_range _ _ (zero z)
 
-many : {t₀ t : Tables} {rows old old_roles said roles keys grants : List ℕ} {i : ℕ} → Held t₀ rows old old_roles i t said roles keys grants → Formed all_categories t
-many held = formed_e _ held.is_sound
+  done : a ≡ 0 → (u : Tables) → u ≡ (rule_of q).effect q t → (b : ℕ) → b ≡ role_byte (role_opening t q)
+      → (roles' : List ℕ) → roles' ≡ set roles i b → (k g : List ℕ) → Keys u.entities k → Grants u.roles g
+      → (i + 1 ≤ n) × (n ≡ batch_count rows old old_roles) × Held t₀ rows old old_roles (i + 1) u (set said i a) roles' k g
+  done z u e b r = turned u b (does _ _ _ turn.held.is_sound turn.decided z u e b r)
 
 -- what changes an entity or a role tells none
 entity_silent : (t : Tables) (q : Request) → OfEntity q.call → 255 ≡ role_byte (role_opening t q)
@@ -125,132 +150,97 @@ bounds-roles-i c = space c.loop-i.invariant.2 c.loop-i-test.true c.loop-i.invari
 
 pub after-requires : goal.after-requires
 after-requires c =
-    let held = c.loop-i.invariant.2 in
-    let on = c.loop-i-test.true in
-    let all = c.loop-i.invariant.1 in
-    fits held on all _ _ c.if-n-eq0.true (judged held on all c.look_up-at.ensures c.parent_of-o.ensures c.find-found.ensures c.seen-v.ensures c.judge-n.ensures)
+    let turn = turn_of c.loop-i.invariant.2 c.loop-i-test.true c.loop-i.invariant.1 c.request-q.ensures c.look_up-at.ensures c.parent_of-o.ensures c.find-found.ensures c.seen-v.ensures c.judge-n.ensures in
+    fits turn c.if-n-eq0.true
 
 pub bounds-roles-i-in-Session : goal.bounds-roles-i-in-Session
 bounds-roles-i-in-Session c = simp length-set (omega (arith, space c.loop-i.invariant.2 c.loop-i-test.true c.loop-i.invariant.1))
 
 pub loop-i-preserved-in-Session : goal.loop-i-preserved-in-Session
 loop-i-preserved-in-Session c =
-    let held = c.loop-i.invariant.2 in
-    let on = c.loop-i-test.true in
-    let all = c.loop-i.invariant.1 in
-    let near = c.look_up-at.ensures in
+    let turn = turn_of c.loop-i.invariant.2 c.loop-i-test.true c.loop-i.invariant.1 c.request-q.ensures c.look_up-at.ensures c.parent_of-o.ensures c.find-found.ensures c.seen-v.ensures c.judge-n.ensures in
     let z = c.if-n-eq0.true in
-    let decided = judged held on all near c.parent_of-o.ensures c.find-found.ensures c.seen-v.ensures c.judge-n.ensures in
-    turned held on all c.request-q.ensures _ _
-    (does_so held on all _ _ z decided _ (session_stored _ _ (zero held on all _ _ z decided) _ near held.is_sound _ held.grants (told ASession _ _ c.change_of-changed.ensures c.in-Session.is) _ c.after.ensures) _
-    (opens_by _ held.is_sound _ held.grants _ (fits held on all _ _ z decided) _ near _ c.role_told.ensures))
+    done turn z _
+    (session_stored _ _ (zero turn z) _ turn.near turn.held.is_sound _ turn.held.grants (told ASession _ _ c.change_of-changed.ensures c.in-Session.is) _ c.after.ensures) _
+    (opens_by _ turn.held.is_sound _ turn.held.grants _ (fits turn z) _ turn.near _ c.role_told.ensures)
     _ (set_again c.loop-i.roles c.loop-i.i 255 c.role_told.result) _ _
-    (keys_other _ _ held.keys _ refl)
-    (grants_other _ _ held.grants _ refl)
+    (keys_other _ _ turn.held.keys _ refl)
+    (grants_other _ _ turn.held.grants _ refl)
 
 pub after-f2-requires : goal.after-f2-requires
 after-f2-requires c =
-    let held = c.loop-i.invariant.2 in
-    let on = c.loop-i-test.true in
-    let all = c.loop-i.invariant.1 in (
+    let turn = turn_of c.loop-i.invariant.2 c.loop-i-test.true c.loop-i.invariant.1 c.request-q.ensures c.look_up-at.ensures c.parent_of-o.ensures c.find-found.ensures c.seen-v.ensures c.judge-n.ensures in (
       told AnEntity _ _ c.change_of-changed.ensures c.in-Entity.is,
-      fits held on all _ _ c.if-n-eq0.true (judged held on all c.look_up-at.ensures c.parent_of-o.ensures c.find-found.ensures c.seen-v.ensures c.judge-n.ensures),
+      fits turn c.if-n-eq0.true,
     )
 
 pub owning-p2-requires : goal.owning-p2-requires
 owning-p2-requires c =
-    let held = c.loop-i.invariant.2 in
-    let on = c.loop-i-test.true in
-    let all = c.loop-i.invariant.1 in
-    (in_create _ (fits held on all _ _ c.if-n-eq0.true (judged held on all c.look_up-at.ensures c.parent_of-o.ensures c.find-found.ensures c.seen-v.ensures c.judge-n.ensures)) c.if-q-eq-CREATE.true).entity
+    let turn = turn_of c.loop-i.invariant.2 c.loop-i-test.true c.loop-i.invariant.1 c.request-q.ensures c.look_up-at.ensures c.parent_of-o.ensures c.find-found.ensures c.seen-v.ensures c.judge-n.ensures in
+    (in_create _ (fits turn c.if-n-eq0.true) c.if-q-eq-CREATE.true).entity
 
 pub loop-i-preserved-then-q-eq-CREATE : goal.loop-i-preserved-then-q-eq-CREATE
 loop-i-preserved-then-q-eq-CREATE c =
-    let held = c.loop-i.invariant.2 in
-    let on = c.loop-i-test.true in
-    let all = c.loop-i.invariant.1 in
-    let near = c.look_up-at.ensures in
+    let turn = turn_of c.loop-i.invariant.2 c.loop-i-test.true c.loop-i.invariant.1 c.request-q.ensures c.look_up-at.ensures c.parent_of-o.ensures c.find-found.ensures c.seen-v.ensures c.judge-n.ensures in
     let z = c.if-n-eq0.true in
-    let decided = judged held on all near c.parent_of-o.ensures c.find-found.ensures c.seen-v.ensures c.judge-n.ensures in
     let of = told AnEntity _ _ c.change_of-changed.ensures c.in-Entity.is in
-    turned held on all c.request-q.ensures _ _
-    (does_so held on all _ _ z decided _ (create_stored _ _ (zero held on all _ _ z decided) _ near c.if-q-eq-CREATE.true _ _ c.after-f2.ensures c.owning-p2.ensures) _ (entity_silent _ _ of))
+    done turn z _
+    (create_stored _ _ (zero turn z) _ turn.near c.if-q-eq-CREATE.true _ _ c.after-f2.ensures c.owning-p2.ensures) _ (entity_silent _ _ of)
     _ refl _ _
-    (keys_set _ _ held.keys _ (many held).many_entities _ near.entity.small _ _ c.key.ensures refl)
-    (grants_role _ _ held.grants _ (many held).many_roles _ near.role.small _ _ c.put.ensures refl)
+    (keys_set _ _ turn.held.keys _ (many turn).many_entities _ turn.near.entity.small _ _ c.key.ensures refl)
+    (grants_role _ _ turn.held.grants _ (many turn).many_roles _ turn.near.role.small _ _ c.put.ensures refl)
 
 pub loop-i-preserved-then-q-eq-DELETE : goal.loop-i-preserved-then-q-eq-DELETE
 loop-i-preserved-then-q-eq-DELETE c =
-    let held = c.loop-i.invariant.2 in
-    let on = c.loop-i-test.true in
-    let all = c.loop-i.invariant.1 in
-    let near = c.look_up-at.ensures in
+    let turn = turn_of c.loop-i.invariant.2 c.loop-i-test.true c.loop-i.invariant.1 c.request-q.ensures c.look_up-at.ensures c.parent_of-o.ensures c.find-found.ensures c.seen-v.ensures c.judge-n.ensures in
     let z = c.if-n-eq0.true in
-    let decided = judged held on all near c.parent_of-o.ensures c.find-found.ensures c.seen-v.ensures c.judge-n.ensures in
     let of = told AnEntity _ _ c.change_of-changed.ensures c.in-Entity.is in
     rw (c.without_entity-self.ensures, c.without_entity-self-then-q-eq-DELETE.ensures)
-    (turned held on all c.request-q.ensures _ _
-    (does_so held on all _ _ z decided _ (delete_stored _ _ (zero held on all _ _ z decided) _ near c.if-q-eq-DELETE.true _ c.after-f2.ensures) _ (entity_silent _ _ of))
+    (done turn z _
+    (delete_stored _ _ (zero turn z) _ turn.near c.if-q-eq-DELETE.true _ c.after-f2.ensures) _ (entity_silent _ _ of)
     _ refl _ _
-    (keys_set _ _ held.keys _ (many held).many_entities _ near.entity.small _ _ c.key.ensures refl)
-    (grants_each _ _ held.grants _ _ _ (rw (near.entity.same (in_delete _ (fits held on all _ _ z decided) c.if-q-eq-DELETE.true).1) at c.clear.ensures) refl))
+    (keys_set _ _ turn.held.keys _ (many turn).many_entities _ turn.near.entity.small _ _ c.key.ensures refl)
+    (grants_each _ _ turn.held.grants _ _ _ (rw (turn.near.entity.same (in_delete _ (fits turn z) c.if-q-eq-DELETE.true).1) at c.clear.ensures) refl))
 
 pub loop-i-preserved-else-q-eq-DELETE : goal.loop-i-preserved-else-q-eq-DELETE
 loop-i-preserved-else-q-eq-DELETE c =
-    let held = c.loop-i.invariant.2 in
-    let on = c.loop-i-test.true in
-    let all = c.loop-i.invariant.1 in
-    let near = c.look_up-at.ensures in
+    let turn = turn_of c.loop-i.invariant.2 c.loop-i-test.true c.loop-i.invariant.1 c.request-q.ensures c.look_up-at.ensures c.parent_of-o.ensures c.find-found.ensures c.seen-v.ensures c.judge-n.ensures in
     let z = c.if-n-eq0.true in
-    let decided = judged held on all near c.parent_of-o.ensures c.find-found.ensures c.seen-v.ensures c.judge-n.ensures in
     let of = told AnEntity _ _ c.change_of-changed.ensures c.in-Entity.is in
-    turned held on all c.request-q.ensures _ _
-    (does_so held on all _ _ z decided _ (alone_stored _ _ (zero held on all _ _ z decided) _ near of c.if-q-eq-CREATE.false c.if-q-eq-DELETE.false _ c.after-f2.ensures) _ (entity_silent _ _ of))
+    done turn z _
+    (alone_stored _ _ (zero turn z) _ turn.near of c.if-q-eq-CREATE.false c.if-q-eq-DELETE.false _ c.after-f2.ensures) _ (entity_silent _ _ of)
     _ refl _ _
-    (keys_set _ _ held.keys _ (many held).many_entities _ near.entity.small _ _ c.key.ensures refl)
-    (grants_other _ _ held.grants _ refl)
+    (keys_set _ _ turn.held.keys _ (many turn).many_entities _ turn.near.entity.small _ _ c.key.ensures refl)
+    (grants_other _ _ turn.held.grants _ refl)
 
 pub after-p2-requires : goal.after-p2-requires
 after-p2-requires c =
-    let held = c.loop-i.invariant.2 in
-    let on = c.loop-i-test.true in
-    let all = c.loop-i.invariant.1 in
-    fits held on all _ _ c.if-n-eq0.true (judged held on all c.look_up-at.ensures c.parent_of-o.ensures c.find-found.ensures c.seen-v.ensures c.judge-n.ensures)
+    let turn = turn_of c.loop-i.invariant.2 c.loop-i-test.true c.loop-i.invariant.1 c.request-q.ensures c.look_up-at.ensures c.parent_of-o.ensures c.find-found.ensures c.seen-v.ensures c.judge-n.ensures in
+    fits turn c.if-n-eq0.true
 
 pub loop-i-preserved-then-ends_opens : goal.loop-i-preserved-then-ends_opens
 loop-i-preserved-then-ends_opens c =
-    let held = c.loop-i.invariant.2 in
-    let on = c.loop-i-test.true in
-    let all = c.loop-i.invariant.1 in
-    let near = c.look_up-at.ensures in
+    let turn = turn_of c.loop-i.invariant.2 c.loop-i-test.true c.loop-i.invariant.1 c.request-q.ensures c.look_up-at.ensures c.parent_of-o.ensures c.find-found.ensures c.seen-v.ensures c.judge-n.ensures in
     let z = c.if-n-eq0.true in
-    let decided = judged held on all near c.parent_of-o.ensures c.find-found.ensures c.seen-v.ensures c.judge-n.ensures in
     let of = told ARole _ _ c.change_of-changed.ensures c.in-Role.is in
-    let sets = grants_role _ _ held.grants _ (many held).many_roles _ near.role.small _ _ c.put-in-Role.ensures refl in
+    let sets = grants_role _ _ turn.held.grants _ (many turn).many_roles _ turn.near.role.small _ _ c.put-in-Role.ensures refl in
     rw c.swept-self.ensures
-    (turned held on all c.request-q.ensures _ _
-    (does_so held on all _ _ z decided _ (loss_stored _ _ (zero held on all _ _ z decided) _ near held.is_sound _ c.after-p2.ensures _ sets _ c.lost-lost.ensures (loses _ (sym c.ends_opens.ensures ∙ c.if-ends_opens.true)) _ refl) _ (role_silent _ _ of.0))
-    _ refl _ _ (keys_other _ _ held.keys _ refl) sets)
+    (done turn z _
+    (loss_stored _ _ (zero turn z) _ turn.near turn.held.is_sound _ c.after-p2.ensures _ sets _ c.lost-lost.ensures (loses _ (sym c.ends_opens.ensures ∙ c.if-ends_opens.true)) _ refl) _ (role_silent _ _ of.0)
+    _ refl _ _ (keys_other _ _ turn.held.keys _ refl) sets)
 
 pub loop-i-preserved-else-ends_opens : goal.loop-i-preserved-else-ends_opens
 loop-i-preserved-else-ends_opens c =
-    let held = c.loop-i.invariant.2 in
-    let on = c.loop-i-test.true in
-    let all = c.loop-i.invariant.1 in
-    let near = c.look_up-at.ensures in
+    let turn = turn_of c.loop-i.invariant.2 c.loop-i-test.true c.loop-i.invariant.1 c.request-q.ensures c.look_up-at.ensures c.parent_of-o.ensures c.find-found.ensures c.seen-v.ensures c.judge-n.ensures in
     let z = c.if-n-eq0.true in
-    let decided = judged held on all near c.parent_of-o.ensures c.find-found.ensures c.seen-v.ensures c.judge-n.ensures in
     let of = told ARole _ _ c.change_of-changed.ensures c.in-Role.is in
-    turned held on all c.request-q.ensures _ _
-    (does_so held on all _ _ z decided _ (role_stored _ _ (zero held on all _ _ z decided) _ near held.is_sound of (no_loss _ (sym c.ends_opens.ensures ∙ c.if-ends_opens.false)) _ c.after-p2.ensures) _ (role_silent _ _ of.0))
+    done turn z _
+    (role_stored _ _ (zero turn z) _ turn.near turn.held.is_sound of (no_loss _ (sym c.ends_opens.ensures ∙ c.if-ends_opens.false)) _ c.after-p2.ensures) _ (role_silent _ _ of.0)
     _ refl _ _
-    (keys_other _ _ held.keys _ refl)
-    (grants_role _ _ held.grants _ (many held).many_roles _ near.role.small _ _ c.put-in-Role.ensures refl)
+    (keys_other _ _ turn.held.keys _ refl)
+    (grants_role _ _ turn.held.grants _ (many turn).many_roles _ turn.near.role.small _ _ c.put-in-Role.ensures refl)
 
 pub loop-i-preserved : goal.loop-i-preserved
 loop-i-preserved c =
-    let held = c.loop-i.invariant.2 in
-    let on = c.loop-i-test.true in
-    let all = c.loop-i.invariant.1 in
-    let decided = judged held on all c.look_up-at.ensures c.parent_of-o.ensures c.find-found.ensures c.seen-v.ensures c.judge-n.ensures in
-    turned held on all c.request-q.ensures _ _ (refuses _ _ _ held.is_sound decided c.if-n-eq0.false) _ refl _ _ held.keys held.grants
+    let turn = turn_of c.loop-i.invariant.2 c.loop-i-test.true c.loop-i.invariant.1 c.request-q.ensures c.look_up-at.ensures c.parent_of-o.ensures c.find-found.ensures c.seen-v.ensures c.judge-n.ensures in
+    turned turn _ _ (refuses _ _ _ turn.held.is_sound turn.decided c.if-n-eq0.false) _ refl _ _ turn.held.keys turn.held.grants

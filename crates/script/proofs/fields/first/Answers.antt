@@ -1,5 +1,5 @@
--- `script::fields::first` meets its contract: where the fields so far were numbers, `got` says so, and the next one is a
--- number too or a fault. Assumes nothing.
+-- `script::fields::first` meets its contract: where the fields so far were numbers (`took`), the next one is a number too or a
+-- fault (`faulty`). Assumes nothing.
 use Rattle.script.specs.Private.Rows.{ahead}
 use Rattle.script.proofs.FieldsTaken.{took_none, took, faulty}
 use Rattle.script.proofs.fields.first.Goals as goal

@@ -1,5 +1,5 @@
--- `script::fields::second` meets its contract: where the fields so far were numbers, `got` says so, and the next one is a
--- number too or a fault. Assumes nothing.
+-- `script::fields::second` meets its contract: where the fields so far were numbers (`took`), the next one is a number too or a
+-- fault (`faulty`). Assumes nothing.
 use mathlib.Core.List.{[]}
 use Rattle.script.specs.Line.{these, joined}
 use Rattle.script.specs.Private.Rows.{front}

@@ -4,7 +4,7 @@ use Rattle.script.proofs.row.code_at.Goals as goal
 
 pub returns-then-w-lt-NO_WORD : goal.returns-then-w-lt-NO_WORD
 returns-then-w-lt-NO_WORD c =
-    found_word c.args.i c.args.from _ _ c.args.s.now c.if-i-eq0.true c.if-from-s.true (λ k. (c.shared_slice_known-1.given k).fits) c.word_from-w.ensures c.if-w-lt-NO_WORD.true
+    found_word c.args.i c.args.from _ _ c.args.s.now c.if-i-eq0.true c.if-from-s.true (λ k. (c.type_inv.s k).fits) c.word_from-w.ensures c.if-w-lt-NO_WORD.true
 
 pub returns-then-b-eq32 : goal.returns-then-b-eq32
 returns-then-b-eq32 c =

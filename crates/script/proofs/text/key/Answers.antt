@@ -10,7 +10,7 @@ pub overflow_mul-k : goal.overflow_mul-k
 overflow_mul-k c = omega (arith, packed_small c.loop-i.invariant (omega arith) (omega arith))
 
 pub loop-i-preserved : goal.loop-i-preserved
-loop-i-preserved c = packed_more c.loop-i.invariant (omega arith) (omega (arith, c.shared_slice_known-1.given c.loop-i.i))
+loop-i-preserved c = packed_more c.loop-i.invariant (omega arith) (omega (arith, c.type_inv.s c.loop-i.i))
 
 pub returns : goal.returns
 returns c = packed_end c.loop-i.invariant (omega arith) (omega arith)

@@ -11,6 +11,5 @@ pub returns : goal.returns
 unfolding join
 returns c =
     let a = c.args in
-    let known = c.struct_known-6-1.given in
-    let small = rights_small a.p (omega (arith, known)) (omega (arith, known)) (omega (arith, known)) (omega (arith, known)) in
-    role_last a.set a.r a.p _ (omega (arith, known)) (omega (arith, known)) small c.if-p-r.false (rw c.bound.ensures at c.contains64.ensures)
+    let small = rights_small a.p (omega arith) (omega arith) (omega arith) (omega arith) in
+    role_last a.set a.r a.p _ (omega arith) (omega arith) small c.if-p-r.false (rw c.bound.ensures at c.contains64.ensures)

@@ -10,11 +10,8 @@ use borrow.Author.Tests.{eqb-true, eq-eqb, ne_eqb}
 use Rattle.bitset.specs.Tests.{either, implies, all}
 use Rattle.bitset.specs.Tests.Laws.{both, either_l, all_cong}
 use Rattle.guard.proofs.Soundness.Count.{count, count_none, count_more, count_le, at_most_one, once}
+use Rattle.guard.proofs.sound.tree.has_own_key.Invariants.{same}
 use Rattle.guard.proofs.sound.tree.has_own_key.Goals as goal
-
--- the entity at m of the level of e has the key of e
-abbrev same : List ℕ → ℕ → ℕ → Bool
-same keys e m = eqb (get_or keys (e / 16 * 16 + m) 0) (get_or keys e 0)
 
 unnamed : (a b r : Bool) → a ≡ false → r ≡ b → r ≡ either a b
 unfolding either

@@ -9,7 +9,7 @@ use Rattle.guard.proofs.Soundness.Count.{count}
 use Rattle.guard.proofs.sound.tree.has_own_key.Given as goal
 
 -- the entity at m of the level of e has the key of e
-abbrev same : List ℕ → ℕ → ℕ → Bool
+abbrev pub same : List ℕ → ℕ → ℕ → Bool
 same keys e m = eqb (get_or keys (e / 16 * 16 + m) 0) (get_or keys e 0)
 
 abbrev pub invariant-loop-m : goal.invariant-loop-m
