@@ -46,59 +46,59 @@ record Turn (t₀ t : Tables) (rows old old_roles said roles keys grants : List 
 module _ {t₀ t : Tables} {rows old old_roles said roles keys grants : List ℕ} {i n : ℕ} (held : Held t₀ rows old old_roles i t said roles keys grants)
     (on : i < n) (all : n ≡ batch_count rows old old_roles)
   where
-  within : i < length old
-  within = omega (arith, on, all, batch_room (length rows) (length old) (length old_roles))
+    within : i < length old
+    within = omega (arith, on, all, batch_room (length rows) (length old) (length old_roles))
 
-  within_roles : i < length old_roles
-  within_roles = omega (arith, on, all, batch_space (length rows) (length old) (length old_roles))
+    within_roles : i < length old_roles
+    within_roles = omega (arith, on, all, batch_space (length rows) (length old) (length old_roles))
 
-  room : i < length said
-  room = rw (held_length _ _ _ _ _ _ _ _ _ _ held (omega (arith, within))) within
+    room : i < length said
+    room = rw (held_length _ _ _ _ _ _ _ _ _ _ held (omega (arith, within))) within
 
-  space : i < length roles
-  space = rw (held_roles _ _ _ _ _ _ _ _ _ _ held (omega (arith, within_roles))) within_roles
+    space : i < length roles
+    space = rw (held_roles _ _ _ _ _ _ _ _ _ _ held (omega (arith, within_roles))) within_roles
 
-  -- the decision
-  turn_of : {q : Request} {p : Places} {o a : ℕ} {f : Found} {v : View} → q ≡ request_at rows i → Placed q p
-      → o ≡ cond (eqb q.call kind.create) p.parent (entity_at t p.entity).parent
-      → FoundBy keys grants q (session_at t p.seat).roles p.entity o p.role p.junior f → v ≡ view_at t p o f
-      → ((s : Tables) → Seen s q v → a ≡ number (rule_of q) s q) → Turn t₀ t rows old old_roles said roles keys grants i n q p a
-  turn_of asked near above found seen says = record {
-    held = held;
-    on = on;
-    all = all;
-    asked = asked;
-    near = near;
-    decided = says _ (seen_of _ held.is_sound _ _ near _ above _ _ held.keys held.grants _ found _ seen);
-  }
+    -- the decision
+    turn_of : {q : Request} {p : Places} {o a : ℕ} {f : Found} {v : View} → q ≡ request_at rows i → Placed q p
+        → o ≡ cond (eqb q.call kind.create) p.parent (entity_at t p.entity).parent
+        → FoundBy keys grants q (session_at t p.seat).roles p.entity o p.role p.junior f → v ≡ view_at t p o f
+        → ((s : Tables) → Seen s q v → a ≡ number (rule_of q) s q) → Turn t₀ t rows old old_roles said roles keys grants i n q p a
+    turn_of asked near above found seen says = record {
+      held = held;
+      on = on;
+      all = all;
+      asked = asked;
+      near = near;
+      decided = says _ (seen_of _ held.is_sound _ _ near _ above _ _ held.keys held.grants _ found _ seen);
+    }
 
 module _ {t₀ t : Tables} {rows old old_roles said roles keys grants : List ℕ} {i n : ℕ} {q : Request} {p : Places} {a : ℕ}
     (turn : Turn t₀ t rows old old_roles said roles keys grants i n q p a)
   where
-  -- the next turn holds, by what the tables and the columns are then, and what is stored of the role
-  turned : (u : Tables) (b : ℕ) → Stepped t q u a b → (roles' : List ℕ) → roles' ≡ set roles i b → (k g : List ℕ) → Keys u.entities k → Grants u.roles g
-      → (i + 1 ≤ n) × (n ≡ batch_count rows old old_roles) × Held t₀ rows old old_roles (i + 1) u (set said i a) roles' k g
-  turned u b step roles' same k g K G =
-      rw same (
-        omega (arith, turn.on),
-        turn.all,
-        held_more _ _ _ _ _ _ _ _ _ _ turn.held _ turn.asked (within turn.held turn.on turn.all) (within_roles turn.held turn.on turn.all) u _ _ step k g K G,
-      )
+    -- the next turn holds, by what the tables and the columns are then, and what is stored of the role
+    turned : (u : Tables) (b : ℕ) → Stepped t q u a b → (roles' : List ℕ) → roles' ≡ set roles i b → (k g : List ℕ) → Keys u.entities k → Grants u.roles g
+        → (i + 1 ≤ n) × (n ≡ batch_count rows old old_roles) × Held t₀ rows old old_roles (i + 1) u (set said i a) roles' k g
+    turned u b step roles' same k g K G =
+        rw same (
+          omega (arith, turn.on),
+          turn.all,
+          held_more _ _ _ _ _ _ _ _ _ _ turn.held _ turn.asked (within turn.held turn.on turn.all) (within_roles turn.held turn.on turn.all) u _ _ step k g K G,
+        )
 
-  many : Formed all_categories t
-  many = formed_e _ turn.held.is_sound
+    many : Formed all_categories t
+    many = formed_e _ turn.held.is_sound
 
-  -- where the answer is 0
-  zero : a ≡ 0 → 0 ≡ number (rule_of q) t q
-  zero z = sym z ∙ turn.decided
+    -- where the answer is 0
+    zero : a ≡ 0 → 0 ≡ number (rule_of q) t q
+    zero z = sym z ∙ turn.decided
 
-  fits : a ≡ 0 → in_ranges q ≡ true
-  fits z = done_in_range _ _ (zero z)
+    fits : a ≡ 0 → in_ranges q ≡ true
+    fits z = done_in_range _ _ (zero z)
 
-  done : a ≡ 0 → (u : Tables) → u ≡ (rule_of q).effect q t → (b : ℕ) → b ≡ role_byte (role_opening t q)
-      → (roles' : List ℕ) → roles' ≡ set roles i b → (k g : List ℕ) → Keys u.entities k → Grants u.roles g
-      → (i + 1 ≤ n) × (n ≡ batch_count rows old old_roles) × Held t₀ rows old old_roles (i + 1) u (set said i a) roles' k g
-  done z u e b r = turned u b (does _ _ _ turn.held.is_sound turn.decided z u e b r)
+    done : a ≡ 0 → (u : Tables) → u ≡ (rule_of q).effect q t → (b : ℕ) → b ≡ role_byte (role_opening t q)
+        → (roles' : List ℕ) → roles' ≡ set roles i b → (k g : List ℕ) → Keys u.entities k → Grants u.roles g
+        → (i + 1 ≤ n) × (n ≡ batch_count rows old old_roles) × Held t₀ rows old old_roles (i + 1) u (set said i a) roles' k g
+    done z u e b r = turned u b (does _ _ _ turn.held.is_sound turn.decided z u e b r)
 
 -- what changes an entity or a role tells none
 entity_silent : (t : Tables) (q : Request) → OfEntity q.call → 255 ≡ role_byte (role_opening t q)
