@@ -1,7 +1,7 @@
 // Requests: read from a statement, and made both by the method of their name and by `step`.
 use crate::{record, show, text};
 use guard::sizes::NO_ROLE;
-use guard::{Outcome, Request, Tables, Told};
+use guard::{Outcome, Request, Tables};
 use std::io;
 
 // The largest number that a field can hold: what the fields hold that a request does not use, and that are not looked at.
@@ -149,10 +149,10 @@ fn by_method(t: Tables, q: Request) -> Outcome {
 }
 
 // A role told as one number, 255 for none, to compare two.
-fn role_number(role: Told) -> u64 {
+fn role_number(role: Option<u8>) -> u64 {
     match role {
-        Told::By(r) => r as u64,
-        Told::None => NO_ROLE as u64,
+        Some(r) => r as u64,
+        None => NO_ROLE as u64,
     }
 }
 

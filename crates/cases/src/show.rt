@@ -1,6 +1,6 @@
 // What is printed.
 use crate::record;
-use guard::{Tables, Told};
+use guard::Tables;
 use std::io;
 
 // Texts by number, in the list of `form`.
@@ -174,11 +174,11 @@ pub fn changes(rt: &impl Print, a: Tables, b: Tables) -> io::Result<()> {
 }
 
 // A case's name, an answer, and the role where one is told.
-pub fn answer(rt: &impl Print, name: &[u8], n: u8, role: Told) -> io::Result<()> {
+pub fn answer(rt: &impl Print, name: &[u8], n: u8, role: Option<u8>) -> io::Result<()> {
     word(rt, name)?;
     form(rt, ANSWER, one(n as u64))?;
     match role {
-        Told::By(r) => form(rt, BY_ROLE, one(r as u64)),
-        Told::None => Ok(()),
+        Some(r) => form(rt, BY_ROLE, one(r as u64)),
+        None => Ok(()),
     }
 }

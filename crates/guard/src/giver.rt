@@ -6,7 +6,7 @@ ghost use Rattle.guard.specs.Private.Scan.{First, side_of, has_by, gives, opened
 
 use crate::scan::{GRANTS, Rights, SETS, TIES};
 use crate::sizes::NO_ROLE;
-use crate::{Told, kinds, scan};
+use crate::{kinds, scan};
 use bitset::Set;
 
 // Of the four sets of a role, those of read and of write.
@@ -79,11 +79,11 @@ pub fn role_told(grants: &[u64; GRANTS], call: u32, held: u16, e: usize) -> u8
 }
 
 // The role that a byte of `run` tells.
-pub fn read(byte: u8) -> Told
+pub fn read(byte: u8) -> Option<u8>
     ensures { result ≡ read_byte byte }
 {
     if byte == NO_ROLE {
-        return Told::None;
+        return None;
     }
-    Told::By(byte)
+    Some(byte)
 }

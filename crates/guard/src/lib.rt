@@ -113,18 +113,11 @@ pub struct Request {
     pub junior: u32,
 }
 
-// Which role let a session in: the role of that number, or none is told.
-#[derive(Clone, Copy)]
-pub enum Told {
-    By(u8),
-    None,
-}
-
 // What a request hands back: the tables after it; its answer, 0 done, or the number of the refusal; and beside the 0 of openr and
 // openw the lowest-numbered role held that gives the right on the entity. All else tells none.
 #[derive(Clone, Copy)]
 pub struct Outcome {
     pub tables: Tables,
     pub answer: u8,
-    pub role: Told,
+    pub role: Option<u8>,
 }
