@@ -7,7 +7,7 @@
 
 ghost use Rattle.std.specs.Prelude.{ℕ, ◌≡◌, ◌≤◌, ◌<◌, ◌%◌, ◌^◌};
 ghost use Rattle.bitset.specs.Sets.{has, with, without, contains, minus};
-ghost use Rattle.bitset.specs.Widths.{bits_8, bits_16, bits_64};
+ghost use Rattle.bitset.specs.Sets.Widths.{bits_8, bits_16, bits_64};
 
 // An unsigned integer of at most 64 bits, as a set.
 pub trait Set: Copy {

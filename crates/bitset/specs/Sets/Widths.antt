@@ -1,4 +1,4 @@
--- The widths of sets: each has a place, and at most 64.
+-- The widths that sets have: each has a place, and at most 64. Assumes nothing.
 use Rattle.std.proofs.Common.{arith, ◌<◌, ◌≤◌}
 
 pub bits_8 : (0 < 8) × (8 ≤ 64)
