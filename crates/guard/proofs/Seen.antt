@@ -31,7 +31,7 @@ use Rattle.guard.proofs.TiesAsked.{tied_of, cycle_of}
 use Rattle.guard.proofs.Columns.{way_of, child_of_lem, name_of}
 
 abbrev pub view_at : Tables → Places → ℕ → Found → View
-view_at t p o f = view_of p (session_at t p.seat) (user_at t p.user) (role_at t p.role) (role_at t p.junior).live (entity_at t p.entity) (entity_at t o) f t.edition
+view_at t p o f = view_of (session_at t p.seat) (user_at t p.user) (role_at t p.role) (role_at t p.junior).live (entity_at t p.entity) (entity_at t o) f t.edition
 
 cond_less : (b : Bool) (m n : ℕ) → m < 64 → n < 64 → cond b m n < 64
 cond_less true m n h k = h

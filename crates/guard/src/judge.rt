@@ -1,5 +1,5 @@
 // The number of one request, whatever its kind.
-ghost use Rattle.std.specs.Prelude.{◌≡◌};
+ghost use Rattle.std.specs.Prelude.{◌≡◌, true};
 ghost use Rattle.guard.specs.Requests.{rule_of};
 ghost use Rattle.guard.specs.Private.Inside.{number, Seen};
 ghost use Rattle.guard.specs.Private.InForce.{in_ranges};
@@ -11,12 +11,9 @@ use bitset::Set;
 
 // A number that is none of the nineteen is out of range.
 pub fn judge(q: Request, v: View) -> u8
-    requires { v.fits ≡ in_ranges q }
+    requires { in_ranges q ≡ true }
     ensures { (t : TablesOf) → Seen t q v → result ≡ number (rule_of q) t q }
 {
-    if !v.fits {
-        return 2;
-    }
     let call = q.call;
     match call {
         kinds::LOGIN => sessions::login_refusal(q, v),

@@ -1,5 +1,5 @@
 // The numbers of a request, looked up once: where its records stand, and whether those that its kind uses are in range.
-ghost use Rattle.std.specs.Prelude.{◌<◌, ◌≡◌, cond, eqb};
+ghost use Rattle.std.specs.Prelude.{◌<◌, ◌≡◌, cond, eqb, IfSome, is_some};
 ghost use Rattle.guard.specs.Kind as kind;
 ghost use Rattle.guard.specs.Private.Inside.{Below, Placed, asks_way, asks_name, asks_rights};
 ghost use Rattle.guard.specs.Private.InForce.{in_ranges};
@@ -16,7 +16,6 @@ pub struct Places {
     pub entity: usize,
     pub parent: usize,
     pub junior: usize,
-    pub fits: bool,
 }
 
 // A number below the end, or 0 in the place of one past it.
@@ -61,18 +60,21 @@ fn fits(q: Request) -> bool
     }
 }
 
-pub fn look_up(q: Request) -> Places
-    ensures { Placed q result }
+pub fn look_up(q: Request) -> Option<Places>
+    ensures some { IfSome result (Placed q) }
+    ensures fits { is_some result ≡ in_ranges q }
 {
-    Places {
+    if !fits(q) {
+        return None;
+    }
+    Some(Places {
         seat: below(q.seat, sizes::SEAT_END),
         user: below(q.user, sizes::USER_END),
         role: below(q.role, sizes::ROLE_END),
         entity: below(q.entity, sizes::ENTITY_END),
         parent: below(q.parent, sizes::ENTITY_END),
         junior: below(q.junior, sizes::ROLE_END),
-        fits: fits(q),
-    }
+    })
 }
 
 // The parent that a request concerns: create names it, the others go by the entity's record.

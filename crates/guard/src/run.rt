@@ -30,7 +30,12 @@ impl Tables {
         while i < count {
             // The records that the request concerns.
             let q = rows::request(rows, i);
-            let at = look::look_up(q);
+            let Some(at) = look::look_up(q) else {
+                answers[i] = 2;
+                roles[i] = sizes::NO_ROLE;
+                i += 1;
+                continue;
+            };
             let x = at.seat;
             let k = at.user;
             let r = at.role;
@@ -47,7 +52,6 @@ impl Tables {
             let found = scan::find(&keys, &grants, q, session.roles, e, o, r, j);
             // The decision.
             let v = view::seen(
-                at,
                 session,
                 user,
                 role,

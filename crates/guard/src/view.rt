@@ -3,7 +3,6 @@
 ghost use Rattle.std.specs.Prelude.{◌≡◌};
 ghost use Rattle.guard.specs.Private.Inside.{view_of};
 
-use crate::look::Places;
 use crate::scan::Found;
 use crate::{Entity, Role, Session, User};
 
@@ -13,7 +12,6 @@ use crate::{Entity, Role, Session, User};
 // that of the tables.
 #[derive(Clone, Copy)]
 pub struct View {
-    pub fits: bool,
     pub session: Session,
     pub user: User,
     pub live: bool,
@@ -27,7 +25,6 @@ pub struct View {
 }
 
 pub fn seen(
-    at: Places,
     session: Session,
     user: User,
     role: Role,
@@ -37,10 +34,9 @@ pub fn seen(
     found: Found,
     edition: u8,
 ) -> View
-    ensures { result ≡ view_of at session user role alive entity parent found edition }
+    ensures { result ≡ view_of session user role alive entity parent found edition }
 {
     View {
-        fits: at.fits,
         session,
         user,
         live: role.live,

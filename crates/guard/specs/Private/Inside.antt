@@ -12,7 +12,7 @@ use Rattle.guard.specs.Refusals.{◌when◌, first}
 use Rattle.guard.specs.Conditions.{name_taken, has_children, role_tied, closes_cycle, recorded_parent}
 use Rattle.guard.specs.Requests.{Rule, logged_in, created}
 use Rattle.guard.specs.Kind as kind
-use Rattle.guard.specs.Private.InForce.{field_in_range, in_ranges}
+use Rattle.guard.specs.Private.InForce.{field_in_range}
 use Rattle.guard.specs.declared.User.{User}
 use Rattle.guard.specs.declared.Session.{Session}
 use Rattle.guard.specs.declared.Role.{Role}
@@ -43,7 +43,6 @@ pub record Placed (q : Request) (p : Places) : Type 0 where
   pub entity : Below entity_count q.entity p.entity
   pub parent : Below entity_count q.parent p.parent
   pub junior : Below role_count q.junior p.junior
-  pub fits : p.fits ≡ in_ranges q
 
 -- ---- what a kind asks of the tables beside the records that it concerns
 -- openr and openw ask for the way up
@@ -62,10 +61,9 @@ asks_rights call =
     (either (eqb call kind.delete) (either (eqb call kind.grant) (either (eqb call kind.revoke) (eqb call kind.share)))))
 
 -- ---- the view, from the records and what the scans tell
-abbrev pub view_of : Places → Session → User → Role → Bool → Entity → Entity → Found → ℕ → View
-view_of at session user role alive entity parent found edition =
+abbrev pub view_of : Session → User → Role → Bool → Entity → Entity → Found → ℕ → View
+view_of session user role alive entity parent found edition =
     record {
-      fits = at.fits;
       session = session;
       user = user;
       live = role.live;

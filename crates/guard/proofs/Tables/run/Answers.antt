@@ -1,6 +1,7 @@
 -- `run` is the log of its rows: each turn of the loop looks up what a request concerns, decides it and stores what it does. Assumes nothing.
+use Rattle.std.specs.Prelude.{Option, Some, IfSome}
 use Prim.Native.Nat.{ℕ, ◌+◌, ◌≤◌, ◌<◌}
-use mathlib.Core.Path.{◌≡◌, refl, sym, ◌∙◌}
+use mathlib.Core.Path.{◌≡◌, refl, sym, subst, ◌∙◌}
 use mathlib.Core.Bool.{true, cond}
 use mathlib.Core.List.{List}
 use mathlib.Core.Logic.{⊎_elim}
@@ -28,7 +29,7 @@ use Rattle.guard.proofs.Ranges.{in_create, in_delete}
 use Rattle.guard.proofs.Logs.{batch_room, batch_space, batch_rows, set_again}
 use Rattle.guard.proofs.Columns.{keys_set, keys_other, grants_other, grants_role, grants_each}
 use Rattle.guard.proofs.Seen.{view_at, parent_in, seen_of}
-use Rattle.guard.proofs.Answers.{done_in_range}
+use Rattle.guard.proofs.Answers.{done_in_range, out_of_range}
 use Rattle.guard.proofs.Stored.{told, session_stored, create_stored, delete_stored, alone_stored, role_stored, loss_stored, loses, no_loss}
 use Rattle.guard.proofs.Turns.{Held, held_none, held_more, held_length, held_roles, no_batch, unsound_batch, Stepped, refuses, does, opens_nothing, opens_by}
 use Rattle.guard.proofs.Tables.run.Goals as goal
@@ -58,6 +59,13 @@ module _ {t₀ t : Tables} {rows old old_roles said roles keys grants : List ℕ
     space : i < length roles
     space = rw (held_roles _ _ _ _ _ _ _ _ _ _ held (omega (arith, within_roles))) within_roles
 
+    -- the next turn holds, by what the tables and the columns are then, and what is stored of the role
+    next_turn : {q : Request} {a : ℕ} → q ≡ request_at rows i → (u : Tables) (b : ℕ) → Stepped t q u a b
+        → (roles' : List ℕ) → roles' ≡ set roles i b → (k g : List ℕ) → Keys u.entities k → Grants u.roles g
+        → (i + 1 ≤ n) × (n ≡ batch_count rows old old_roles) × Held t₀ rows old old_roles (i + 1) u (set said i a) roles' k g
+    next_turn asked u b step roles' same k g K G =
+        rw same (omega (arith, on), all, held_more _ _ _ _ _ _ _ _ _ _ held _ asked within within_roles u _ _ step k g K G)
+
     -- the decision
     turn_of : {q : Request} {p : Places} {o a : ℕ} {f : Found} {v : View} → q ≡ request_at rows i → Placed q p
         → o ≡ cond (eqb q.call kind.create) p.parent (entity_at t p.entity).parent
@@ -75,15 +83,9 @@ module _ {t₀ t : Tables} {rows old old_roles said roles keys grants : List ℕ
 module _ {t₀ t : Tables} {rows old old_roles said roles keys grants : List ℕ} {i n : ℕ} {q : Request} {p : Places} {a : ℕ}
     (turn : Turn t₀ t rows old old_roles said roles keys grants i n q p a)
   where
-    -- the next turn holds, by what the tables and the columns are then, and what is stored of the role
     turned : (u : Tables) (b : ℕ) → Stepped t q u a b → (roles' : List ℕ) → roles' ≡ set roles i b → (k g : List ℕ) → Keys u.entities k → Grants u.roles g
         → (i + 1 ≤ n) × (n ≡ batch_count rows old old_roles) × Held t₀ rows old old_roles (i + 1) u (set said i a) roles' k g
-    turned u b step roles' same k g K G =
-        rw same (
-          omega (arith, turn.on),
-          turn.all,
-          held_more _ _ _ _ _ _ _ _ _ _ turn.held _ turn.asked (within turn.held turn.on turn.all) (within_roles turn.held turn.on turn.all) u _ _ step k g K G,
-        )
+    turned = next_turn turn.held turn.on turn.all turn.asked
 
     many : Formed all_categories t
     many = formed_e _ turn.held.is_sound
@@ -107,6 +109,10 @@ entity_silent t q of =
 
 role_silent : (t : Tables) (q : Request) → 10 ≤ q.call → 255 ≡ role_byte (role_opening t q)
 role_silent t q l = opens_nothing _ _ (λ h. omega arith) (λ h. omega arith)
+
+-- the places of a request that is in its ranges
+placed_in : {q : Request} {r : Option Places} {p : Places} → IfSome r (Placed q) → r ≡ Some p → Placed q p
+placed_in {q = q} h e = subst (λ x. IfSome x (Placed q)) e h
 
 -- ---- before the first turn
 pub returns-then-count-eq0 : goal.returns-then-count-eq0
@@ -132,14 +138,14 @@ request-q-requires c = batch_rows _ _ _ _ (rw c.loop-i.invariant.1 at c.loop-i-t
 
 pub offset_bounds-self-o : goal.offset_bounds-self-o
 offset_bounds-self-o c =
-    omega (arith, parent_in _ c.loop-i.invariant.2.is_sound _ _ c.look_up-at.ensures _ c.parent_of-o.ensures)
+    omega (arith, parent_in _ c.loop-i.invariant.2.is_sound _ _ (placed_in c.look_up.ensures.some c.in-Some.is) _ c.parent_of-o.ensures)
 
 pub bounds-self-o : goal.bounds-self-o
-bounds-self-o c = parent_in _ c.loop-i.invariant.2.is_sound _ _ c.look_up-at.ensures _ c.parent_of-o.ensures
+bounds-self-o c = parent_in _ c.loop-i.invariant.2.is_sound _ _ (placed_in c.look_up.ensures.some c.in-Some.is) _ c.parent_of-o.ensures
 
 pub find-found-requires : goal.find-found-requires
 find-found-requires c =
-    let at = c.look_up-at.ensures in
+    let at = placed_in c.look_up.ensures.some c.in-Some.is in
     (at.entity.small, parent_in _ c.loop-i.invariant.2.is_sound _ _ at _ c.parent_of-o.ensures, at.role.small, at.junior.small)
 
 pub bounds-answers-i : goal.bounds-answers-i
@@ -148,9 +154,21 @@ bounds-answers-i c = room c.loop-i.invariant.2 c.loop-i-test.true c.loop-i.invar
 pub bounds-roles-i : goal.bounds-roles-i
 bounds-roles-i c = space c.loop-i.invariant.2 c.loop-i-test.true c.loop-i.invariant.1
 
+pub bounds-answers-i-in-loop-i : goal.bounds-answers-i-in-loop-i
+bounds-answers-i-in-loop-i c = room c.loop-i.invariant.2 c.loop-i-test.true c.loop-i.invariant.1
+
+pub bounds-roles-i-in-loop-i : goal.bounds-roles-i-in-loop-i
+bounds-roles-i-in-loop-i c = space c.loop-i.invariant.2 c.loop-i-test.true c.loop-i.invariant.1
+
+pub loop-i-preserved-in_default : goal.loop-i-preserved-in_default
+loop-i-preserved-in_default c =
+    let held = c.loop-i.invariant.2 in
+    next_turn held c.loop-i-test.true c.loop-i.invariant.1 c.request-q.ensures _ _
+    (refuses _ _ _ held.is_sound (out_of_range _ _ (sym c.in_default.ensures.fits)) (λ e. omega arith)) _ refl _ _ held.keys held.grants
+
 pub after-requires : goal.after-requires
 after-requires c =
-    let turn = turn_of c.loop-i.invariant.2 c.loop-i-test.true c.loop-i.invariant.1 c.request-q.ensures c.look_up-at.ensures c.parent_of-o.ensures c.find-found.ensures c.seen-v.ensures c.judge-n.ensures in
+    let turn = turn_of c.loop-i.invariant.2 c.loop-i-test.true c.loop-i.invariant.1 c.request-q.ensures (placed_in c.look_up.ensures.some c.in-Some.is) c.parent_of-o.ensures c.find-found.ensures c.seen-v.ensures c.judge-n.ensures in
     fits turn c.if-n-eq0.true
 
 pub bounds-roles-i-in-Session : goal.bounds-roles-i-in-Session
@@ -158,7 +176,7 @@ bounds-roles-i-in-Session c = simp length-set (omega (arith, space c.loop-i.inva
 
 pub loop-i-preserved-in-Session : goal.loop-i-preserved-in-Session
 loop-i-preserved-in-Session c =
-    let turn = turn_of c.loop-i.invariant.2 c.loop-i-test.true c.loop-i.invariant.1 c.request-q.ensures c.look_up-at.ensures c.parent_of-o.ensures c.find-found.ensures c.seen-v.ensures c.judge-n.ensures in
+    let turn = turn_of c.loop-i.invariant.2 c.loop-i-test.true c.loop-i.invariant.1 c.request-q.ensures (placed_in c.look_up.ensures.some c.in-Some.is) c.parent_of-o.ensures c.find-found.ensures c.seen-v.ensures c.judge-n.ensures in
     let z = c.if-n-eq0.true in
     done turn z _
     (session_stored _ _ (zero turn z) _ turn.near turn.held.is_sound _ turn.held.grants (told ASession _ _ c.change_of-changed.ensures c.in-Session.is) _ c.after.ensures) _
@@ -169,19 +187,19 @@ loop-i-preserved-in-Session c =
 
 pub after-f2-requires : goal.after-f2-requires
 after-f2-requires c =
-    let turn = turn_of c.loop-i.invariant.2 c.loop-i-test.true c.loop-i.invariant.1 c.request-q.ensures c.look_up-at.ensures c.parent_of-o.ensures c.find-found.ensures c.seen-v.ensures c.judge-n.ensures in (
+    let turn = turn_of c.loop-i.invariant.2 c.loop-i-test.true c.loop-i.invariant.1 c.request-q.ensures (placed_in c.look_up.ensures.some c.in-Some.is) c.parent_of-o.ensures c.find-found.ensures c.seen-v.ensures c.judge-n.ensures in (
       told AnEntity _ _ c.change_of-changed.ensures c.in-Entity.is,
       fits turn c.if-n-eq0.true,
     )
 
 pub owning-p2-requires : goal.owning-p2-requires
 owning-p2-requires c =
-    let turn = turn_of c.loop-i.invariant.2 c.loop-i-test.true c.loop-i.invariant.1 c.request-q.ensures c.look_up-at.ensures c.parent_of-o.ensures c.find-found.ensures c.seen-v.ensures c.judge-n.ensures in
+    let turn = turn_of c.loop-i.invariant.2 c.loop-i-test.true c.loop-i.invariant.1 c.request-q.ensures (placed_in c.look_up.ensures.some c.in-Some.is) c.parent_of-o.ensures c.find-found.ensures c.seen-v.ensures c.judge-n.ensures in
     (in_create _ (fits turn c.if-n-eq0.true) c.if-q-eq-CREATE.true).entity
 
 pub loop-i-preserved-then-q-eq-CREATE : goal.loop-i-preserved-then-q-eq-CREATE
 loop-i-preserved-then-q-eq-CREATE c =
-    let turn = turn_of c.loop-i.invariant.2 c.loop-i-test.true c.loop-i.invariant.1 c.request-q.ensures c.look_up-at.ensures c.parent_of-o.ensures c.find-found.ensures c.seen-v.ensures c.judge-n.ensures in
+    let turn = turn_of c.loop-i.invariant.2 c.loop-i-test.true c.loop-i.invariant.1 c.request-q.ensures (placed_in c.look_up.ensures.some c.in-Some.is) c.parent_of-o.ensures c.find-found.ensures c.seen-v.ensures c.judge-n.ensures in
     let z = c.if-n-eq0.true in
     let of = told AnEntity _ _ c.change_of-changed.ensures c.in-Entity.is in
     done turn z _
@@ -192,7 +210,7 @@ loop-i-preserved-then-q-eq-CREATE c =
 
 pub loop-i-preserved-then-q-eq-DELETE : goal.loop-i-preserved-then-q-eq-DELETE
 loop-i-preserved-then-q-eq-DELETE c =
-    let turn = turn_of c.loop-i.invariant.2 c.loop-i-test.true c.loop-i.invariant.1 c.request-q.ensures c.look_up-at.ensures c.parent_of-o.ensures c.find-found.ensures c.seen-v.ensures c.judge-n.ensures in
+    let turn = turn_of c.loop-i.invariant.2 c.loop-i-test.true c.loop-i.invariant.1 c.request-q.ensures (placed_in c.look_up.ensures.some c.in-Some.is) c.parent_of-o.ensures c.find-found.ensures c.seen-v.ensures c.judge-n.ensures in
     let z = c.if-n-eq0.true in
     let of = told AnEntity _ _ c.change_of-changed.ensures c.in-Entity.is in
     rw (c.without_entity-self.ensures, c.without_entity-self-then-q-eq-DELETE.ensures)
@@ -204,7 +222,7 @@ loop-i-preserved-then-q-eq-DELETE c =
 
 pub loop-i-preserved-else-q-eq-DELETE : goal.loop-i-preserved-else-q-eq-DELETE
 loop-i-preserved-else-q-eq-DELETE c =
-    let turn = turn_of c.loop-i.invariant.2 c.loop-i-test.true c.loop-i.invariant.1 c.request-q.ensures c.look_up-at.ensures c.parent_of-o.ensures c.find-found.ensures c.seen-v.ensures c.judge-n.ensures in
+    let turn = turn_of c.loop-i.invariant.2 c.loop-i-test.true c.loop-i.invariant.1 c.request-q.ensures (placed_in c.look_up.ensures.some c.in-Some.is) c.parent_of-o.ensures c.find-found.ensures c.seen-v.ensures c.judge-n.ensures in
     let z = c.if-n-eq0.true in
     let of = told AnEntity _ _ c.change_of-changed.ensures c.in-Entity.is in
     done turn z _
@@ -215,12 +233,12 @@ loop-i-preserved-else-q-eq-DELETE c =
 
 pub after-p2-requires : goal.after-p2-requires
 after-p2-requires c =
-    let turn = turn_of c.loop-i.invariant.2 c.loop-i-test.true c.loop-i.invariant.1 c.request-q.ensures c.look_up-at.ensures c.parent_of-o.ensures c.find-found.ensures c.seen-v.ensures c.judge-n.ensures in
+    let turn = turn_of c.loop-i.invariant.2 c.loop-i-test.true c.loop-i.invariant.1 c.request-q.ensures (placed_in c.look_up.ensures.some c.in-Some.is) c.parent_of-o.ensures c.find-found.ensures c.seen-v.ensures c.judge-n.ensures in
     fits turn c.if-n-eq0.true
 
 pub loop-i-preserved-then-ends_opens : goal.loop-i-preserved-then-ends_opens
 loop-i-preserved-then-ends_opens c =
-    let turn = turn_of c.loop-i.invariant.2 c.loop-i-test.true c.loop-i.invariant.1 c.request-q.ensures c.look_up-at.ensures c.parent_of-o.ensures c.find-found.ensures c.seen-v.ensures c.judge-n.ensures in
+    let turn = turn_of c.loop-i.invariant.2 c.loop-i-test.true c.loop-i.invariant.1 c.request-q.ensures (placed_in c.look_up.ensures.some c.in-Some.is) c.parent_of-o.ensures c.find-found.ensures c.seen-v.ensures c.judge-n.ensures in
     let z = c.if-n-eq0.true in
     let of = told ARole _ _ c.change_of-changed.ensures c.in-Role.is in
     let sets = grants_role _ _ turn.held.grants _ (many turn).many_roles _ turn.near.role.small _ _ c.put-in-Role.ensures refl in
@@ -231,7 +249,7 @@ loop-i-preserved-then-ends_opens c =
 
 pub loop-i-preserved-else-ends_opens : goal.loop-i-preserved-else-ends_opens
 loop-i-preserved-else-ends_opens c =
-    let turn = turn_of c.loop-i.invariant.2 c.loop-i-test.true c.loop-i.invariant.1 c.request-q.ensures c.look_up-at.ensures c.parent_of-o.ensures c.find-found.ensures c.seen-v.ensures c.judge-n.ensures in
+    let turn = turn_of c.loop-i.invariant.2 c.loop-i-test.true c.loop-i.invariant.1 c.request-q.ensures (placed_in c.look_up.ensures.some c.in-Some.is) c.parent_of-o.ensures c.find-found.ensures c.seen-v.ensures c.judge-n.ensures in
     let z = c.if-n-eq0.true in
     let of = told ARole _ _ c.change_of-changed.ensures c.in-Role.is in
     done turn z _
@@ -242,5 +260,5 @@ loop-i-preserved-else-ends_opens c =
 
 pub loop-i-preserved : goal.loop-i-preserved
 loop-i-preserved c =
-    let turn = turn_of c.loop-i.invariant.2 c.loop-i-test.true c.loop-i.invariant.1 c.request-q.ensures c.look_up-at.ensures c.parent_of-o.ensures c.find-found.ensures c.seen-v.ensures c.judge-n.ensures in
+    let turn = turn_of c.loop-i.invariant.2 c.loop-i-test.true c.loop-i.invariant.1 c.request-q.ensures (placed_in c.look_up.ensures.some c.in-Some.is) c.parent_of-o.ensures c.find-found.ensures c.seen-v.ensures c.judge-n.ensures in
     turned turn _ _ (refuses _ _ _ turn.held.is_sound turn.decided c.if-n-eq0.false) _ refl _ _ turn.held.keys turn.held.grants
