@@ -17,7 +17,7 @@ use Rattle.guard.specs.Chain.{reaches}
 use Rattle.guard.specs.Sound.{sound}
 use Rattle.guard.specs.Conditions.{name_taken, has_children, role_tied, closes_cycle, recorded_parent}
 use Rattle.guard.specs.Kind as kind
-use Rattle.guard.specs.Private.Inside.{Placed, view_of, asks_way, asks_name, asks_rights, RightsOf, Seen}
+use Rattle.guard.specs.Private.Inside.{Placed, asks_way, asks_name, asks_rights, RightsOf, Seen}
 use Rattle.guard.specs.Private.Scan.{Keys, Grants, juniors_by, tie_by, senior_by, tied_by, reached_by, name_by, child_by, kin_by, FoundBy}
 use Rattle.guard.specs.declared.Tables.{Tables}
 use Rattle.guard.specs.declared.Request.{Request}
@@ -31,7 +31,19 @@ use Rattle.guard.proofs.TiesAsked.{tied_of, cycle_of}
 use Rattle.guard.proofs.Columns.{way_of, child_of_lem, name_of}
 
 abbrev pub view_at : Tables → Places → ℕ → Found → View
-view_at t p o f = view_of (session_at t p.seat) (user_at t p.user) (role_at t p.role) (role_at t p.junior).live (entity_at t p.entity) (entity_at t o) f t.edition
+view_at t p o f =
+    record {
+      session = session_at t p.seat;
+      user = user_at t p.user;
+      live = (role_at t p.role).live;
+      users = (role_at t p.role).users;
+      juniors = (role_at t p.role).juniors;
+      alive = (role_at t p.junior).live;
+      entity = entity_at t p.entity;
+      parent = entity_at t o;
+      found = f;
+      edition = t.edition;
+    }
 
 cond_less : (b : Bool) (m n : ℕ) → m < 64 → n < 64 → cond b m n < 64
 cond_less true m n h k = h

@@ -6,8 +6,7 @@ ghost use Rattle.guard.specs.Private.InForce.{in_ranges};
 
 use crate::{Request, kinds, sizes};
 
-// The places of the records that a request concerns: where a number is past its range, some other place. `fits`: every number
-// that the request's kind uses is in its range.
+// The places of the records that a request concerns; where a number that its kind does not use is past its range, some other place.
 #[derive(Clone, Copy)]
 pub struct Places {
     pub seat: usize,
@@ -60,6 +59,7 @@ fn fits(q: Request) -> bool
     }
 }
 
+// None where a number that the request's kind uses is past its range.
 pub fn look_up(q: Request) -> Option<Places>
     ensures some { IfSome result (Placed q) }
     ensures fits { is_some result ≡ in_ranges q }

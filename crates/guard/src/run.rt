@@ -3,9 +3,10 @@ ghost use Rattle.guard.specs.Batch.{RunsBatch};
 
 use crate::change::Change;
 use crate::sound::tree;
+use crate::view::View;
 use crate::{
     Tables, backing, change, entities, giver, judge, kinds, look, roles, rows, scan, sessions,
-    sizes, view,
+    sizes,
 };
 
 impl Tables {
@@ -51,16 +52,18 @@ impl Tables {
             // What the scans find.
             let found = scan::find(&keys, &grants, q, session.roles, e, o, r, j);
             // The decision.
-            let v = view::seen(
+            let v = View {
                 session,
                 user,
-                role,
-                junior.live,
+                live: role.live,
+                users: role.users,
+                juniors: role.juniors,
+                alive: junior.live,
                 entity,
                 parent,
                 found,
-                self.edition,
-            );
+                edition: self.edition,
+            };
             let n = judge::judge(q, v);
             answers[i] = n;
             roles[i] = sizes::NO_ROLE;

@@ -13,7 +13,6 @@ use Rattle.guard.specs.Conditions.{name_taken, has_children, role_tied, closes_c
 use Rattle.guard.specs.Requests.{Rule, logged_in, created}
 use Rattle.guard.specs.Kind as kind
 use Rattle.guard.specs.Private.InForce.{field_in_range}
-use Rattle.guard.specs.declared.User.{User}
 use Rattle.guard.specs.declared.Session.{Session}
 use Rattle.guard.specs.declared.Role.{Role}
 use Rattle.guard.specs.declared.Entity.{Entity}
@@ -23,7 +22,6 @@ use Rattle.guard.specs.declared.look.Places.{Places}
 use Rattle.guard.specs.declared.change.Change.{Change}
 use Rattle.guard.specs.declared.change.Change.TheVariants.{Session as ASession, Entity as AnEntity, Role as ARole}
 use Rattle.guard.specs.declared.scan.Rights.{Rights}
-use Rattle.guard.specs.declared.scan.Found.{Found}
 use Rattle.guard.specs.declared.view.View.{View}
 
 -- the answer of a rule on sound tables
@@ -59,22 +57,6 @@ asks_rights call =
     either (asks_way call)
     (either (asks_name call)
     (either (eqb call kind.delete) (either (eqb call kind.grant) (either (eqb call kind.revoke) (eqb call kind.share)))))
-
--- ---- the view, from the records and what the scans tell
-abbrev pub view_of : Session → User → Role → Bool → Entity → Entity → Found → ℕ → View
-view_of session user role alive entity parent found edition =
-    record {
-      session = session;
-      user = user;
-      live = role.live;
-      users = role.users;
-      juniors = role.juniors;
-      alive = alive;
-      entity = entity;
-      parent = parent;
-      found = found;
-      edition = edition;
-    }
 
 -- ---- what a request looks at: v holds the records that q concerns, and of what q asks of the tables the answers
 -- the entities on which session x has each right
