@@ -4,8 +4,8 @@ ghost use Rattle.guard.specs.Batch.{RunsBatch};
 use crate::change::Change;
 use crate::sound::tree;
 use crate::{
-    Tables, backing, change, entities, giver, judge, kinds, look, roles, rows, scan, sessions,
-    sizes, view,
+    Tables, backing, change, entities, giver, judge, kinds, look, refusal, roles, rows, scan,
+    sessions, sizes, view,
 };
 
 impl Tables {
@@ -57,7 +57,7 @@ impl Tables {
                 found,
                 self.edition,
             );
-            let n = judge::judge(q, v);
+            let n = refusal::answer(judge::judge(q, v));
             answers[i] = n;
             roles[i] = sizes::NO_ROLE;
             i += 1;

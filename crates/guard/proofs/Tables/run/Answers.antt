@@ -58,18 +58,18 @@ module _ {t₀ t : Tables} {rows old old_roles said roles keys grants : List ℕ
     space : i < length roles
     space = rw (held_roles _ _ _ _ _ _ _ _ _ _ held (omega (arith, within_roles))) within_roles
 
-    -- the decision
-    turn_of : {q : Request} {p : Places} {o a : ℕ} {f : Found} {v : View} → q ≡ request_at rows i → Placed q p
+    -- the decision, and its number
+    turn_of : {q : Request} {p : Places} {o d a : ℕ} {f : Found} {v : View} → q ≡ request_at rows i → Placed q p
         → o ≡ cond (eqb q.call kind.create) p.parent (entity_at t p.entity).parent
         → FoundBy keys grants q (session_at t p.seat).roles p.entity o p.role p.junior f → v ≡ view_at t p o f
-        → ((s : Tables) → Seen s q v → a ≡ number (rule_of q) s q) → Turn t₀ t rows old old_roles said roles keys grants i n q p a
-    turn_of asked near above found seen says = record {
+        → ((s : Tables) → Seen s q v → d ≡ number (rule_of q) s q) → a ≡ d → Turn t₀ t rows old old_roles said roles keys grants i n q p a
+    turn_of asked near above found seen says numbered = record {
       held = held;
       on = on;
       all = all;
       asked = asked;
       near = near;
-      decided = says _ (seen_of _ held.is_sound _ _ near _ above _ _ held.keys held.grants _ found _ seen);
+      decided = numbered ∙ says _ (seen_of _ held.is_sound _ _ near _ above _ _ held.keys held.grants _ found _ seen);
     }
 
 module _ {t₀ t : Tables} {rows old old_roles said roles keys grants : List ℕ} {i n : ℕ} {q : Request} {p : Places} {a : ℕ}
@@ -150,7 +150,7 @@ bounds-roles-i c = space c.loop-i.invariant.2 c.loop-i-test.true c.loop-i.invari
 
 pub after-requires : goal.after-requires
 after-requires c =
-    let turn = turn_of c.loop-i.invariant.2 c.loop-i-test.true c.loop-i.invariant.1 c.request-q.ensures c.look_up-at.ensures c.parent_of-o.ensures c.find-found.ensures c.seen-v.ensures c.judge-n.ensures in
+    let turn = turn_of c.loop-i.invariant.2 c.loop-i-test.true c.loop-i.invariant.1 c.request-q.ensures c.look_up-at.ensures c.parent_of-o.ensures c.find-found.ensures c.seen-v.ensures c.judge.ensures c.answer-n.ensures in
     fits turn c.if-n-eq0.true
 
 pub bounds-roles-i-in-Session : goal.bounds-roles-i-in-Session
@@ -158,7 +158,7 @@ bounds-roles-i-in-Session c = simp length-set (omega (arith, space c.loop-i.inva
 
 pub loop-i-preserved-in-Session : goal.loop-i-preserved-in-Session
 loop-i-preserved-in-Session c =
-    let turn = turn_of c.loop-i.invariant.2 c.loop-i-test.true c.loop-i.invariant.1 c.request-q.ensures c.look_up-at.ensures c.parent_of-o.ensures c.find-found.ensures c.seen-v.ensures c.judge-n.ensures in
+    let turn = turn_of c.loop-i.invariant.2 c.loop-i-test.true c.loop-i.invariant.1 c.request-q.ensures c.look_up-at.ensures c.parent_of-o.ensures c.find-found.ensures c.seen-v.ensures c.judge.ensures c.answer-n.ensures in
     let z = c.if-n-eq0.true in
     done turn z _
     (session_stored _ _ (zero turn z) _ turn.near turn.held.is_sound _ turn.held.grants (told ASession _ _ c.change_of-changed.ensures c.in-Session.is) _ c.after.ensures) _
@@ -169,19 +169,19 @@ loop-i-preserved-in-Session c =
 
 pub after-f2-requires : goal.after-f2-requires
 after-f2-requires c =
-    let turn = turn_of c.loop-i.invariant.2 c.loop-i-test.true c.loop-i.invariant.1 c.request-q.ensures c.look_up-at.ensures c.parent_of-o.ensures c.find-found.ensures c.seen-v.ensures c.judge-n.ensures in (
+    let turn = turn_of c.loop-i.invariant.2 c.loop-i-test.true c.loop-i.invariant.1 c.request-q.ensures c.look_up-at.ensures c.parent_of-o.ensures c.find-found.ensures c.seen-v.ensures c.judge.ensures c.answer-n.ensures in (
       told AnEntity _ _ c.change_of-changed.ensures c.in-Entity.is,
       fits turn c.if-n-eq0.true,
     )
 
 pub owning-p2-requires : goal.owning-p2-requires
 owning-p2-requires c =
-    let turn = turn_of c.loop-i.invariant.2 c.loop-i-test.true c.loop-i.invariant.1 c.request-q.ensures c.look_up-at.ensures c.parent_of-o.ensures c.find-found.ensures c.seen-v.ensures c.judge-n.ensures in
+    let turn = turn_of c.loop-i.invariant.2 c.loop-i-test.true c.loop-i.invariant.1 c.request-q.ensures c.look_up-at.ensures c.parent_of-o.ensures c.find-found.ensures c.seen-v.ensures c.judge.ensures c.answer-n.ensures in
     (in_create _ (fits turn c.if-n-eq0.true) c.if-q-eq-CREATE.true).entity
 
 pub loop-i-preserved-then-q-eq-CREATE : goal.loop-i-preserved-then-q-eq-CREATE
 loop-i-preserved-then-q-eq-CREATE c =
-    let turn = turn_of c.loop-i.invariant.2 c.loop-i-test.true c.loop-i.invariant.1 c.request-q.ensures c.look_up-at.ensures c.parent_of-o.ensures c.find-found.ensures c.seen-v.ensures c.judge-n.ensures in
+    let turn = turn_of c.loop-i.invariant.2 c.loop-i-test.true c.loop-i.invariant.1 c.request-q.ensures c.look_up-at.ensures c.parent_of-o.ensures c.find-found.ensures c.seen-v.ensures c.judge.ensures c.answer-n.ensures in
     let z = c.if-n-eq0.true in
     let of = told AnEntity _ _ c.change_of-changed.ensures c.in-Entity.is in
     done turn z _
@@ -192,7 +192,7 @@ loop-i-preserved-then-q-eq-CREATE c =
 
 pub loop-i-preserved-then-q-eq-DELETE : goal.loop-i-preserved-then-q-eq-DELETE
 loop-i-preserved-then-q-eq-DELETE c =
-    let turn = turn_of c.loop-i.invariant.2 c.loop-i-test.true c.loop-i.invariant.1 c.request-q.ensures c.look_up-at.ensures c.parent_of-o.ensures c.find-found.ensures c.seen-v.ensures c.judge-n.ensures in
+    let turn = turn_of c.loop-i.invariant.2 c.loop-i-test.true c.loop-i.invariant.1 c.request-q.ensures c.look_up-at.ensures c.parent_of-o.ensures c.find-found.ensures c.seen-v.ensures c.judge.ensures c.answer-n.ensures in
     let z = c.if-n-eq0.true in
     let of = told AnEntity _ _ c.change_of-changed.ensures c.in-Entity.is in
     rw (c.without_entity-self.ensures, c.without_entity-self-then-q-eq-DELETE.ensures)
@@ -204,7 +204,7 @@ loop-i-preserved-then-q-eq-DELETE c =
 
 pub loop-i-preserved-else-q-eq-DELETE : goal.loop-i-preserved-else-q-eq-DELETE
 loop-i-preserved-else-q-eq-DELETE c =
-    let turn = turn_of c.loop-i.invariant.2 c.loop-i-test.true c.loop-i.invariant.1 c.request-q.ensures c.look_up-at.ensures c.parent_of-o.ensures c.find-found.ensures c.seen-v.ensures c.judge-n.ensures in
+    let turn = turn_of c.loop-i.invariant.2 c.loop-i-test.true c.loop-i.invariant.1 c.request-q.ensures c.look_up-at.ensures c.parent_of-o.ensures c.find-found.ensures c.seen-v.ensures c.judge.ensures c.answer-n.ensures in
     let z = c.if-n-eq0.true in
     let of = told AnEntity _ _ c.change_of-changed.ensures c.in-Entity.is in
     done turn z _
@@ -215,12 +215,12 @@ loop-i-preserved-else-q-eq-DELETE c =
 
 pub after-p2-requires : goal.after-p2-requires
 after-p2-requires c =
-    let turn = turn_of c.loop-i.invariant.2 c.loop-i-test.true c.loop-i.invariant.1 c.request-q.ensures c.look_up-at.ensures c.parent_of-o.ensures c.find-found.ensures c.seen-v.ensures c.judge-n.ensures in
+    let turn = turn_of c.loop-i.invariant.2 c.loop-i-test.true c.loop-i.invariant.1 c.request-q.ensures c.look_up-at.ensures c.parent_of-o.ensures c.find-found.ensures c.seen-v.ensures c.judge.ensures c.answer-n.ensures in
     fits turn c.if-n-eq0.true
 
 pub loop-i-preserved-then-ends_opens : goal.loop-i-preserved-then-ends_opens
 loop-i-preserved-then-ends_opens c =
-    let turn = turn_of c.loop-i.invariant.2 c.loop-i-test.true c.loop-i.invariant.1 c.request-q.ensures c.look_up-at.ensures c.parent_of-o.ensures c.find-found.ensures c.seen-v.ensures c.judge-n.ensures in
+    let turn = turn_of c.loop-i.invariant.2 c.loop-i-test.true c.loop-i.invariant.1 c.request-q.ensures c.look_up-at.ensures c.parent_of-o.ensures c.find-found.ensures c.seen-v.ensures c.judge.ensures c.answer-n.ensures in
     let z = c.if-n-eq0.true in
     let of = told ARole _ _ c.change_of-changed.ensures c.in-Role.is in
     let sets = grants_role _ _ turn.held.grants _ (many turn).many_roles _ turn.near.role.small _ _ c.put-in-Role.ensures refl in
@@ -231,7 +231,7 @@ loop-i-preserved-then-ends_opens c =
 
 pub loop-i-preserved-else-ends_opens : goal.loop-i-preserved-else-ends_opens
 loop-i-preserved-else-ends_opens c =
-    let turn = turn_of c.loop-i.invariant.2 c.loop-i-test.true c.loop-i.invariant.1 c.request-q.ensures c.look_up-at.ensures c.parent_of-o.ensures c.find-found.ensures c.seen-v.ensures c.judge-n.ensures in
+    let turn = turn_of c.loop-i.invariant.2 c.loop-i-test.true c.loop-i.invariant.1 c.request-q.ensures c.look_up-at.ensures c.parent_of-o.ensures c.find-found.ensures c.seen-v.ensures c.judge.ensures c.answer-n.ensures in
     let z = c.if-n-eq0.true in
     let of = told ARole _ _ c.change_of-changed.ensures c.in-Role.is in
     done turn z _
@@ -242,5 +242,5 @@ loop-i-preserved-else-ends_opens c =
 
 pub loop-i-preserved : goal.loop-i-preserved
 loop-i-preserved c =
-    let turn = turn_of c.loop-i.invariant.2 c.loop-i-test.true c.loop-i.invariant.1 c.request-q.ensures c.look_up-at.ensures c.parent_of-o.ensures c.find-found.ensures c.seen-v.ensures c.judge-n.ensures in
+    let turn = turn_of c.loop-i.invariant.2 c.loop-i-test.true c.loop-i.invariant.1 c.request-q.ensures c.look_up-at.ensures c.parent_of-o.ensures c.find-found.ensures c.seen-v.ensures c.judge.ensures c.answer-n.ensures in
     turned turn _ _ (refuses _ _ _ turn.held.is_sound turn.decided c.if-n-eq0.false) _ refl _ _ turn.held.keys turn.held.grants
