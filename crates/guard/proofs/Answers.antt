@@ -1,25 +1,23 @@
 -- The number that a rule answers on sound tables, as `judge` decides it.
 --     out_of_range, by_rule         2 where a number is out of range, else the first refusal of the rule at the request's number
+--     by_numbers                    .. by what is known of them then
 --     none_of, past_kinds           a number that is none of the first k; 2 for one that is none of the nineteen
 --     done_in_range, done_allowed   0 is answered where all numbers are in range and no refusal applies
---     keeper_met, keeper_unmet      10 and 12 before other refusals
 -- Assumes nothing.
 use Prim.Native.Nat.{ℕ, zero, suc, ◌≤◌}
 use mathlib.Core.Path.{◌≡◌, refl, sym, ◌∙◌}
-use mathlib.Core.Bool.{Bool, true, false}
-use mathlib.Core.List.{List, [], ◌∷◌}
+use mathlib.Core.Bool.{true, false}
 use native.Mathlib.Omega.{arith}
 use lib.ListN.{get_or}
 use borrow.Author.Tests.{eqb-false}
 use Rattle.bitset.specs.Tests.Laws.{is_false, of_not_true, of_not_false}
-use Rattle.guard.specs.Refusals.{◌when◌, first, Refusal}
+use Rattle.guard.specs.Refusals.{first}
 use Rattle.guard.specs.Requests.{request_count, unknown, rules, rule_of}
 use Rattle.guard.specs.Step.{in_ranges_in}
 use Rattle.guard.specs.Private.Inside.{number}
 use Rattle.guard.specs.Private.InForce.{in_ranges}
 use Rattle.guard.specs.declared.Tables.{Tables}
 use Rattle.guard.specs.declared.Request.{Request}
-use Rattle.guard.proofs.Laws.Refusals.{first_past, first_here}
 use Rattle.guard.proofs.Ranges.{rule_at, fits_none}
 
 -- n is none of the first k numbers
@@ -46,6 +44,11 @@ module _ (t : Tables) (q : Request) where
   pub by_rule : (n k : ℕ) → q.call ≡ k → in_ranges q ≡ true → n ≡ first ((get_or rules k unknown).refusals t q) → n ≡ number (rule_of q) t q
   by_rule n k c h same = sym (inside h ∙ rw (rule_at q k c) (sym same))
 
+  -- the same by what is known of the numbers
+  pub by_numbers : {R : Type 0} → in_ranges q ≡ true → (k : ℕ) → q.call ≡ k → (in_ranges q ≡ true → q.call ≡ k → R)
+      → (n : ℕ) → (R → n ≡ first ((get_or rules k unknown).refusals t q)) → n ≡ number (rule_of q) t q
+  by_numbers inside k c known n same = by_rule n k c inside (same (known inside c))
+
   pub past_kinds : request_count ≤ q.call → 2 ≡ number (rule_of q) t q
   past_kinds h = out_of_range (sym (fits_none q h))
 
@@ -55,11 +58,3 @@ module _ (t : Tables) (q : Request) where
 
     pub done_allowed : first ((rule_of q).refusals t q) ≡ 0
     done_allowed = sym (inside done_in_range) ∙ sym z
-
--- ---- two refusals, and those after them
-module _ (a b : Bool) (cs : List Refusal) (n : ℕ) where
-  pub keeper_met : n ≡ first (10 when a ∷ 12 when b ∷ []) → (n ≡ 0 → ⊥) → n ≡ first (10 when a ∷ 12 when b ∷ cs)
-  keeper_met h k = h ∙ sym (first_here (10 when a ∷ 12 when b ∷ []) cs (λ z. k (h ∙ z)))
-
-  pub keeper_unmet : (m : ℕ) → m ≡ first (10 when a ∷ 12 when b ∷ []) → m ≡ 0 → n ≡ first cs → n ≡ first (10 when a ∷ 12 when b ∷ cs)
-  keeper_unmet m h z k = k ∙ sym (first_past (10 when a ∷ 12 when b ∷ []) cs refl (sym h ∙ z))

@@ -3,7 +3,7 @@ pub mod Compute
 pub mod Laws
 pub mod Kept
 pub mod Soundness
-pub mod RefusalSearch
+pub mod Decisions
 pub mod Ranges
 pub mod Answers
 pub mod Sweeps

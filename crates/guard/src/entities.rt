@@ -1,5 +1,7 @@
 // Requests that make, end, rename or mark an entity: what create, delete, rename and share are refused for, and the entity after
 // them.
+#![tactic(auto, using(crate::proofs::Decisions::refused), unfolding(crate::specs::Refusals::first, bitset::specs::Tests::either))]
+
 ghost use Rattle.std.specs.Prelude.{◌≤◌, ◌<◌, ◌≡◌, true, not, [], ◌∷◌, ltb, eqb};
 ghost use Rattle.bitset.specs.Tests.{every, either};
 ghost use Rattle.bitset.specs.Sets.{has};
@@ -11,66 +13,65 @@ ghost use Rattle.guard.specs.Edits.{rename_to, mark_as};
 ghost use Rattle.guard.specs.Refusals.{first, ◌when◌};
 ghost use Rattle.guard.specs.Conditions.{label_asked};
 ghost use Rattle.guard.specs.Requests.{created};
+ghost use Rattle.guard.specs.Private.Decision.{answer_of, number_of};
 ghost use Rattle.guard.specs.Private.Inside.{OfEntity, entity_after};
 ghost use Rattle.guard.specs.Private.InForce.{in_ranges};
 
+use crate::refusal::Refusal;
 use crate::view::View;
 use crate::{Entity, Label, Request, kinds, labels, sizes};
 use bitset::Set;
 
-// The refusals of create up to 9: what has to be there, and what not.
-fn create_refusal_to_9(v: View) -> u8
-    ensures { result ≡ first (5 when not v.session.live ∷ 7 when either (not v.parent.live) (not v.live) ∷ 8 when v.entity.live ∷ 9 when not (eqb v.parent.kind container) ∷ []) }
+// The refusals of create up to `NoContainer`: what has to be there, and what not.
+fn create_refusal_to_9(v: View) -> Result<(), Refusal>
+    ensures { answer_of result ≡ first (5 when not v.session.live ∷ 7 when either (not v.parent.live) (not v.live) ∷ 8 when v.entity.live ∷ 9 when not (eqb v.parent.kind container) ∷ []) }
 {
     if !v.session.live {
-        return 5;
+        return Err(Refusal::SeatDead);
     }
     if !v.parent.live | !v.live {
-        return 7;
+        return Err(Refusal::NotLive);
     }
     if v.entity.live {
-        return 8;
+        return Err(Refusal::NumberLive);
     }
     if v.parent.kind != sizes::CONTAINER {
-        return 9;
+        return Err(Refusal::NoContainer);
     }
-    0
+    Ok(())
 }
 
-// Those from 10 on.
-fn create_refusal_from_10(q: Request, v: View) -> u8
+// Those from `Integrity` on.
+fn create_refusal_from_10(q: Request, v: View) -> Result<(), Refusal>
     requires { (q.grade ≤ top_grade) × (q.cats ≤ all_categories) }
-    ensures { result ≡ first (10 when either (not (eqb (entity_level q.entity) (entity_level q.parent))) (ltb (role_level q.role) (entity_level q.entity)) ∷ 11 when not (dominates (label_asked q) v.parent.label) ∷ 12 when not (has v.session.roles q.role) ∷ 13 when either (not (has v.session.writing q.parent)) (not (has v.found.rights.executes q.parent)) ∷ 14 when v.found.kin ∷ []) }
+    ensures { answer_of result ≡ first (10 when either (not (eqb (entity_level q.entity) (entity_level q.parent))) (ltb (role_level q.role) (entity_level q.entity)) ∷ 11 when not (dominates (label_asked q) v.parent.label) ∷ 12 when not (has v.session.roles q.role) ∷ 13 when either (not (has v.session.writing q.parent)) (not (has v.found.rights.executes q.parent)) ∷ 14 when v.found.kin ∷ []) }
 {
     if (q.entity / sizes::LEVEL_ENTITIES != q.parent / sizes::LEVEL_ENTITIES)
         | (q.role / sizes::LEVEL_ROLES < q.entity / sizes::LEVEL_ENTITIES)
     {
-        return 10;
+        return Err(Refusal::Integrity);
     }
     let label = labels::made(q.grade, q.cats);
     if !labels::dominates(label, v.parent.label) {
-        return 11;
+        return Err(Refusal::Confidentiality);
     }
     if !v.session.roles.has(q.role) {
-        return 12;
+        return Err(Refusal::RoleMissing);
     }
     if !v.session.writing.has(q.parent) | !v.found.rights.executes.has(q.parent) {
-        return 13;
+        return Err(Refusal::RightMissing);
     }
     if v.found.kin {
-        return 14;
+        return Err(Refusal::NameTaken);
     }
-    0
+    Ok(())
 }
 
-pub fn create_refusal(q: Request, v: View) -> u8
+pub fn create_refusal(q: Request, v: View) -> Result<(), Refusal>
     requires { (q.grade ≤ top_grade) × (q.cats ≤ all_categories) }
-    ensures { result ≡ first (5 when not v.session.live ∷ 7 when either (not v.parent.live) (not v.live) ∷ 8 when v.entity.live ∷ 9 when not (eqb v.parent.kind container) ∷ 10 when either (not (eqb (entity_level q.entity) (entity_level q.parent))) (ltb (role_level q.role) (entity_level q.entity)) ∷ 11 when not (dominates (label_asked q) v.parent.label) ∷ 12 when not (has v.session.roles q.role) ∷ 13 when either (not (has v.session.writing q.parent)) (not (has v.found.rights.executes q.parent)) ∷ 14 when v.found.kin ∷ []) }
+    ensures { answer_of result ≡ first (5 when not v.session.live ∷ 7 when either (not v.parent.live) (not v.live) ∷ 8 when v.entity.live ∷ 9 when not (eqb v.parent.kind container) ∷ 10 when either (not (eqb (entity_level q.entity) (entity_level q.parent))) (ltb (role_level q.role) (entity_level q.entity)) ∷ 11 when not (dominates (label_asked q) v.parent.label) ∷ 12 when not (has v.session.roles q.role) ∷ 13 when either (not (has v.session.writing q.parent)) (not (has v.found.rights.executes q.parent)) ∷ 14 when v.found.kin ∷ []) }
 {
-    let n = create_refusal_to_9(v);
-    if n != 0 {
-        return n;
-    }
+    create_refusal_to_9(v)?;
     create_refusal_from_10(q, v)
 }
 
@@ -81,61 +82,54 @@ fn lacks_own(parent: Entity, owns: u64, e: u32) -> bool
     (parent.shared == sizes::SHARED) & !owns.has(e)
 }
 
-// The refusals of delete and of rename, which differ in the last number: 15, the entity has a child, or 14, a child of
-// its parent has the name. In a shared container both also need own on the entity.
-pub fn change_refusal(q: Request, v: View, last: u8) -> u8
-    ensures { result ≡ first (5 when not v.session.live ∷ 6 when is_root q.entity ∷ 7 when not v.entity.live ∷ 13 when either (either (not (has v.session.writing v.entity.parent)) (not (has v.found.rights.executes v.entity.parent))) (every (eqb v.parent.shared shared_mark ∷ not (has v.found.rights.owns q.entity) ∷ [])) ∷ last when v.found.kin ∷ []) }
+// The refusals of delete and of rename, which differ in the last: the entity is in use, having a child, or the name is taken by a
+// child of its parent. In a shared container both also need own on the entity.
+pub fn change_refusal(q: Request, v: View, last: Refusal) -> Result<(), Refusal>
+    ensures { answer_of result ≡ first (5 when not v.session.live ∷ 6 when is_root q.entity ∷ 7 when not v.entity.live ∷ 13 when either (either (not (has v.session.writing v.entity.parent)) (not (has v.found.rights.executes v.entity.parent))) (every (eqb v.parent.shared shared_mark ∷ not (has v.found.rights.owns q.entity) ∷ [])) ∷ number_of last when v.found.kin ∷ []) }
 {
     let o = v.entity.parent as u32;
     if !v.session.live {
-        return 5;
+        return Err(Refusal::SeatDead);
     }
     if q.entity % sizes::LEVEL_ENTITIES == 0 {
-        return 6;
+        return Err(Refusal::RootOrKeeper);
     }
     if !v.entity.live {
-        return 7;
+        return Err(Refusal::NotLive);
     }
     if (!v.session.writing.has(o) | !v.found.rights.executes.has(o))
         | lacks_own(v.parent, v.found.rights.owns, q.entity)
     {
-        return 13;
+        return Err(Refusal::RightMissing);
     }
     if v.found.kin {
-        return last;
+        return Err(last);
     }
-    0
+    Ok(())
 }
 
-// Whether `f` has the mark already.
-fn is_marked(f: Entity, mark: u32) -> bool
-    ensures { result ≡ eqb f.shared mark }
-{
-    (f.shared as u32) == mark
-}
-
-pub fn share_refusal(q: Request, v: View) -> u8
-    ensures { result ≡ first (5 when not v.session.live ∷ 7 when not v.entity.live ∷ 9 when eqb v.entity.kind object ∷ 10 when ltb (session_level q.seat) (entity_level q.entity) ∷ 13 when not (has v.found.rights.owns q.entity) ∷ 16 when eqb v.entity.shared q.shared ∷ []) }
+pub fn share_refusal(q: Request, v: View) -> Result<(), Refusal>
+    ensures { answer_of result ≡ first (5 when not v.session.live ∷ 7 when not v.entity.live ∷ 9 when eqb v.entity.kind object ∷ 10 when ltb (session_level q.seat) (entity_level q.entity) ∷ 13 when not (has v.found.rights.owns q.entity) ∷ 16 when eqb v.entity.shared q.shared ∷ []) }
 {
     if !v.session.live {
-        return 5;
+        return Err(Refusal::SeatDead);
     }
     if !v.entity.live {
-        return 7;
+        return Err(Refusal::NotLive);
     }
     if v.entity.kind == sizes::OBJECT {
-        return 9;
+        return Err(Refusal::NoContainer);
     }
     if q.seat / sizes::LEVEL_SEATS < q.entity / sizes::LEVEL_ENTITIES {
-        return 10;
+        return Err(Refusal::Integrity);
     }
     if !v.found.rights.owns.has(q.entity) {
-        return 13;
+        return Err(Refusal::RightMissing);
     }
-    if is_marked(v.entity, q.shared) {
-        return 16;
+    if v.entity.shared as u32 == q.shared {
+        return Err(Refusal::NoChange);
     }
-    0
+    Ok(())
 }
 
 // The entity that a create makes.

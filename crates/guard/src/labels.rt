@@ -1,6 +1,6 @@
 // Labels: a grade and a set of sixteen categories.
 ghost use Rattle.std.specs.Prelude.{◌≤◌, ◌≡◌};
-ghost use Rattle.guard.specs.Label.{label_in_range, dominates as dominates_of, same_label, label, all_categories, top_grade};
+ghost use Rattle.guard.specs.Label.{label_in_range, dominates as dominates_of, label, all_categories, top_grade};
 
 use crate::Label;
 use crate::sizes::TOP_GRADE;
@@ -11,13 +11,6 @@ pub fn dominates(a: Label, b: Label) -> bool
     ensures { result ≡ dominates_of a b }
 {
     (b.grade <= a.grade) & a.cats.contains(b.cats)
-}
-
-// Whether the two have one grade and one set.
-pub fn same(a: Label, b: Label) -> bool
-    ensures { result ≡ same_label a b }
-{
-    (a.grade == b.grade) & (a.cats == b.cats)
 }
 
 // Whether the grade is one of four; every `u16` is a set of categories.

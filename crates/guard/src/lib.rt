@@ -19,6 +19,7 @@ mod look;
 mod methods;
 pub mod old;
 mod opens;
+mod refusal;
 mod roles;
 mod rows;
 mod run;

@@ -1,4 +1,6 @@
 // What openr, openw and close are refused for.
+#![tactic(auto, using(crate::proofs::Laws::Label::same_compares), unfolding(crate::specs::Refusals::first, bitset::specs::Tests::either))]
+
 ghost use Rattle.std.specs.Prelude.{◌≡◌, not, [], ◌∷◌, ltb, eqb};
 ghost use Rattle.bitset.specs.Tests.{every, either};
 ghost use Rattle.bitset.specs.Sets.{has};
@@ -6,7 +8,9 @@ ghost use Rattle.guard.specs.Level.{session_level, entity_level};
 ghost use Rattle.guard.specs.Label.{dominates, same_label};
 ghost use Rattle.guard.specs.Tables.{edition1};
 ghost use Rattle.guard.specs.Refusals.{first, ◌when◌};
+ghost use Rattle.guard.specs.Private.Decision.{answer_of};
 
+use crate::refusal::Refusal;
 use crate::view::View;
 use crate::{Request, labels, sizes};
 use bitset::Set;
@@ -18,65 +22,65 @@ fn too_low(edition: u8, e: u32, x: u32) -> bool
     (edition == sizes::EDITION_1) & (e / sizes::LEVEL_ENTITIES < x / sizes::LEVEL_SEATS)
 }
 
-pub fn openr_refusal(q: Request, v: View) -> u8
-    ensures { result ≡ first (5 when not v.session.live ∷ 7 when not v.entity.live ∷ 10 when every (eqb v.edition edition1 ∷ ltb (entity_level q.entity) (session_level q.seat) ∷ []) ∷ 11 when not (dominates v.session.label v.entity.label) ∷ 13 when either (not (has v.found.rights.reads q.entity)) (not v.found.reached) ∷ 16 when has v.session.reading q.entity ∷ []) }
+pub fn openr_refusal(q: Request, v: View) -> Result<(), Refusal>
+    ensures { answer_of result ≡ first (5 when not v.session.live ∷ 7 when not v.entity.live ∷ 10 when every (eqb v.edition edition1 ∷ ltb (entity_level q.entity) (session_level q.seat) ∷ []) ∷ 11 when not (dominates v.session.label v.entity.label) ∷ 13 when either (not (has v.found.rights.reads q.entity)) (not v.found.reached) ∷ 16 when has v.session.reading q.entity ∷ []) }
 {
     if !v.session.live {
-        return 5;
+        return Err(Refusal::SeatDead);
     }
     if !v.entity.live {
-        return 7;
+        return Err(Refusal::NotLive);
     }
     if too_low(v.edition, q.entity, q.seat) {
-        return 10;
+        return Err(Refusal::Integrity);
     }
     if !labels::dominates(v.session.label, v.entity.label) {
-        return 11;
+        return Err(Refusal::Confidentiality);
     }
     if !v.found.rights.reads.has(q.entity) | !v.found.reached {
-        return 13;
+        return Err(Refusal::RightMissing);
     }
     if v.session.reading.has(q.entity) {
-        return 16;
+        return Err(Refusal::NoChange);
     }
-    0
+    Ok(())
 }
 
-pub fn openw_refusal(q: Request, v: View) -> u8
-    ensures { result ≡ first (5 when not v.session.live ∷ 7 when not v.entity.live ∷ 10 when ltb (session_level q.seat) (entity_level q.entity) ∷ 11 when not (same_label v.session.label v.entity.label) ∷ 13 when either (not (has v.found.rights.writes q.entity)) (not v.found.reached) ∷ 16 when has v.session.writing q.entity ∷ []) }
+pub fn openw_refusal(q: Request, v: View) -> Result<(), Refusal>
+    ensures { answer_of result ≡ first (5 when not v.session.live ∷ 7 when not v.entity.live ∷ 10 when ltb (session_level q.seat) (entity_level q.entity) ∷ 11 when not (same_label v.session.label v.entity.label) ∷ 13 when either (not (has v.found.rights.writes q.entity)) (not v.found.reached) ∷ 16 when has v.session.writing q.entity ∷ []) }
 {
     if !v.session.live {
-        return 5;
+        return Err(Refusal::SeatDead);
     }
     if !v.entity.live {
-        return 7;
+        return Err(Refusal::NotLive);
     }
     if q.seat / sizes::LEVEL_SEATS < q.entity / sizes::LEVEL_ENTITIES {
-        return 10;
+        return Err(Refusal::Integrity);
     }
-    if !labels::same(v.session.label, v.entity.label) {
-        return 11;
+    if v.session.label != v.entity.label {
+        return Err(Refusal::Confidentiality);
     }
     if !v.found.rights.writes.has(q.entity) | !v.found.reached {
-        return 13;
+        return Err(Refusal::RightMissing);
     }
     if v.session.writing.has(q.entity) {
-        return 16;
+        return Err(Refusal::NoChange);
     }
-    0
+    Ok(())
 }
 
-pub fn close_refusal(q: Request, v: View) -> u8
-    ensures { result ≡ first (5 when not v.session.live ∷ 7 when not v.entity.live ∷ 16 when not (either (has v.session.reading q.entity) (has v.session.writing q.entity)) ∷ []) }
+pub fn close_refusal(q: Request, v: View) -> Result<(), Refusal>
+    ensures { answer_of result ≡ first (5 when not v.session.live ∷ 7 when not v.entity.live ∷ 16 when not (either (has v.session.reading q.entity) (has v.session.writing q.entity)) ∷ []) }
 {
     if !v.session.live {
-        return 5;
+        return Err(Refusal::SeatDead);
     }
     if !v.entity.live {
-        return 7;
+        return Err(Refusal::NotLive);
     }
     if !(v.session.reading.has(q.entity) | v.session.writing.has(q.entity)) {
-        return 16;
+        return Err(Refusal::NoChange);
     }
-    0
+    Ok(())
 }

@@ -1,4 +1,6 @@
 // Requests on one role: what grant, revoke, list, unlist, make, unmake, join and unjoin are refused for, and the role after them.
+#![tactic(auto, using(crate::proofs::Decisions::refused), unfolding(crate::specs::Refusals::first, bitset::specs::Tests::either))]
+
 ghost use Rattle.std.specs.Prelude.{◌≤◌, ◌<◌, ◌≡◌, true, not, cond, [], ◌∷◌, map, ltb, eqb};
 ghost use Rattle.bitset.specs.Tests.{either};
 ghost use Rattle.bitset.specs.Sets.{has};
@@ -7,133 +9,120 @@ ghost use Rattle.guard.specs.Tables.{no_role, all_rights};
 ghost use Rattle.guard.specs.Edits.{clear_rights};
 ghost use Rattle.guard.specs.Refusals.{first, ◌when◌};
 ghost use Rattle.guard.specs.Kind as kind;
+ghost use Rattle.guard.specs.Private.Decision.{answer_of};
 ghost use Rattle.guard.specs.Private.Inside.{users_after, juniors_after, set_after, granted_after, role_after, owning as owning_of};
 ghost use Rattle.guard.specs.Private.InForce.{in_ranges};
 
+use crate::refusal::Refusal;
 use crate::sizes::ROLES;
 use crate::view::View;
 use crate::{Request, Role, kinds, sizes};
 use bitset::Set;
 
 // grant and revoke are refused alike.
-pub fn rights_refusal(q: Request, v: View) -> u8
-    ensures { result ≡ first (5 when not v.session.live ∷ 7 when either (not v.entity.live) (not v.live) ∷ 10 when either (ltb (session_level q.seat) (entity_level q.entity)) (ltb (role_level q.role) (entity_level q.entity)) ∷ 13 when not (has v.found.rights.owns q.entity) ∷ []) }
+pub fn rights_refusal(q: Request, v: View) -> Result<(), Refusal>
+    ensures { answer_of result ≡ first (5 when not v.session.live ∷ 7 when either (not v.entity.live) (not v.live) ∷ 10 when either (ltb (session_level q.seat) (entity_level q.entity)) (ltb (role_level q.role) (entity_level q.entity)) ∷ 13 when not (has v.found.rights.owns q.entity) ∷ []) }
 {
     if !v.session.live {
-        return 5;
+        return Err(Refusal::SeatDead);
     }
     if !v.entity.live | !v.live {
-        return 7;
+        return Err(Refusal::NotLive);
     }
     if (q.seat / sizes::LEVEL_SEATS < q.entity / sizes::LEVEL_ENTITIES)
         | (q.role / sizes::LEVEL_ROLES < q.entity / sizes::LEVEL_ENTITIES)
     {
-        return 10;
+        return Err(Refusal::Integrity);
     }
     if !v.found.rights.owns.has(q.entity) {
-        return 13;
+        return Err(Refusal::RightMissing);
     }
-    0
+    Ok(())
 }
 
 // That the seat is not below the role and holds the keeper of the role's level.
-fn keeper_refusal(roles: u16, seat: u32, role: u32) -> u8
-    ensures { result ≡ first (10 when ltb (session_level seat) (role_level role) ∷ 12 when not (has roles (keeper_of (role_level role))) ∷ []) }
+fn keeper_refusal(roles: u16, seat: u32, role: u32) -> Result<(), Refusal>
+    ensures { answer_of result ≡ first (10 when ltb (session_level seat) (role_level role) ∷ 12 when not (has roles (keeper_of (role_level role))) ∷ []) }
 {
     if seat / sizes::LEVEL_SEATS < role / sizes::LEVEL_ROLES {
-        return 10;
+        return Err(Refusal::Integrity);
     }
     if !roles.has(sizes::LEVEL_ROLES * (role / sizes::LEVEL_ROLES)) {
-        return 12;
+        return Err(Refusal::RoleMissing);
     }
-    0
+    Ok(())
 }
 
 // `so`: that the user is listed (list), or is not (unlist).
-pub fn list_refusal(q: Request, v: View, so: bool) -> u8
-    ensures { result ≡ first (5 when not v.session.live ∷ 7 when not v.live ∷ 10 when ltb (session_level q.seat) (role_level q.role) ∷ 12 when not (has v.session.roles (keeper_of (role_level q.role))) ∷ 16 when so ∷ []) }
+pub fn list_refusal(q: Request, v: View, so: bool) -> Result<(), Refusal>
+    ensures { answer_of result ≡ first (5 when not v.session.live ∷ 7 when not v.live ∷ 10 when ltb (session_level q.seat) (role_level q.role) ∷ 12 when not (has v.session.roles (keeper_of (role_level q.role))) ∷ 16 when so ∷ []) }
 {
     if !v.session.live {
-        return 5;
+        return Err(Refusal::SeatDead);
     }
     if !v.live {
-        return 7;
+        return Err(Refusal::NotLive);
     }
-    let n = keeper_refusal(v.session.roles, q.seat, q.role);
-    if n != 0 {
-        return n;
-    }
+    keeper_refusal(v.session.roles, q.seat, q.role)?;
     if so {
-        return 16;
+        return Err(Refusal::NoChange);
     }
-    0
+    Ok(())
 }
 
-pub fn make_refusal(q: Request, v: View) -> u8
-    ensures { result ≡ first (5 when not v.session.live ∷ 8 when v.live ∷ 10 when ltb (session_level q.seat) (role_level q.role) ∷ 12 when not (has v.session.roles (keeper_of (role_level q.role))) ∷ []) }
+pub fn make_refusal(q: Request, v: View) -> Result<(), Refusal>
+    ensures { answer_of result ≡ first (5 when not v.session.live ∷ 8 when v.live ∷ 10 when ltb (session_level q.seat) (role_level q.role) ∷ 12 when not (has v.session.roles (keeper_of (role_level q.role))) ∷ []) }
 {
     if !v.session.live {
-        return 5;
+        return Err(Refusal::SeatDead);
     }
     if v.live {
-        return 8;
+        return Err(Refusal::NumberLive);
     }
     keeper_refusal(v.session.roles, q.seat, q.role)
 }
 
-pub fn unmake_refusal(q: Request, v: View) -> u8
-    ensures { result ≡ first (5 when not v.session.live ∷ 6 when is_keeper q.role ∷ 7 when not v.live ∷ 10 when ltb (session_level q.seat) (role_level q.role) ∷ 12 when not (has v.session.roles (keeper_of (role_level q.role))) ∷ 15 when v.found.kin ∷ []) }
+pub fn unmake_refusal(q: Request, v: View) -> Result<(), Refusal>
+    ensures { answer_of result ≡ first (5 when not v.session.live ∷ 6 when is_keeper q.role ∷ 7 when not v.live ∷ 10 when ltb (session_level q.seat) (role_level q.role) ∷ 12 when not (has v.session.roles (keeper_of (role_level q.role))) ∷ 15 when v.found.kin ∷ []) }
 {
     if !v.session.live {
-        return 5;
+        return Err(Refusal::SeatDead);
     }
     if q.role % sizes::LEVEL_ROLES == 0 {
-        return 6;
+        return Err(Refusal::RootOrKeeper);
     }
     if !v.live {
-        return 7;
+        return Err(Refusal::NotLive);
     }
-    let n = keeper_refusal(v.session.roles, q.seat, q.role);
-    if n != 0 {
-        return n;
-    }
+    keeper_refusal(v.session.roles, q.seat, q.role)?;
     if v.found.kin {
-        return 15;
+        return Err(Refusal::InUse);
     }
-    0
-}
-
-// That it is so already: for join that the two are tied, for unjoin that they are not.
-fn is_so(call: u32, tied: bool) -> bool
-    ensures { result ≡ cond (eqb call kind.join) tied (not tied) }
-{
-    if call == kinds::JOIN { tied } else { !tied }
+    Ok(())
 }
 
 // join and unjoin; the request's role is the senior.
-pub fn tie_refusal(q: Request, v: View) -> u8
-    ensures { result ≡ first (5 when not v.session.live ∷ 7 when either (not v.live) (not v.alive) ∷ 10 when either (ltb (session_level q.seat) (role_level q.role)) (not (eqb (role_level q.junior) (role_level q.role))) ∷ 12 when not (has v.session.roles (keeper_of (role_level q.role))) ∷ 22 when v.found.kin ∷ 16 when cond (eqb q.call kind.join) (has v.juniors q.junior) (not (has v.juniors q.junior)) ∷ []) }
+pub fn tie_refusal(q: Request, v: View) -> Result<(), Refusal>
+    ensures { answer_of result ≡ first (5 when not v.session.live ∷ 7 when either (not v.live) (not v.alive) ∷ 10 when either (ltb (session_level q.seat) (role_level q.role)) (not (eqb (role_level q.junior) (role_level q.role))) ∷ 12 when not (has v.session.roles (keeper_of (role_level q.role))) ∷ 22 when v.found.kin ∷ 16 when cond (eqb q.call kind.join) (has v.juniors q.junior) (not (has v.juniors q.junior)) ∷ []) }
 {
     if !v.session.live {
-        return 5;
+        return Err(Refusal::SeatDead);
     }
     if !v.live | !v.alive {
-        return 7;
+        return Err(Refusal::NotLive);
     }
     if q.junior / sizes::LEVEL_ROLES != q.role / sizes::LEVEL_ROLES {
-        return 10;
+        return Err(Refusal::Integrity);
     }
-    let n = keeper_refusal(v.session.roles, q.seat, q.role);
-    if n != 0 {
-        return n;
-    }
+    keeper_refusal(v.session.roles, q.seat, q.role)?;
     if v.found.kin {
-        return 22;
+        return Err(Refusal::Cycle);
     }
-    if is_so(q.call, v.juniors.has(q.junior)) {
-        return 16;
+    // join finds the two tied already, unjoin finds them not tied.
+    if v.juniors.has(q.junior) == (q.call == kinds::JOIN) {
+        return Err(Refusal::NoChange);
     }
-    0
+    Ok(())
 }
 
 // The users listed by the role after list or unlist; make leaves them.

@@ -2,11 +2,12 @@
 ghost use Rattle.guard.specs.Batch.{RunsBatch};
 
 use crate::change::Change;
+use crate::refusal::Refusal;
 use crate::sound::tree;
 use crate::view::View;
 use crate::{
-    Tables, backing, change, entities, giver, judge, kinds, look, roles, rows, scan, sessions,
-    sizes,
+    Tables, backing, change, entities, giver, judge, kinds, look, refusal, roles, rows, scan,
+    sessions, sizes,
 };
 
 impl Tables {
@@ -23,7 +24,7 @@ impl Tables {
         let mut keys = self.keys();
         let mut grants = self.grants();
         if !self.sound_by(&keys, &grants) {
-            rows::fill(answers, count, 1);
+            rows::fill(answers, count, refusal::answer(Err(Refusal::Unsound)));
             rows::fill(roles, count, sizes::NO_ROLE);
             return self;
         }
@@ -32,7 +33,7 @@ impl Tables {
             // The records that the request concerns.
             let q = rows::request(rows, i);
             let Some(at) = look::look_up(q) else {
-                answers[i] = 2;
+                answers[i] = refusal::answer(Err(Refusal::OutOfRange));
                 roles[i] = sizes::NO_ROLE;
                 i += 1;
                 continue;
@@ -64,7 +65,7 @@ impl Tables {
                 found,
                 edition: self.edition,
             };
-            let n = judge::judge(q, v);
+            let n = refusal::answer(judge::judge(q, v));
             answers[i] = n;
             roles[i] = sizes::NO_ROLE;
             i += 1;

@@ -1,5 +1,7 @@
 // Requests on the acting session: what login, logout, take and drop are refused for, and the session after these, openr,
 // openw and close.
+#![tactic(auto, unfolding(crate::specs::Refusals::first, bitset::specs::Tests::either))]
+
 ghost use Rattle.std.specs.Prelude.{◌≤◌, ◌<◌, ◌≡◌, true, not, [], ◌∷◌, map, ltb};
 ghost use Rattle.bitset.specs.Tests.{either};
 ghost use Rattle.bitset.specs.Sets.{has};
@@ -10,72 +12,74 @@ ghost use Rattle.guard.specs.Edits.{drop_role, close_both};
 ghost use Rattle.guard.specs.Refusals.{first, ◌when◌};
 ghost use Rattle.guard.specs.Conditions.{label_asked};
 ghost use Rattle.guard.specs.Requests.{logged_in};
+ghost use Rattle.guard.specs.Private.Decision.{answer_of};
 ghost use Rattle.guard.specs.Private.Inside.{session_after};
 ghost use Rattle.guard.specs.Private.Scan.{backed_by};
 ghost use Rattle.guard.specs.Private.InForce.{in_ranges};
 
+use crate::refusal::Refusal;
 use crate::scan::GRANTS;
 use crate::sizes::SESSIONS;
 use crate::view::View;
 use crate::{Label, Request, Session, backing, kinds, labels, sizes};
 use bitset::Set;
 
-pub fn login_refusal(q: Request, v: View) -> u8
+pub fn login_refusal(q: Request, v: View) -> Result<(), Refusal>
     requires { (q.grade ≤ top_grade) × (q.cats ≤ all_categories) }
-    ensures { result ≡ first (3 when v.session.live ∷ 4 when either (ltb v.user.ceiling (session_level q.seat)) (not (dominates v.user.clearance (label_asked q))) ∷ []) }
+    ensures { answer_of result ≡ first (3 when v.session.live ∷ 4 when either (ltb v.user.ceiling (session_level q.seat)) (not (dominates v.user.clearance (label_asked q))) ∷ []) }
 {
     if v.session.live {
-        return 3;
+        return Err(Refusal::SeatLive);
     }
     let label = labels::made(q.grade, q.cats);
     if ((v.user.ceiling as u32) < q.seat / sizes::LEVEL_SEATS)
         | !labels::dominates(v.user.clearance, label)
     {
-        return 4;
+        return Err(Refusal::UserTooLow);
     }
-    0
+    Ok(())
 }
 
-pub fn logout_refusal(v: View) -> u8
-    ensures { result ≡ first (5 when not v.session.live ∷ []) }
+pub fn logout_refusal(v: View) -> Result<(), Refusal>
+    ensures { answer_of result ≡ first (5 when not v.session.live ∷ []) }
 {
     if !v.session.live {
-        return 5;
+        return Err(Refusal::SeatDead);
     }
-    0
+    Ok(())
 }
 
-pub fn take_refusal(q: Request, v: View) -> u8
-    ensures { result ≡ first (5 when not v.session.live ∷ 7 when not v.live ∷ 12 when not (has v.users v.session.user) ∷ 16 when has v.session.roles q.role ∷ []) }
+pub fn take_refusal(q: Request, v: View) -> Result<(), Refusal>
+    ensures { answer_of result ≡ first (5 when not v.session.live ∷ 7 when not v.live ∷ 12 when not (has v.users v.session.user) ∷ 16 when has v.session.roles q.role ∷ []) }
 {
     if !v.session.live {
-        return 5;
+        return Err(Refusal::SeatDead);
     }
     if !v.live {
-        return 7;
+        return Err(Refusal::NotLive);
     }
     if !v.users.has(v.session.user as u32) {
-        return 12;
+        return Err(Refusal::RoleMissing);
     }
     if v.session.roles.has(q.role) {
-        return 16;
+        return Err(Refusal::NoChange);
     }
-    0
+    Ok(())
 }
 
-pub fn drop_refusal(q: Request, v: View) -> u8
-    ensures { result ≡ first (5 when not v.session.live ∷ 7 when not v.live ∷ 16 when not (has v.session.roles q.role) ∷ []) }
+pub fn drop_refusal(q: Request, v: View) -> Result<(), Refusal>
+    ensures { answer_of result ≡ first (5 when not v.session.live ∷ 7 when not v.live ∷ 16 when not (has v.session.roles q.role) ∷ []) }
 {
     if !v.session.live {
-        return 5;
+        return Err(Refusal::SeatDead);
     }
     if !v.live {
-        return 7;
+        return Err(Refusal::NotLive);
     }
     if !v.session.roles.has(q.role) {
-        return 16;
+        return Err(Refusal::NoChange);
     }
-    0
+    Ok(())
 }
 
 // The session that a login makes.

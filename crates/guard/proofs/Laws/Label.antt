@@ -3,15 +3,17 @@
 --     dominates_iff                  dominance, member by member: A's grade is at least B's, and each category of B is one of A
 --     dominates_refl, -trans, -antisym   dominance is an order
 --     same_label_lem                     the test of equality is equality
+--     same_compares                      .. and compares the fields
 --     grade_in, cats_in, in_range    a label in range, in any width
 --     none_in_range                  label 0/0 is
 -- Assumes nothing.
 use Prim.Native.Nat.{ℕ, ◌≤◌}
 use mathlib.Core.Path.{◌≡◌, refl, ap, ap₂}
-use mathlib.Core.Bool.{true, false}
+use mathlib.Core.Bool.{true, false, ◌&&◌}
 use mathlib.Core.Logic.{◌↔◌}
 use native.Mathlib.Omega.{arith}
 use native.Mathlib.Nat.{le_refl, le_trans, le_antisymm}
+use lib.Dec.{eqb}
 use borrow.Author.Tests.{leb-true, le-leb, eqb-true, eq-eqb}
 use Rattle.bitset.specs.Tests.{every}
 use Rattle.bitset.specs.Tests.Laws.{every_i, every_e}
@@ -69,6 +71,11 @@ same_label_lem a b = (
   λ h. let (g, (c, _)) = every_e _ h in same_fields a b (eqb-true _ _ g) (eqb-true _ _ c),
   λ e. every_i _ (eq-eqb _ _ (ap (λ (l : Label). l.grade) e), (eq-eqb _ _ (ap (λ (l : Label). l.cats) e), tt)),
 )
+
+-- field by field, in the order of the record
+pub same_compares : (a b : Label) → same_label a b ≡ (eqb a.cats b.cats && eqb a.grade b.grade)
+unfolding same_label every
+same_compares a b = grind arith
 
 -- ---- the range
 module _ (width : ℕ) where

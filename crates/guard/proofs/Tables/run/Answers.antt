@@ -66,18 +66,18 @@ module _ {t₀ t : Tables} {rows old old_roles said roles keys grants : List ℕ
     next_turn asked u b step roles' same k g K G =
         rw same (omega (arith, on), all, held_more _ _ _ _ _ _ _ _ _ _ held _ asked within within_roles u _ _ step k g K G)
 
-    -- the decision
-    turn_of : {q : Request} {p : Places} {o a : ℕ} {f : Found} {v : View} → q ≡ request_at rows i → Placed q p
+    -- the decision, and its number
+    turn_of : {q : Request} {p : Places} {o d a : ℕ} {f : Found} {v : View} → q ≡ request_at rows i → Placed q p
         → o ≡ cond (eqb q.call kind.create) p.parent (entity_at t p.entity).parent
         → FoundBy keys grants q (session_at t p.seat).roles p.entity o p.role p.junior f → v ≡ view_at t p o f
-        → ((s : Tables) → Seen s q v → a ≡ number (rule_of q) s q) → Turn t₀ t rows old old_roles said roles keys grants i n q p a
-    turn_of asked near above found seen says = record {
+        → ((s : Tables) → Seen s q v → d ≡ number (rule_of q) s q) → a ≡ d → Turn t₀ t rows old old_roles said roles keys grants i n q p a
+    turn_of asked near above found seen says numbered = record {
       held = held;
       on = on;
       all = all;
       asked = asked;
       near = near;
-      decided = says _ (seen_of _ held.is_sound _ _ near _ above _ _ held.keys held.grants _ found _ seen);
+      decided = numbered ∙ says _ (seen_of _ held.is_sound _ _ near _ above _ _ held.keys held.grants _ found _ seen);
     }
 
 module _ {t₀ t : Tables} {rows old old_roles said roles keys grants : List ℕ} {i n : ℕ} {q : Request} {p : Places} {a : ℕ}
@@ -126,7 +126,7 @@ fill-requires-then-not-sound_by c = omega (arith, c.count-count.ensures, batch_s
 
 pub returns-then-not-sound_by : goal.returns-then-not-sound_by
 returns-then-not-sound_by c =
-    unsound_batch _ _ _ _ _ _ _ (sym c.sound_by.ensures ∙ c.if-not-sound_by.true) c.count-count.ensures c.fill.ensures.1 c.fill-then-not-sound_by.ensures.1
+    unsound_batch _ _ _ _ _ _ _ (sym c.sound_by.ensures ∙ c.if-not-sound_by.true) c.count-count.ensures (rw c.answer.ensures at c.fill.ensures.1) c.fill-then-not-sound_by.ensures.1
 
 pub loop-i-init : goal.loop-i-init
 loop-i-init c =
@@ -164,11 +164,11 @@ pub loop-i-preserved-in_default : goal.loop-i-preserved-in_default
 loop-i-preserved-in_default c =
     let held = c.loop-i.invariant.2 in
     next_turn held c.loop-i-test.true c.loop-i.invariant.1 c.request-q.ensures _ _
-    (refuses _ _ _ held.is_sound (out_of_range _ _ (sym c.in_default.ensures.fits)) (λ e. omega arith)) _ refl _ _ held.keys held.grants
+    (refuses _ _ _ held.is_sound (c.answer-in_default.ensures ∙ out_of_range _ _ (sym c.in_default.ensures.fits)) (λ e. omega (arith, c.answer-in_default.ensures, e))) _ refl _ _ held.keys held.grants
 
 pub after-requires : goal.after-requires
 after-requires c =
-    let turn = turn_of c.loop-i.invariant.2 c.loop-i-test.true c.loop-i.invariant.1 c.request-q.ensures (placed_in c.look_up.ensures.some c.in-Some.is) c.parent_of-o.ensures c.find-found.ensures refl c.judge-n.ensures in
+    let turn = turn_of c.loop-i.invariant.2 c.loop-i-test.true c.loop-i.invariant.1 c.request-q.ensures (placed_in c.look_up.ensures.some c.in-Some.is) c.parent_of-o.ensures c.find-found.ensures refl c.judge.ensures c.answer-n.ensures in
     fits turn c.if-n-eq0.true
 
 pub bounds-roles-i-in-Session : goal.bounds-roles-i-in-Session
@@ -176,7 +176,7 @@ bounds-roles-i-in-Session c = simp length-set (omega (arith, space c.loop-i.inva
 
 pub loop-i-preserved-in-Session : goal.loop-i-preserved-in-Session
 loop-i-preserved-in-Session c =
-    let turn = turn_of c.loop-i.invariant.2 c.loop-i-test.true c.loop-i.invariant.1 c.request-q.ensures (placed_in c.look_up.ensures.some c.in-Some.is) c.parent_of-o.ensures c.find-found.ensures refl c.judge-n.ensures in
+    let turn = turn_of c.loop-i.invariant.2 c.loop-i-test.true c.loop-i.invariant.1 c.request-q.ensures (placed_in c.look_up.ensures.some c.in-Some.is) c.parent_of-o.ensures c.find-found.ensures refl c.judge.ensures c.answer-n.ensures in
     let z = c.if-n-eq0.true in
     done turn z _
     (session_stored _ _ (zero turn z) _ turn.near turn.held.is_sound _ turn.held.grants (told ASession _ _ c.change_of-changed.ensures c.in-Session.is) _ c.after.ensures) _
@@ -187,19 +187,19 @@ loop-i-preserved-in-Session c =
 
 pub after-f2-requires : goal.after-f2-requires
 after-f2-requires c =
-    let turn = turn_of c.loop-i.invariant.2 c.loop-i-test.true c.loop-i.invariant.1 c.request-q.ensures (placed_in c.look_up.ensures.some c.in-Some.is) c.parent_of-o.ensures c.find-found.ensures refl c.judge-n.ensures in (
+    let turn = turn_of c.loop-i.invariant.2 c.loop-i-test.true c.loop-i.invariant.1 c.request-q.ensures (placed_in c.look_up.ensures.some c.in-Some.is) c.parent_of-o.ensures c.find-found.ensures refl c.judge.ensures c.answer-n.ensures in (
       told AnEntity _ _ c.change_of-changed.ensures c.in-Entity.is,
       fits turn c.if-n-eq0.true,
     )
 
 pub owning-p2-requires : goal.owning-p2-requires
 owning-p2-requires c =
-    let turn = turn_of c.loop-i.invariant.2 c.loop-i-test.true c.loop-i.invariant.1 c.request-q.ensures (placed_in c.look_up.ensures.some c.in-Some.is) c.parent_of-o.ensures c.find-found.ensures refl c.judge-n.ensures in
+    let turn = turn_of c.loop-i.invariant.2 c.loop-i-test.true c.loop-i.invariant.1 c.request-q.ensures (placed_in c.look_up.ensures.some c.in-Some.is) c.parent_of-o.ensures c.find-found.ensures refl c.judge.ensures c.answer-n.ensures in
     (in_create _ (fits turn c.if-n-eq0.true) c.if-q-eq-CREATE.true).entity
 
 pub loop-i-preserved-then-q-eq-CREATE : goal.loop-i-preserved-then-q-eq-CREATE
 loop-i-preserved-then-q-eq-CREATE c =
-    let turn = turn_of c.loop-i.invariant.2 c.loop-i-test.true c.loop-i.invariant.1 c.request-q.ensures (placed_in c.look_up.ensures.some c.in-Some.is) c.parent_of-o.ensures c.find-found.ensures refl c.judge-n.ensures in
+    let turn = turn_of c.loop-i.invariant.2 c.loop-i-test.true c.loop-i.invariant.1 c.request-q.ensures (placed_in c.look_up.ensures.some c.in-Some.is) c.parent_of-o.ensures c.find-found.ensures refl c.judge.ensures c.answer-n.ensures in
     let z = c.if-n-eq0.true in
     let of = told AnEntity _ _ c.change_of-changed.ensures c.in-Entity.is in
     done turn z _
@@ -210,7 +210,7 @@ loop-i-preserved-then-q-eq-CREATE c =
 
 pub loop-i-preserved-then-q-eq-DELETE : goal.loop-i-preserved-then-q-eq-DELETE
 loop-i-preserved-then-q-eq-DELETE c =
-    let turn = turn_of c.loop-i.invariant.2 c.loop-i-test.true c.loop-i.invariant.1 c.request-q.ensures (placed_in c.look_up.ensures.some c.in-Some.is) c.parent_of-o.ensures c.find-found.ensures refl c.judge-n.ensures in
+    let turn = turn_of c.loop-i.invariant.2 c.loop-i-test.true c.loop-i.invariant.1 c.request-q.ensures (placed_in c.look_up.ensures.some c.in-Some.is) c.parent_of-o.ensures c.find-found.ensures refl c.judge.ensures c.answer-n.ensures in
     let z = c.if-n-eq0.true in
     let of = told AnEntity _ _ c.change_of-changed.ensures c.in-Entity.is in
     rw (c.without_entity-self.ensures, c.without_entity-self-then-q-eq-DELETE.ensures)
@@ -222,7 +222,7 @@ loop-i-preserved-then-q-eq-DELETE c =
 
 pub loop-i-preserved-else-q-eq-DELETE : goal.loop-i-preserved-else-q-eq-DELETE
 loop-i-preserved-else-q-eq-DELETE c =
-    let turn = turn_of c.loop-i.invariant.2 c.loop-i-test.true c.loop-i.invariant.1 c.request-q.ensures (placed_in c.look_up.ensures.some c.in-Some.is) c.parent_of-o.ensures c.find-found.ensures refl c.judge-n.ensures in
+    let turn = turn_of c.loop-i.invariant.2 c.loop-i-test.true c.loop-i.invariant.1 c.request-q.ensures (placed_in c.look_up.ensures.some c.in-Some.is) c.parent_of-o.ensures c.find-found.ensures refl c.judge.ensures c.answer-n.ensures in
     let z = c.if-n-eq0.true in
     let of = told AnEntity _ _ c.change_of-changed.ensures c.in-Entity.is in
     done turn z _
@@ -233,12 +233,12 @@ loop-i-preserved-else-q-eq-DELETE c =
 
 pub after-p2-requires : goal.after-p2-requires
 after-p2-requires c =
-    let turn = turn_of c.loop-i.invariant.2 c.loop-i-test.true c.loop-i.invariant.1 c.request-q.ensures (placed_in c.look_up.ensures.some c.in-Some.is) c.parent_of-o.ensures c.find-found.ensures refl c.judge-n.ensures in
+    let turn = turn_of c.loop-i.invariant.2 c.loop-i-test.true c.loop-i.invariant.1 c.request-q.ensures (placed_in c.look_up.ensures.some c.in-Some.is) c.parent_of-o.ensures c.find-found.ensures refl c.judge.ensures c.answer-n.ensures in
     fits turn c.if-n-eq0.true
 
 pub loop-i-preserved-then-ends_opens : goal.loop-i-preserved-then-ends_opens
 loop-i-preserved-then-ends_opens c =
-    let turn = turn_of c.loop-i.invariant.2 c.loop-i-test.true c.loop-i.invariant.1 c.request-q.ensures (placed_in c.look_up.ensures.some c.in-Some.is) c.parent_of-o.ensures c.find-found.ensures refl c.judge-n.ensures in
+    let turn = turn_of c.loop-i.invariant.2 c.loop-i-test.true c.loop-i.invariant.1 c.request-q.ensures (placed_in c.look_up.ensures.some c.in-Some.is) c.parent_of-o.ensures c.find-found.ensures refl c.judge.ensures c.answer-n.ensures in
     let z = c.if-n-eq0.true in
     let of = told ARole _ _ c.change_of-changed.ensures c.in-Role.is in
     let sets = grants_role _ _ turn.held.grants _ (many turn).many_roles _ turn.near.role.small _ _ c.put-in-Role.ensures refl in
@@ -249,7 +249,7 @@ loop-i-preserved-then-ends_opens c =
 
 pub loop-i-preserved-else-ends_opens : goal.loop-i-preserved-else-ends_opens
 loop-i-preserved-else-ends_opens c =
-    let turn = turn_of c.loop-i.invariant.2 c.loop-i-test.true c.loop-i.invariant.1 c.request-q.ensures (placed_in c.look_up.ensures.some c.in-Some.is) c.parent_of-o.ensures c.find-found.ensures refl c.judge-n.ensures in
+    let turn = turn_of c.loop-i.invariant.2 c.loop-i-test.true c.loop-i.invariant.1 c.request-q.ensures (placed_in c.look_up.ensures.some c.in-Some.is) c.parent_of-o.ensures c.find-found.ensures refl c.judge.ensures c.answer-n.ensures in
     let z = c.if-n-eq0.true in
     let of = told ARole _ _ c.change_of-changed.ensures c.in-Role.is in
     done turn z _
@@ -260,5 +260,5 @@ loop-i-preserved-else-ends_opens c =
 
 pub loop-i-preserved : goal.loop-i-preserved
 loop-i-preserved c =
-    let turn = turn_of c.loop-i.invariant.2 c.loop-i-test.true c.loop-i.invariant.1 c.request-q.ensures (placed_in c.look_up.ensures.some c.in-Some.is) c.parent_of-o.ensures c.find-found.ensures refl c.judge-n.ensures in
+    let turn = turn_of c.loop-i.invariant.2 c.loop-i-test.true c.loop-i.invariant.1 c.request-q.ensures (placed_in c.look_up.ensures.some c.in-Some.is) c.parent_of-o.ensures c.find-found.ensures refl c.judge.ensures c.answer-n.ensures in
     turned turn _ _ (refuses _ _ _ turn.held.is_sound turn.decided c.if-n-eq0.false) _ refl _ _ turn.held.keys turn.held.grants

@@ -22,7 +22,7 @@ use Rattle.guard.specs.declared.Request.{Request}
 use Rattle.guard.specs.declared.view.View.{View}
 use Rattle.guard.proofs.Laws.Refusals.{alike_first}
 use Rattle.guard.proofs.Ranges.{in_login, in_logout, in_take, in_drop, in_openr, in_openw, in_close, in_create, in_delete, in_rename, in_grant, in_revoke, in_list, in_unlist, in_make, in_unmake, in_share, in_tie}
-use Rattle.guard.proofs.Answers.{by_rule, past_kinds}
+use Rattle.guard.proofs.Answers.{by_rule, by_numbers, past_kinds}
 use Rattle.guard.proofs.judge.judge.Goals as goal
 
 -- join and unjoin are refused alike, but for 22
@@ -62,44 +62,37 @@ create_refusal-requires c = let r = in_create _ c.requires c.in-7.is in (r.grade
 pub returns-in-0 : goal.returns-in-0
 unfolding rules login user_too_low
 returns-in-0 c = λ t seen.
-    let r = in_login _ c.requires c.in-0.is in
-    by_rule t _ _ 0 c.in-0.is c.requires (c.login_refusal.ensures ∙ rw (seen.session r.0, seen.user r.1))
+    by_numbers t _ c.requires _ c.in-0.is (in_login _) _ (λ r. c.login_refusal.ensures ∙ rw (seen.session r.0, seen.user r.1))
 
 pub returns-in-1 : goal.returns-in-1
 unfolding rules logout
 returns-in-1 c = λ t seen.
-    let r = in_logout _ c.requires c.in-1.is in
-    by_rule t _ _ 1 c.in-1.is c.requires (c.logout_refusal.ensures ∙ rw (seen.session r))
+    by_numbers t _ c.requires _ c.in-1.is (in_logout _) _ (λ r. c.logout_refusal.ensures ∙ rw (seen.session r))
 
 pub returns-in-2 : goal.returns-in-2
 unfolding rules take
 returns-in-2 c = λ t seen.
-    let r = in_take _ c.requires c.in-2.is in
-    by_rule t _ _ 2 c.in-2.is c.requires (c.take_refusal.ensures ∙ rw (seen.session r.0, seen.live r.1, seen.users r.1))
+    by_numbers t _ c.requires _ c.in-2.is (in_take _) _ (λ r. c.take_refusal.ensures ∙ rw (seen.session r.0, seen.live r.1, seen.users r.1))
 
 pub returns-in-3 : goal.returns-in-3
 unfolding rules drop
 returns-in-3 c = λ t seen.
-    let r = in_drop _ c.requires c.in-3.is in
-    by_rule t _ _ 3 c.in-3.is c.requires (c.drop_refusal.ensures ∙ rw (seen.session r.0, seen.live r.1))
+    by_numbers t _ c.requires _ c.in-3.is (in_drop _) _ (λ r. c.drop_refusal.ensures ∙ rw (seen.session r.0, seen.live r.1))
 
 pub returns-in-4 : goal.returns-in-4
 unfolding rules openr cannot_open asks_rights asks_way asks_name either
 returns-in-4 c = λ t seen.
-    let r = in_openr _ c.requires c.in-4.is in
-    by_rule t _ _ 4 c.in-4.is c.requires (c.openr_refusal.ensures ∙ rw (seen.session r.0, seen.entity r.1, (seen.rights (ap asks_rights c.in-4.is) r.0).reads _ r.1, seen.reached (ap asks_way c.in-4.is) r.0 r.1, seen.edition))
+    by_numbers t _ c.requires _ c.in-4.is (in_openr _) _ (λ r. c.openr_refusal.ensures ∙ rw (seen.session r.0, seen.entity r.1, (seen.rights (ap asks_rights c.in-4.is) r.0).reads _ r.1, seen.reached (ap asks_way c.in-4.is) r.0 r.1, seen.edition))
 
 pub returns-in-5 : goal.returns-in-5
 unfolding rules openw cannot_open asks_rights asks_way asks_name either
 returns-in-5 c = λ t seen.
-    let r = in_openw _ c.requires c.in-5.is in
-    by_rule t _ _ 5 c.in-5.is c.requires (c.openw_refusal.ensures ∙ rw (seen.session r.0, seen.entity r.1, (seen.rights (ap asks_rights c.in-5.is) r.0).writes _ r.1, seen.reached (ap asks_way c.in-5.is) r.0 r.1))
+    by_numbers t _ c.requires _ c.in-5.is (in_openw _) _ (λ r. c.openw_refusal.ensures ∙ rw (seen.session r.0, seen.entity r.1, (seen.rights (ap asks_rights c.in-5.is) r.0).writes _ r.1, seen.reached (ap asks_way c.in-5.is) r.0 r.1))
 
 pub returns-in-6 : goal.returns-in-6
 unfolding rules close not_open
 returns-in-6 c = λ t seen.
-    let r = in_close _ c.requires c.in-6.is in
-    by_rule t _ _ 6 c.in-6.is c.requires (c.close_refusal.ensures ∙ rw (seen.session r.0, seen.entity r.1))
+    by_numbers t _ c.requires _ c.in-6.is (in_close _) _ (λ r. c.close_refusal.ensures ∙ rw (seen.session r.0, seen.entity r.1))
 
 pub returns-in-7 : goal.returns-in-7
 unfolding rules create create_out_of_level cannot_change_in asks_rights asks_way asks_name either
@@ -110,57 +103,48 @@ returns-in-7 c = λ t seen.
 pub returns-in-8 : goal.returns-in-8
 unfolding rules delete cannot_change_in cannot_change asks_rights asks_way asks_name either
 returns-in-8 c = λ t seen.
-    let r = in_delete _ c.requires c.in-8.is in
-    by_rule t _ _ 8 c.in-8.is c.requires (c.change_refusal.ensures ∙ rw (seen.session r.0, seen.entity r.1, seen.outer (ap (λ (n : ℕ). eqb n kind.create) c.in-8.is) r.1, (seen.rights (ap asks_rights c.in-8.is) r.0).executes _ (seen.inside r.1), (seen.rights (ap asks_rights c.in-8.is) r.0).owns _ r.1)
+    by_numbers t _ c.requires _ c.in-8.is (in_delete _) _ (λ r. c.change_refusal.ensures ∙ rw (seen.session r.0, seen.entity r.1, seen.outer (ap (λ (n : ℕ). eqb n kind.create) c.in-8.is) r.1, (seen.rights (ap asks_rights c.in-8.is) r.0).executes _ (seen.inside r.1), (seen.rights (ap asks_rights c.in-8.is) r.0).owns _ r.1)
     (alike_first _ _ (refl, refl, λ _ _. (refl, refl, λ other _. (refl, refl, λ _ _. (refl, refl, λ _ _. (refl, seen.deleted c.in-8.is r.1 other, λ _ _. tt)))))))
 
 pub returns-in-9 : goal.returns-in-9
 unfolding rules rename cannot_change_in cannot_change asks_rights asks_way asks_name either
 returns-in-9 c = λ t seen.
-    let r = in_rename _ c.requires c.in-9.is in
-    by_rule t _ _ 9 c.in-9.is c.requires (c.change_refusal-in-9.ensures ∙ rw (seen.session r.0, seen.entity r.1, seen.outer (ap (λ (n : ℕ). eqb n kind.create) c.in-9.is) r.1, (seen.rights (ap asks_rights c.in-9.is) r.0).executes _ (seen.inside r.1), (seen.rights (ap asks_rights c.in-9.is) r.0).owns _ r.1, seen.renamed c.in-9.is r.1 r.2 r.3))
+    by_numbers t _ c.requires _ c.in-9.is (in_rename _) _ (λ r. c.change_refusal-in-9.ensures ∙ rw (seen.session r.0, seen.entity r.1, seen.outer (ap (λ (n : ℕ). eqb n kind.create) c.in-9.is) r.1, (seen.rights (ap asks_rights c.in-9.is) r.0).executes _ (seen.inside r.1), (seen.rights (ap asks_rights c.in-9.is) r.0).owns _ r.1, seen.renamed c.in-9.is r.1 r.2 r.3))
 
 pub returns-in-10 : goal.returns-in-10
 unfolding rules grant grant_below asks_rights asks_way asks_name either
 returns-in-10 c = λ t seen.
-    let r = in_grant _ c.requires c.in-10.is in
-    by_rule t _ _ 10 c.in-10.is c.requires (c.rights_refusal.ensures ∙ rw (seen.session r.0, seen.live r.1, seen.entity r.2, (seen.rights (ap asks_rights c.in-10.is) r.0).owns _ r.2))
+    by_numbers t _ c.requires _ c.in-10.is (in_grant _) _ (λ r. c.rights_refusal.ensures ∙ rw (seen.session r.0, seen.live r.1, seen.entity r.2, (seen.rights (ap asks_rights c.in-10.is) r.0).owns _ r.2))
 
 pub returns-in-11 : goal.returns-in-11
 unfolding rules revoke grant grant_below asks_rights asks_way asks_name either
 returns-in-11 c = λ t seen.
-    let r = in_revoke _ c.requires c.in-11.is in
-    by_rule t _ _ 11 c.in-11.is c.requires (c.rights_refusal-in-11.ensures ∙ rw (seen.session r.0, seen.live r.1, seen.entity r.2, (seen.rights (ap asks_rights c.in-11.is) r.0).owns _ r.2))
+    by_numbers t _ c.requires _ c.in-11.is (in_revoke _) _ (λ r. c.rights_refusal-in-11.ensures ∙ rw (seen.session r.0, seen.live r.1, seen.entity r.2, (seen.rights (ap asks_rights c.in-11.is) r.0).owns _ r.2))
 
 pub returns-in-12 : goal.returns-in-12
 unfolding rules list
 returns-in-12 c = λ t seen.
-    let r = in_list _ c.requires c.in-12.is in
-    by_rule t _ _ 12 c.in-12.is c.requires (c.list_refusal.ensures ∙ rw (seen.session r.0, seen.live r.1, c.has.ensures, seen.users r.1))
+    by_numbers t _ c.requires _ c.in-12.is (in_list _) _ (λ r. c.list_refusal.ensures ∙ rw (seen.session r.0, seen.live r.1, c.has.ensures, seen.users r.1))
 
 pub returns-in-13 : goal.returns-in-13
 unfolding rules unlist
 returns-in-13 c = λ t seen.
-    let r = in_unlist _ c.requires c.in-13.is in
-    by_rule t _ _ 13 c.in-13.is c.requires (c.list_refusal-in-13.ensures ∙ rw (seen.session r.0, seen.live r.1, c.has-in-13.ensures, seen.users r.1))
+    by_numbers t _ c.requires _ c.in-13.is (in_unlist _) _ (λ r. c.list_refusal-in-13.ensures ∙ rw (seen.session r.0, seen.live r.1, c.has-in-13.ensures, seen.users r.1))
 
 pub returns-in-14 : goal.returns-in-14
 unfolding rules make
 returns-in-14 c = λ t seen.
-    let r = in_make _ c.requires c.in-14.is in
-    by_rule t _ _ 14 c.in-14.is c.requires (c.make_refusal.ensures ∙ rw (seen.session r.0, seen.live r.1))
+    by_numbers t _ c.requires _ c.in-14.is (in_make _) _ (λ r. c.make_refusal.ensures ∙ rw (seen.session r.0, seen.live r.1))
 
 pub returns-in-15 : goal.returns-in-15
 unfolding rules unmake
 returns-in-15 c = λ t seen.
-    let r = in_unmake _ c.requires c.in-15.is in
-    by_rule t _ _ 15 c.in-15.is c.requires (c.unmake_refusal.ensures ∙ rw (seen.session r.0, seen.live r.1, seen.unmade c.in-15.is r.1))
+    by_numbers t _ c.requires _ c.in-15.is (in_unmake _) _ (λ r. c.unmake_refusal.ensures ∙ rw (seen.session r.0, seen.live r.1, seen.unmade c.in-15.is r.1))
 
 pub returns-in-16 : goal.returns-in-16
 unfolding rules share asks_rights asks_way asks_name either
 returns-in-16 c = λ t seen.
-    let r = in_share _ c.requires c.in-16.is in
-    by_rule t _ _ 16 c.in-16.is c.requires (c.share_refusal.ensures ∙ rw (seen.session r.0, seen.entity r.1, (seen.rights (ap asks_rights c.in-16.is) r.0).owns _ r.1))
+    by_numbers t _ c.requires _ c.in-16.is (in_share _) _ (λ r. c.share_refusal.ensures ∙ rw (seen.session r.0, seen.entity r.1, (seen.rights (ap asks_rights c.in-16.is) r.0).owns _ r.1))
 
 pub returns-in-17 : goal.returns-in-17
 returns-in-17 c = λ t seen.
