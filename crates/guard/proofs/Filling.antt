@@ -1,19 +1,20 @@
--- Lists that a function gives, number by number, and loops that fill an array with one.
+-- Lists that a function gives, number by number.
 --     length_tabulate, get_d_tabulate       as many as there are numbers; what stands at one
 --     tabulate_is           a list with these elements is it
---     filled, filled_none, filled_more, filled_all      the first i filled, the others as they were
+--     tabulated       an array that `from_fn` makes
 --     every_two       a list of two tests, the first of which is met
 -- Assumes nothing.
-use Prim.Native.Nat.{ℕ, zero, suc, ◌+◌, ◌-◌, ◌<◌}
+use Prim.Native.Nat.{ℕ, zero, suc, ◌<◌}
+use denote.Param.Members.{Mut, Called}
 use mathlib.Core.Path.{◌≡◌, refl, sym, ◌∙◌}
 use mathlib.Core.Bool.{Bool, true, and-true}
-use mathlib.Core.List.{List, [], ◌∷◌, ◌++◌, append-nil}
+use mathlib.Core.List.{List, [], ◌∷◌, ◌++◌}
 use native.Mathlib.Numerals.{add-one}
-use native.Mathlib.Nat.{sub_self, sub-zero}
 use native.Mathlib.Decide.{dec_lt}
 use native.Mathlib.Omega.{arith}
-use lib.ListN.{length, get_or, set, replicate, length-append, get_or-append}
-use lib.Seq.{set_at, append_snoc, get_or-append_seam, ext_get_or}
+use lib.ListN.{length, get_or, length-append, get_or-append}
+use lib.Seq.{get_or-append_seam, ext_get_or}
+use Rattle.std.specs.Array.{IsFromFnResult}
 use Rattle.bitset.specs.Tests.{every}
 use Rattle.guard.specs.Fresh.{tabulate}
 
@@ -42,19 +43,7 @@ tabulate_is n f l d long same =
     let many = length_tabulate f n in
     ext_get_or d (tabulate n f) l (many ∙ sym long) (λ i h. get_d_tabulate f n i d (rw many at h) ∙ same i (rw many at h))
 
-module _ {A : Type 0} (n : ℕ) (f : ℕ → A) (d : A) where
-  abbrev pub filled : ℕ → List A
-  filled i = tabulate i f ++ replicate (n - i) d
-
-  pub filled_none : replicate n d ≡ filled 0
-  unfolding tabulate
-  filled_none = rw (sub-zero n)
-
-  pub filled_more : (i : ℕ) → i < n → set (filled i) i (f i) ≡ filled (i + 1)
-  unfolding tabulate
-  filled_more i h =
-      let more : n - i ≡ suc (n - (i + 1)) = omega arith in
-      rw more (set_at (tabulate i f) d (replicate (n - (i + 1)) d) (f i) i (length_tabulate f i) ∙ rw add-one (sym (append_snoc (tabulate i f) (f i) (replicate (n - suc i) d))))
-
-  pub filled_all : filled n ≡ tabulate n f
-  filled_all = rw (sub_self n) (append-nil (tabulate n f))
+pub tabulated : {F B : Type 0} (g : Mut F (ℕ × Unit {0}) B) (f : ℕ → B) (s : F) (ys : List B) (n : ℕ)
+    → ((p q : F) (i : ℕ) (y : B) → Called g p (i, tt) y q → y ≡ f i) → IsFromFnResult g s ys n → ys ≡ tabulate n f
+tabulated g f s ys n each made =
+    sym (tabulate_is n f ys (f 0) made.long (λ i h. let (p, q, call) = made.at i (f 0) h in sym (each p q i _ call)))

@@ -7,7 +7,7 @@ ghost use Rattle.bitset.specs.Tests.{every, either};
 ghost use Rattle.bitset.specs.Sets.{has};
 ghost use Rattle.guard.specs.Level.{entity_count, session_level, role_level, entity_level, is_root};
 ghost use Rattle.guard.specs.Label.{top_grade, all_categories, dominates};
-ghost use Rattle.guard.specs.Tables.{object, container, shared_mark, no_entity};
+ghost use Rattle.guard.specs.Tables.{object, container, shared_mark};
 ghost use Rattle.guard.specs.Sound.{top_name};
 ghost use Rattle.guard.specs.Edits.{rename_to, mark_as};
 ghost use Rattle.guard.specs.Refusals.{first, ◌when◌};
@@ -19,7 +19,7 @@ ghost use Rattle.guard.specs.Private.InForce.{in_ranges};
 
 use crate::refusal::Refusal;
 use crate::view::View;
-use crate::{Entity, Label, Request, kinds, labels, sizes};
+use crate::{Entity, Request, kinds, labels, sizes};
 use bitset::Set;
 
 // The refusals of create up to `NoContainer`: what has to be there, and what not.
@@ -133,66 +133,53 @@ pub fn share_refusal(q: Request, v: View) -> Result<(), Refusal>
 }
 
 // The entity that a create makes.
+#[tactic(auto, unfolding(crate::specs::Requests::created))]
 fn made(q: Request) -> Entity
     requires { (q.kind ≤ container) × (q.parent < entity_count) × (q.name ≤ top_name) × (q.grade ≤ top_grade) × (q.cats ≤ all_categories) }
     ensures { result ≡ created q }
 {
-    let label = labels::made(q.grade, q.cats);
     Entity {
         live: true,
         kind: q.kind as u8,
         parent: q.parent as u8,
         name: q.name as u16,
-        label,
+        label: labels::made(q.grade, q.cats),
         shared: 0,
     }
 }
 
+#[tactic(auto, unfolding(crate::specs::Edits::rename_to))]
 fn renamed(name: u32, f: Entity) -> Entity
     requires { name ≤ top_name }
     ensures { result ≡ rename_to name f }
 {
-    let mut n = f;
-    n.name = name as u16;
-    n
+    Entity {
+        name: name as u16,
+        ..f
+    }
 }
 
+#[tactic(auto, unfolding(crate::specs::Edits::mark_as))]
 fn marked(mark: u32, f: Entity) -> Entity
     requires { mark ≤ shared_mark }
     ensures { result ≡ mark_as mark f }
 {
-    let mut n = f;
-    n.shared = mark as u8;
-    n
-}
-
-pub fn empty() -> Entity
-    ensures { result ≡ no_entity }
-{
-    let none = Label { cats: 0, grade: 0 };
     Entity {
-        live: false,
-        kind: 0,
-        parent: 0,
-        name: 0,
-        label: none,
-        shared: 0,
+        shared: mark as u8,
+        ..f
     }
 }
 
 // Entity `f` after a create, a delete, a share or a rename.
+#[tactic(auto, unfolding(crate::specs::Private::Inside::entity_after))]
 pub fn after(q: Request, f: Entity) -> Entity
     requires { OfEntity q.call × (in_ranges q ≡ true) }
     ensures { result ≡ entity_after q f }
 {
-    if q.call == kinds::CREATE {
-        return made(q);
+    match q.call {
+        kinds::CREATE => made(q),
+        kinds::DELETE => Entity::default(),
+        kinds::SHARE => marked(q.shared, f),
+        _ => renamed(q.name, f),
     }
-    if q.call == kinds::DELETE {
-        return empty();
-    }
-    if q.call == kinds::SHARE {
-        return marked(q.shared, f);
-    }
-    renamed(q.name, f)
 }

@@ -5,8 +5,9 @@ ghost use Rattle.guard.specs.Fresh.{fresh_role, fresh_entity, tabulate, fresh, b
 
 use crate::sizes::{BLOCK, CONTAINER, EDITION_1, ENTITIES, LEVEL_ROLES, ROLES, SESSIONS, USERS};
 use crate::sound::record;
-use crate::{Entity, Label, Outcome, Role, Tables, User, entities, roles, sessions};
+use crate::{Entity, Outcome, Role, Session, Tables, User};
 use bitset::Set;
+use std::array;
 
 // How many roles a level has, as an index.
 const LEVEL: usize = LEVEL_ROLES as usize;
@@ -20,14 +21,14 @@ fn fresh_role(r: usize) -> Role
         return Role {
             live: true,
             users: 1,
-            juniors: 0,
             reads: root,
             writes: root,
             executes: root,
             owns: root,
+            ..Default::default()
         };
     }
-    roles::empty()
+    Role::default()
 }
 
 fn fresh_entity(e: usize) -> Entity
@@ -35,59 +36,36 @@ fn fresh_entity(e: usize) -> Entity
     ensures { result ≡ fresh_entity e }
 {
     if e % BLOCK == 0 {
-        let none = Label { cats: 0, grade: 0 };
         return Entity {
             live: true,
             kind: CONTAINER,
             parent: e as u8,
-            name: 0,
-            label: none,
-            shared: 0,
+            ..Default::default()
         };
     }
-    entities::empty()
+    Entity::default()
 }
 
 fn fresh_roles() -> [Role; ROLES]
     ensures { result ≡ tabulate role_count fresh_role }
 {
-    let dead = roles::empty();
-    let mut roles = [dead; ROLES];
-    let mut i = 0usize;
-    while i < ROLES {
-        let p = fresh_role(i);
-        roles[i] = p;
-        i += 1;
-    }
-    roles
+    array::from_fn(fresh_role)
 }
 
 fn fresh_entities() -> [Entity; ENTITIES]
     ensures { result ≡ tabulate entity_count fresh_entity }
 {
-    let dead = entities::empty();
-    let mut entities = [dead; ENTITIES];
-    let mut i = 0usize;
-    while i < ENTITIES {
-        let n = fresh_entity(i);
-        entities[i] = n;
-        i += 1;
-    }
-    entities
+    array::from_fn(fresh_entity)
 }
 
 fn fresh_over(users: [User; USERS], edition: u8) -> Tables
     ensures { result ≡ fresh users edition }
 {
-    let dead = sessions::empty();
-    let sessions = [dead; SESSIONS];
-    let roles = fresh_roles();
-    let entities = fresh_entities();
     Tables {
         users,
-        sessions,
-        roles,
-        entities,
+        sessions: [Session::default(); SESSIONS],
+        roles: fresh_roles(),
+        entities: fresh_entities(),
         edition,
     }
 }
@@ -106,14 +84,8 @@ impl Tables {
                 role: None,
             };
         }
-        let none = Label { cats: 0, grade: 0 };
-        let nobody = User {
-            ceiling: 0,
-            clearance: none,
-        };
-        let tables = fresh_over([nobody; USERS], EDITION_1);
         Outcome {
-            tables,
+            tables: fresh_over([User::default(); USERS], EDITION_1),
             answer: 2,
             role: None,
         }

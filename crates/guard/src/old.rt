@@ -56,121 +56,72 @@ pub struct OldTables {
     pub entities: [OldEntity; ENTITIES],
 }
 
-fn label(a: OldLabel) -> Label
-    ensures { result ≡ label_taken a }
-{
-    Label {
-        cats: a.cats as u16,
-        grade: a.grade,
+impl From<OldLabel> for Label {
+    ghost from_gives = { λ a result. result ≡ label_taken a };
+
+    fn from(a: OldLabel) -> Label {
+        Label {
+            cats: u16::from(a.cats),
+            grade: a.grade,
+        }
     }
 }
 
-fn user(u: OldUser) -> User
-    ensures { result ≡ user_taken u }
-{
-    let clearance = label(u.clearance);
-    User {
-        ceiling: u.ceiling,
-        clearance,
+impl From<OldUser> for User {
+    ghost from_gives = { λ u result. result ≡ user_taken u };
+
+    fn from(u: OldUser) -> User {
+        User {
+            ceiling: u.ceiling,
+            clearance: Label::from(u.clearance),
+        }
     }
 }
 
-fn session(s: OldSession) -> Session
-    ensures { result ≡ session_taken s }
-{
-    let label = label(s.label);
-    Session {
-        live: s.live,
-        user: s.user,
-        label,
-        roles: s.roles,
-        reading: s.reading,
-        writing: s.writing,
+impl From<OldSession> for Session {
+    ghost from_gives = { λ s result. result ≡ session_taken s };
+
+    fn from(s: OldSession) -> Session {
+        Session {
+            live: s.live,
+            user: s.user,
+            label: Label::from(s.label),
+            roles: s.roles,
+            reading: s.reading,
+            writing: s.writing,
+        }
     }
 }
 
-fn role(p: OldRole) -> Role
-    ensures { result ≡ role_taken p }
-{
-    Role {
-        live: p.live,
-        users: p.users,
-        juniors: 0,
-        reads: p.reads,
-        writes: p.writes,
-        executes: p.executes,
-        owns: p.owns,
+impl From<OldRole> for Role {
+    ghost from_gives = { λ p result. result ≡ role_taken p };
+
+    fn from(p: OldRole) -> Role {
+        Role {
+            live: p.live,
+            users: p.users,
+            juniors: 0,
+            reads: p.reads,
+            writes: p.writes,
+            executes: p.executes,
+            owns: p.owns,
+        }
     }
 }
 
-fn entity(n: OldEntity) -> Entity
-    ensures { result ≡ entity_taken n }
-{
-    let label = label(n.label);
-    Entity {
-        live: n.live,
-        kind: n.kind,
-        parent: n.parent,
-        name: n.name,
-        label,
-        shared: 0,
-    }
-}
+impl From<OldEntity> for Entity {
+    ghost from_gives = { λ n result. result ≡ entity_taken n };
 
-fn users(old: [OldUser; USERS]) -> [User; USERS]
-    ensures { result ≡ map user_taken old }
-{
-    let first = user(old[0]);
-    let mut users = [first; USERS];
-    let mut i = 0usize;
-    while i < USERS {
-        let u = user(old[i]);
-        users[i] = u;
-        i += 1;
+    fn from(n: OldEntity) -> Entity {
+        Entity {
+            live: n.live,
+            kind: n.kind,
+            parent: n.parent,
+            name: n.name,
+            label: Label::from(n.label),
+            shared: 0,
+        }
     }
-    users
-}
-
-fn sessions(old: [OldSession; SESSIONS]) -> [Session; SESSIONS]
-    ensures { result ≡ map session_taken old }
-{
-    let first = session(old[0]);
-    let mut sessions = [first; SESSIONS];
-    let mut i = 0usize;
-    while i < SESSIONS {
-        let s = session(old[i]);
-        sessions[i] = s;
-        i += 1;
-    }
-    sessions
-}
-
-fn roles(old: [OldRole; ROLES]) -> [Role; ROLES]
-    ensures { result ≡ map role_taken old }
-{
-    let first = role(old[0]);
-    let mut roles = [first; ROLES];
-    let mut i = 0usize;
-    while i < ROLES {
-        let p = role(old[i]);
-        roles[i] = p;
-        i += 1;
-    }
-    roles
-}
-
-fn entities(old: [OldEntity; ENTITIES]) -> [Entity; ENTITIES]
-    ensures { result ≡ map entity_taken old }
-{
-    let first = entity(old[0]);
-    let mut entities = [first; ENTITIES];
-    let mut i = 0usize;
-    while i < ENTITIES {
-        let n = entity(old[i]);
-        entities[i] = n;
-        i += 1;
-    }
-    entities
 }
 
 impl OldTables {
@@ -178,19 +129,11 @@ impl OldTables {
     pub fn take_over(self) -> Tables
         ensures { result ≡ taken_over self }
     {
-        let old_users = self.users;
-        let old_sessions = self.sessions;
-        let old_roles = self.roles;
-        let old_entities = self.entities;
-        let users = users(old_users);
-        let sessions = sessions(old_sessions);
-        let roles = roles(old_roles);
-        let entities = entities(old_entities);
         Tables {
-            users,
-            sessions,
-            roles,
-            entities,
+            users: self.users.map(User::from),
+            sessions: self.sessions.map(Session::from),
+            roles: self.roles.map(Role::from),
+            entities: self.entities.map(Entity::from),
             edition: EDITION_1,
         }
     }

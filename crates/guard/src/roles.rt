@@ -5,7 +5,7 @@ ghost use Rattle.std.specs.Prelude.{◌≤◌, ◌<◌, ◌≡◌, true, not, co
 ghost use Rattle.bitset.specs.Tests.{either};
 ghost use Rattle.bitset.specs.Sets.{has};
 ghost use Rattle.guard.specs.Level.{session_level, role_level, entity_level, keeper_of, is_keeper, entity_count};
-ghost use Rattle.guard.specs.Tables.{no_role, all_rights};
+ghost use Rattle.guard.specs.Tables.{all_rights};
 ghost use Rattle.guard.specs.Edits.{clear_rights};
 ghost use Rattle.guard.specs.Refusals.{first, ◌when◌};
 ghost use Rattle.guard.specs.Kind as kind;
@@ -126,95 +126,80 @@ pub fn tie_refusal(q: Request, v: View) -> Result<(), Refusal>
 }
 
 // The users listed by the role after list or unlist; make leaves them.
+#[tactic(auto, using(crate::proofs::Ranges::in_list), unfolding(crate::specs::Private::Inside::users_after))]
 fn users_after(q: Request, users: u16) -> u16
     requires { in_ranges q ≡ true }
     ensures { result ≡ users_after q users }
 {
-    if q.call == kinds::LIST {
-        return users.with(q.user);
+    match q.call {
+        kinds::LIST => users.with(q.user),
+        kinds::UNLIST => users.without(q.user),
+        _ => users,
     }
-    if q.call == kinds::UNLIST {
-        return users.without(q.user);
-    }
-    users
 }
 
 // The juniors of the role after join or unjoin.
+#[tactic(auto, using(crate::proofs::Ranges::in_tie), unfolding(crate::specs::Private::Inside::juniors_after))]
 fn juniors_after(q: Request, juniors: u16) -> u16
     requires { in_ranges q ≡ true }
     ensures { result ≡ juniors_after q juniors }
 {
-    if q.call == kinds::JOIN {
-        return juniors.with(q.junior);
+    match q.call {
+        kinds::JOIN => juniors.with(q.junior),
+        kinds::UNJOIN => juniors.without(q.junior),
+        _ => juniors,
     }
-    if q.call == kinds::UNJOIN {
-        return juniors.without(q.junior);
-    }
-    juniors
 }
 
 // The entities of one right, after it is given or taken away where it is named.
+#[tactic(auto, unfolding(crate::specs::Private::Inside::set_after, crate::specs::Edits::put_in))]
 fn set_after(given: bool, named: bool, e: u32, set: u64) -> u64
     requires { e < entity_count }
     ensures { result ≡ set_after given named e set }
 {
     if !named {
-        return set;
+        set
+    } else if given {
+        set.with(e)
+    } else {
+        set.without(e)
     }
-    if given {
-        return set.with(e);
-    }
-    set.without(e)
 }
 
 // Role `p` after a grant or a revoke of the rights named.
+#[tactic(auto, unfolding(crate::specs::Private::Inside::granted_after))]
 fn granted(given: bool, rights: u32, e: u32, p: Role) -> Role
     requires { (rights ≤ all_rights) × (e < entity_count) }
     ensures { result ≡ granted_after given rights e p }
 {
     let named = rights as u8;
-    let mut n = p;
-    n.reads = set_after(given, named.contains(sizes::READ), e, p.reads);
-    n.writes = set_after(given, named.contains(sizes::WRITE), e, p.writes);
-    n.executes = set_after(given, named.contains(sizes::EXECUTE), e, p.executes);
-    n.owns = set_after(given, named.contains(sizes::OWN), e, p.owns);
-    n
-}
-
-pub fn empty() -> Role
-    ensures { result ≡ no_role }
-{
     Role {
-        live: false,
-        users: 0,
-        juniors: 0,
-        reads: 0,
-        writes: 0,
-        executes: 0,
-        owns: 0,
+        reads: set_after(given, named.contains(sizes::READ), e, p.reads),
+        writes: set_after(given, named.contains(sizes::WRITE), e, p.writes),
+        executes: set_after(given, named.contains(sizes::EXECUTE), e, p.executes),
+        owns: set_after(given, named.contains(sizes::OWN), e, p.owns),
+        ..p
     }
 }
 
 // Role `p` after a request on a role. A dead role of sound tables is empty already, so that a make
 // only marks it.
+#[tactic(auto, unfolding(crate::specs::Private::Inside::role_after))]
 pub fn after(q: Request, p: Role) -> Role
     requires { in_ranges q ≡ true }
     ensures { result ≡ role_after q p }
 {
-    if q.call == kinds::GRANT {
-        return granted(true, q.rights, q.entity, p);
+    match q.call {
+        kinds::GRANT => granted(true, q.rights, q.entity, p),
+        kinds::REVOKE => granted(false, q.rights, q.entity, p),
+        kinds::UNMAKE => Role::default(),
+        _ => Role {
+            live: true,
+            users: users_after(q, p.users),
+            juniors: juniors_after(q, p.juniors),
+            ..p
+        },
     }
-    if q.call == kinds::REVOKE {
-        return granted(false, q.rights, q.entity, p);
-    }
-    if q.call == kinds::UNMAKE {
-        return empty();
-    }
-    let mut n = p;
-    n.live = true;
-    n.users = users_after(q, p.users);
-    n.juniors = juniors_after(q, p.juniors);
-    n
 }
 
 // Role `p` with own on entity `e`, as the role named at a create gains it.
@@ -222,34 +207,32 @@ pub fn owning(e: u32, p: Role) -> Role
     requires { e < entity_count }
     ensures { result ≡ owning_of e p }
 {
-    let mut n = p;
-    n.owns = p.owns.with(e);
-    n
+    Role {
+        owns: p.owns.with(e),
+        ..p
+    }
 }
 
 // Role `p` without rights on entity `e`.
+#[tactic(auto, unfolding(crate::specs::Edits::clear_rights, crate::specs::Edits::set_rights, crate::specs::Edits::put_in, bitset::specs::Sets::contains))]
 fn cleared(e: u32, p: Role) -> Role
     ensures { result ≡ clear_rights e p }
 {
-    let mut n = p;
-    n.reads = p.reads.without(e);
-    n.writes = p.writes.without(e);
-    n.executes = p.executes.without(e);
-    n.owns = p.owns.without(e);
-    n
+    Role {
+        reads: p.reads.without(e),
+        writes: p.writes.without(e),
+        executes: p.executes.without(e),
+        owns: p.owns.without(e),
+        ..p
+    }
 }
 
 // Every role without rights on entity `e`: a deleted entity's rights.
-pub fn without_entity(roles: [Role; ROLES], e: u32) -> [Role; ROLES]
+pub fn without_entity(mut roles: [Role; ROLES], e: u32) -> [Role; ROLES]
     ensures { result ≡ map (clear_rights e) roles }
 {
-    let mut n = roles;
-    let mut i = 0usize;
-    while i < ROLES {
-        let p = n[i];
-        let p2 = cleared(e, p);
-        n[i] = p2;
-        i += 1;
+    for p in roles.iter_mut() {
+        *p = cleared(e, *p);
     }
-    n
+    roles
 }

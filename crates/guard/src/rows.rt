@@ -1,22 +1,16 @@
 // Requests as rows of numbers, in the order of the record's fields, and their answers as bytes.
 ghost use Rattle.std.specs.Prelude.{◌+◌, ◌*◌, ◌≤◌, ◌≡◌, ◌++◌, length, drop, replicate};
-ghost use Rattle.guard.specs.Batch.{row_length, request_at, shorter, batch_length};
+ghost use Rattle.guard.specs.Batch.{row_length, request_at, batch_length};
 ghost use Rattle.guard.specs.Private.Inside.{row_of};
 
 use crate::Request;
 use crate::sizes::ROW;
 
-fn shorter(a: usize, b: usize) -> usize
-    ensures { result ≡ shorter a b }
-{
-    if a <= b { a } else { b }
-}
-
 // As many requests as stand whole in so many numbers and have room for their answers and their roles.
 pub fn count(numbers: usize, answers: usize, roles: usize) -> usize
     ensures { result ≡ batch_length numbers answers roles }
 {
-    shorter(numbers / ROW, shorter(roles, answers))
+    (numbers / ROW).min(roles.min(answers))
 }
 
 // The request of row `i`.
@@ -57,10 +51,6 @@ pub fn fill(bytes: &mut [u8], count: usize, n: u8) -> usize
     requires { count ≤ length bytes.old }
     ensures { (result ≡ count) × (bytes.new ≡ replicate count n ++ drop count bytes.old) }
 {
-    let mut i = 0usize;
-    while i < count {
-        bytes[i] = n;
-        i += 1;
-    }
-    i
+    bytes[..count].fill(n);
+    count
 }

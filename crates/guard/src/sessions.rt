@@ -7,7 +7,6 @@ ghost use Rattle.bitset.specs.Tests.{either};
 ghost use Rattle.bitset.specs.Sets.{has};
 ghost use Rattle.guard.specs.Level.{user_count, session_level};
 ghost use Rattle.guard.specs.Label.{top_grade, all_categories, dominates};
-ghost use Rattle.guard.specs.Tables.{no_session};
 ghost use Rattle.guard.specs.Edits.{drop_role, close_both};
 ghost use Rattle.guard.specs.Refusals.{first, ◌when◌};
 ghost use Rattle.guard.specs.Conditions.{label_asked};
@@ -21,7 +20,7 @@ use crate::refusal::Refusal;
 use crate::scan::GRANTS;
 use crate::sizes::SESSIONS;
 use crate::view::View;
-use crate::{Label, Request, Session, backing, kinds, labels, sizes};
+use crate::{Request, Session, backing, kinds, labels, sizes};
 use bitset::Set;
 
 pub fn login_refusal(q: Request, v: View) -> Result<(), Refusal>
@@ -83,51 +82,39 @@ pub fn drop_refusal(q: Request, v: View) -> Result<(), Refusal>
 }
 
 // The session that a login makes.
+#[tactic(auto, unfolding(crate::specs::Requests::logged_in))]
 fn entered(q: Request) -> Session
     requires { (q.user < user_count) × (q.grade ≤ top_grade) × (q.cats ≤ all_categories) }
     ensures { result ≡ logged_in q }
 {
-    let label = labels::made(q.grade, q.cats);
     Session {
         live: true,
         user: q.user as u8,
-        label,
-        roles: 0,
-        reading: 0,
-        writing: 0,
-    }
-}
-
-pub fn empty() -> Session
-    ensures { result ≡ no_session }
-{
-    let none = Label { cats: 0, grade: 0 };
-    Session {
-        live: false,
-        user: 0,
-        label: none,
-        roles: 0,
-        reading: 0,
-        writing: 0,
+        label: labels::made(q.grade, q.cats),
+        ..Default::default()
     }
 }
 
 // Session `s` without role `r`, and without entity `e` open.
+#[tactic(auto, unfolding(crate::specs::Edits::drop_role))]
 pub fn dropped(r: u32, s: Session) -> Session
     ensures { result ≡ drop_role r s }
 {
-    let mut n = s;
-    n.roles = s.roles.without(r);
-    n
+    Session {
+        roles: s.roles.without(r),
+        ..s
+    }
 }
 
+#[tactic(auto, unfolding(crate::specs::Edits::close_both))]
 fn closed(e: u32, s: Session) -> Session
     ensures { result ≡ close_both e s }
 {
-    let mut n = s;
-    n.reading = s.reading.without(e);
-    n.writing = s.writing.without(e);
-    n
+    Session {
+        reading: s.reading.without(e),
+        writing: s.writing.without(e),
+        ..s
+    }
 }
 
 // The acting session after a request on it; a drop also ends those of its opens that are no longer backed.
@@ -135,31 +122,32 @@ pub fn after(grants: &[u64; GRANTS], q: Request, s: Session) -> Session
     requires { in_ranges q ≡ true }
     ensures { result ≡ session_after (backed_by grants.now) q s }
 {
-    let call = q.call;
-    let mut n = s;
-    match call {
-        kinds::LOGIN => return entered(q),
-        kinds::LOGOUT => return empty(),
-        kinds::TAKE => n.roles = s.roles.with(q.role),
-        kinds::DROP => return backing::backed(grants, dropped(q.role, s)),
-        kinds::OPENR => n.reading = s.reading.with(q.entity),
-        kinds::OPENW => n.writing = s.writing.with(q.entity),
-        _ => return closed(q.entity, s),
+    match q.call {
+        kinds::LOGIN => entered(q),
+        kinds::LOGOUT => Session::default(),
+        kinds::TAKE => Session {
+            roles: s.roles.with(q.role),
+            ..s
+        },
+        kinds::DROP => backing::backed(grants, dropped(q.role, s)),
+        kinds::OPENR => Session {
+            reading: s.reading.with(q.entity),
+            ..s
+        },
+        kinds::OPENW => Session {
+            writing: s.writing.with(q.entity),
+            ..s
+        },
+        _ => closed(q.entity, s),
     }
-    n
 }
 
 // Every session without entity `e` open: a deleted entity's opens.
-pub fn without_entity(sessions: [Session; SESSIONS], e: u32) -> [Session; SESSIONS]
+pub fn without_entity(mut sessions: [Session; SESSIONS], e: u32) -> [Session; SESSIONS]
     ensures { result ≡ map (close_both e) sessions }
 {
-    let mut n = sessions;
-    let mut i = 0usize;
-    while i < SESSIONS {
-        let s = n[i];
-        let s2 = closed(e, s);
-        n[i] = s2;
-        i += 1;
+    for s in sessions.iter_mut() {
+        *s = closed(e, *s);
     }
-    n
+    sessions
 }

@@ -35,4 +35,5 @@ pub returns : goal.returns
 unfolding build
 returns c =
     let t = tested c.args.users c.args.edition _ _ (search rules) c.users_in_range.ensures c.edition_in_range.ensures in
-    rw (c.fresh_over-tables-2.ensures, sym t ∙ c.if-users_in_range-edition_in_range.false)
+    let nobody : c.default.result ≡ no_user = search (rules, c.default.ensures) in
+    rw (c.fresh_over.ensures, nobody, sym t ∙ c.if-users_in_range-edition_in_range.false)

@@ -2,6 +2,7 @@
 use Prim.Native.Nat.{◌/◌, ◌%◌, ◌*◌}
 use mathlib.Core.Path.{◌≡◌}
 use native.Mathlib.Omega.{arith}
+use borrow.Author.Rules.{rules}
 use borrow.Author.Tests.{eq-eqb, ne_eqb}
 use Rattle.bitset.specs.Sets.{with, join, contains}
 use Rattle.guard.specs.Edits.{put_in}
@@ -12,8 +13,8 @@ pub returns-then-r-eq0 : goal.returns-then-r-eq0
 unfolding fresh_role put_in contains with join
 returns-then-r-eq0 c =
     let e : c.args.r / 4 * 16 % 64 ≡ 16 * (c.args.r / 4) = omega arith in
-    rw (eq-eqb _ _ c.if-r-eq0.true, c.with-root.ensures, e)
+    rw (eq-eqb _ _ c.if-r-eq0.true, c.with-root.ensures, e) (search (rules, c.default.ensures))
 
 pub returns : goal.returns
 unfolding fresh_role
-returns c = rw (ne_eqb _ _ c.if-r-eq0.false, c.empty.ensures)
+returns c = rw (ne_eqb _ _ c.if-r-eq0.false) (search (rules, c.default-2.ensures))

@@ -1,13 +1,8 @@
 -- `without_entity` takes the rights on an entity from each role. Assumes nothing.
-use Prim.Native.Nat.{◌-◌, ◌≤◌}
 use mathlib.Core.Path.{◌≡◌}
-use lib.ListN.{length}
 use Rattle.guard.specs.Edits.{clear_rights}
 use Rattle.guard.proofs.Sweeps.{mapped}
 use Rattle.guard.proofs.roles.without_entity.Given as goal
 
-abbrev pub invariant-loop-i : goal.invariant-loop-i
-invariant-loop-i l = (l.i ≤ 16) × (length l.initial.n ≡ 16) × (l.n ≡ mapped (clear_rights l.e) l.i l.initial.n)
-
-abbrev pub decreases-loop-i : goal.decreases-loop-i
-decreases-loop-i l = 16 - l.i
+abbrev pub invariant-loop-p : goal.invariant-loop-p
+invariant-loop-p l = l.p-items ≡ mapped (clear_rights l.e) l.p-index l.fn.roles

@@ -1,8 +1,9 @@
 -- `count`: the shortest of the three. Assumes nothing.
-use mathlib.Core.Path.{◌∙◌}
-use Rattle.guard.specs.Batch.{batch_length}
+use native.Mathlib.Omega.{arith}
+use Rattle.std.proofs.lemmas.Bool.Decides.{nat_tests}
+use Rattle.guard.specs.Batch.{batch_length, shorter}
 use Rattle.guard.proofs.rows.count.Goals as goal
 
 pub returns : goal.returns
-unfolding batch_length
-returns c = c.shorter-2.ensures ∙ rw c.shorter.ensures
+unfolding batch_length shorter
+returns c = grind (arith, nat_tests)

@@ -1,6 +1,7 @@
 -- `after` is the acting session after a request on it, by the request's number. Assumes nothing.
 use native.Mathlib.Omega.{arith}
 use native.Mathlib.Nat.{mod-eq_of_lt}
+use borrow.Author.Rules.{rules}
 use lib.ListN.{get_or-eq_default}
 use Rattle.guard.specs.Edits.{take_role, open_reading, open_writing, close_both}
 use Rattle.guard.specs.Requests.{logged_in}
@@ -17,19 +18,15 @@ returns-in-0 c = rw c.in-0.is c.entered.ensures
 
 pub returns-in-1 : goal.returns-in-1
 unfolding session_after
-returns-in-1 c = rw (c.in-1.is, c.empty.ensures)
-
-pub returns-in-3 : goal.returns-in-3
-unfolding session_after
-returns-in-3 c = rw (c.in-3.is, ← c.dropped.ensures) c.backed.ensures
-
-pub returns-in_default : goal.returns-in_default
-unfolding session_after
-returns-in_default c = rw (get_or-eq_default _ (close_both _ _) (past_five c.args.q.call (omega arith) (omega arith) (omega arith) (omega arith) (omega arith) (omega arith)), c.closed.ensures)
+returns-in-1 c = rw c.in-1.is (search (rules, c.default.ensures))
 
 pub returns-in-2 : goal.returns-in-2
 unfolding session_after take_role
 returns-in-2 c = rw (c.in-2.is, c.with.ensures, mod-eq_of_lt (in_take _ c.requires c.in-2.is).1)
+
+pub returns-in-3 : goal.returns-in-3
+unfolding session_after
+returns-in-3 c = rw (c.in-3.is, ← c.dropped.ensures) c.backed.ensures
 
 pub returns-in-4 : goal.returns-in-4
 unfolding session_after open_reading
@@ -38,3 +35,7 @@ returns-in-4 c = rw (c.in-4.is, c.with-in-4.ensures, mod-eq_of_lt (in_openr _ c.
 pub returns-in-5 : goal.returns-in-5
 unfolding session_after open_writing
 returns-in-5 c = rw (c.in-5.is, c.with-in-5.ensures, mod-eq_of_lt (in_openw _ c.requires c.in-5.is).1)
+
+pub returns-in_default : goal.returns-in_default
+unfolding session_after
+returns-in_default c = rw (get_or-eq_default _ (close_both _ _) (past_five c.args.q.call (omega arith) (omega arith) (omega arith) (omega arith) (omega arith) (omega arith)), c.closed.ensures)

@@ -1,8 +1,7 @@
 -- `without_entity` closes an entity in each session. Assumes nothing.
-use native.Mathlib.Omega.{arith}
 use Rattle.guard.specs.Tables.{no_session}
 use Rattle.guard.proofs.Sweeps.{mapped_step}
 use Rattle.guard.proofs.sessions.without_entity.Goals as goal
 
-pub loop-i-preserved : goal.loop-i-preserved
-loop-i-preserved c = (omega arith, c.loop-i.invariant.1, mapped_step _ _ _ _ no_session _ c.loop-i.invariant.2 c.closed-s2.ensures)
+pub loop-s-preserved : goal.loop-s-preserved
+loop-s-preserved c = mapped_step _ _ _ _ no_session _ c.loop-s.invariant c.closed.ensures
