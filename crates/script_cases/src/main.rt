@@ -9,6 +9,7 @@ mod host;
 
 use host::Cut;
 use std::alloc::{AllocError, Global};
+use std::io::ErrorKind;
 use std::rt::Files;
 use std::{fs, io, iter};
 
@@ -64,9 +65,12 @@ const LONG_PIECES: [usize; 3] = [64, 300, 1000];
 
 const ROOMS: [usize; 3] = [12, 13, 100];
 
-// The bytes of the file of that name. One that cannot be read has none.
-fn bytes(rt: &(impl Files + AllocGlobal), name: &str) -> Vec<u8> {
-    fs::read(rt, name).unwrap_or(Vec::new(rt.alloc()))
+// The bytes of the file of that name. One that cannot be read has none, but for want of memory.
+fn bytes(rt: &(impl Files + AllocGlobal), name: &str) -> io::Result<Vec<u8>> {
+    match fs::read(rt, name) {
+        Err(error) if error.kind() != ErrorKind::OutOfMemory => Ok(Vec::new(rt.alloc())),
+        read => read,
+    }
 }
 
 // The text, with the part that comes again, if it is that long.
@@ -121,7 +125,7 @@ fn case(
     name: &str,
     part: Option<&Part>,
 ) -> io::Result<()> {
-    let text = bytes(rt, name);
+    let text = bytes(rt, name)?;
     let length = text.len();
     println!(rt; "{name}: {length}")?;
     let (input, pieces) = match part {
@@ -136,7 +140,7 @@ fn case(
 
 // The case of each line of the list.
 fn main(rt: HostRuntime) -> io::Result<()> {
-    let list = bytes(&rt, "list");
+    let list = bytes(&rt, "list")?;
     let names = str::from_utf8(&list).unwrap_or("").lines();
     for (k, name) in names.enumerate() {
         case(&rt, name, PARTS.get(k))?;
