@@ -3,104 +3,87 @@
 // or a write fails.
 #![tactic(auto)]
 
-mod stdio;
+mod failure;
 
+ghost use Rattle.std.specs.Prelude.{◌≤◌, length};
+
+use failure::Failure;
 use script::runner::Runner;
 use script::{buffer, runner};
-use std::io::Read;
+use std::io;
+use std::io::{ErrorKind, Read, Write};
+use std::ops::ControlFlow;
 
-// How many bytes of input are at hand, and whether the input has ended or could not be read.
-#[derive(Clone, Copy)]
-struct Stock {
-    have: usize,
-    end: bool,
-    failed: bool,
-}
+// How many bytes the host has for input, and how many for output. An instrument's program has no heap.
+const ROOM: usize = 65536;
 
-// The runner after a turn, how many bytes of input are kept, and whether to go on.
-#[derive(Clone, Copy)]
-struct After {
+// A host of the runner. The first `held` bytes of its input are still to be used.
+#[derive(Drop)]
+struct Host {
     runner: Runner,
-    have: usize,
-    on: bool,
+    input: [u8; ROOM],
+    held: usize,
+    output: [u8; ROOM],
+    ghost within: { held ≤ length input },
 }
 
-// One read behind the bytes that are kept. Nothing read where there was room is the end of the input.
-fn filled(rt: &impl Eprint, from: &mut impl Read, input: &mut [u8], have: usize) -> Stock {
-    if input.len() <= have {
-        return Stock {
-            have,
-            end: false,
-            failed: false,
-        };
-    }
-    let came = stdio::read(rt, from, &mut input[have..]);
-    Stock {
-        have: have + came.count,
-        end: came.count == 0,
-        failed: came.failed,
-    }
-}
-
-// The lines that are whole by now, and their answers written.
-fn turn(
-    rt: &(impl Print + Eprint),
-    r: Runner,
-    input: &mut [u8],
-    have: usize,
-    end: bool,
-    output: &mut [u8],
-) -> After {
-    if input.len() < have {
-        return After {
-            runner: r,
-            have: 0,
-            on: false,
-        };
-    }
-    let ran = runner::run(r, &input[..have], end, output);
-    let next = ran.runner;
-    let wrote = ran.wrote;
-    if output.len() < wrote {
-        return After {
-            runner: next,
-            have: 0,
-            on: false,
-        };
-    }
-    let written = stdio::write(rt, &output[..wrote]);
-    let left = buffer::keep(input, ran.used, have);
-    let idle = (ran.used == 0) & (wrote == 0);
-    After {
-        runner: next,
-        have: left,
-        on: written & !(next.is_over() | (end & idle)),
-    }
-}
-
-// Turns, until there is nothing more to do. After a read that failed no answer is printed: what is kept may be half a line.
-// A loop that is proved has to end, so it has a number of turns that no run uses up.
-fn work(rt: &(impl Input + Print + Eprint), input: &mut [u8], output: &mut [u8]) {
-    let mut from = rt.reader();
-    let mut r = Runner::new();
-    let mut have = 0usize;
-    for _ in 0..u64::MAX {
-        let stock = filled(rt, &mut from, input, have);
-        if stock.failed {
-            return;
+impl Host {
+    // One read behind what is held, and whether the input has ended: nothing came where there was room.
+    fn fill(&mut self, from: &mut impl Read) -> io::Result<bool> {
+        let room = &mut self.input[self.held..];
+        if room.is_empty() {
+            return Ok(false);
         }
-        let a = turn(rt, r, input, stock.have, stock.end, output);
-        if !a.on {
-            return;
+        let came = from.read(room)?;
+        self.held += came;
+        Ok(came == 0)
+    }
+
+    // The lines that are whole by now, and their answers written. The host stops where the run is over, or where the input has
+    // ended and nothing was left to do.
+    fn turn(&mut self, ended: bool, to: &mut impl Write) -> io::Result<ControlFlow<()>> {
+        let ran = runner::run(
+            self.runner,
+            &self.input[..self.held],
+            ended,
+            &mut self.output,
+        );
+        to.write_all(&self.output[..ran.wrote])?;
+        self.runner = ran.runner;
+        self.held = buffer::keep(&mut self.input, ran.used, self.held);
+        let idle = ran.used == 0 && ran.wrote == 0;
+        if self.runner.is_over() || ended && idle {
+            return Ok(ControlFlow::Break(()));
         }
-        let next = a.runner;
-        r = next;
-        have = a.have;
+        Ok(ControlFlow::Continue(()))
+    }
+
+    // Turns, until there is nothing more to do. A read that a signal interrupted is made again; after one that failed no answer
+    // is printed: what is held may be half a line. No handle lets a loop here run for ever, so it has a number of turns that no
+    // run uses up.
+    fn carry(&mut self, from: &mut impl Read, to: &mut impl Write) -> Result<(), Failure> {
+        for _ in 0..u64::MAX {
+            let ended = match self.fill(from) {
+                Err(error) if error.kind() == ErrorKind::Interrupted => continue,
+                read => read.map_err(Failure::Read)?,
+            };
+            if self.turn(ended, to).map_err(Failure::Write)?.is_break() {
+                break;
+            }
+        }
+        Ok(())
     }
 }
 
 fn main(rt: HostRuntime) {
-    let mut input = [0u8; 65536];
-    let mut output = [0u8; 65536];
-    work(&rt, &mut input, &mut output);
+    let mut host = Host {
+        runner: Runner::new(),
+        input: [0; ROOM],
+        held: 0,
+        output: [0; ROOM],
+    };
+    if let Err(failure) = host.carry(&mut rt.stdin(), &mut rt.stdout()) {
+        // Where this cannot be told either, there is nowhere left to tell it.
+        let _ = eprintln!(rt; "requests: {failure}");
+    }
 }
