@@ -9,9 +9,10 @@ mod host;
 
 use host::Cut;
 use std::alloc::{AllocError, Global};
-use std::io::ErrorKind;
+use std::fs::File;
+use std::io::{ErrorKind, Read};
 use std::rt::Files;
-use std::{fs, io, iter};
+use std::{io, iter};
 
 // The part of a long input, from `from` up to `to`, that comes `again` more times. It makes a long input of a short file.
 #[derive(Clone, Copy)]
@@ -54,6 +55,11 @@ const PARTS: [Part; 5] = [
     },
 ];
 
+// How many bytes of an input are read, and of the list.
+const MOST: u64 = 65536;
+
+const MOST_LISTED: u64 = 4096;
+
 const WHOLE: Cut = Cut {
     piece: 65536,
     room: 65536,
@@ -65,12 +71,16 @@ const LONG_PIECES: [usize; 3] = [64, 300, 1000];
 
 const ROOMS: [usize; 3] = [12, 13, 100];
 
-// The bytes of the file of that name. One that cannot be read has none, but for want of memory.
-fn bytes(rt: &(impl Files + AllocGlobal), name: &str) -> io::Result<Vec<u8>> {
-    match fs::read(rt, name) {
-        Err(error) if error.kind() != ErrorKind::OutOfMemory => Ok(Vec::new(rt.alloc())),
-        read => read,
+// The first bytes of the file of that name, at most so many. One that cannot be read has none, but for want of memory.
+fn bytes(rt: &(impl Files + AllocGlobal), name: &[u8], most: u64) -> io::Result<Vec<u8>> {
+    let mut bytes = Vec::new(rt.alloc());
+    if let Ok(file) = File::open(rt, str::from_utf8(name).unwrap_or("")) {
+        match file.take(most).read_to_end(&mut bytes) {
+            Err(error) if error.kind() == ErrorKind::OutOfMemory => return Err(error),
+            _ => {}
+        }
     }
+    Ok(bytes)
 }
 
 // The text, with the part that comes again, if it is that long.
@@ -122,12 +132,13 @@ fn show(rt: &impl Print, printed: &[u8]) -> io::Result<()> {
 // missing has none.
 fn case(
     rt: &(impl Print + Files + AllocGlobal),
-    name: &str,
+    name: &[u8],
     part: Option<&Part>,
 ) -> io::Result<()> {
-    let text = bytes(rt, name)?;
+    let text = bytes(rt, name, MOST)?;
     let length = text.len();
-    println!(rt; "{name}: {length}")?;
+    rt.write_all(name)?;
+    println!(rt; ": {length}")?;
     let (input, pieces) = match part {
         Some(part) => (repeated(rt.alloc(), &text, part)?, &LONG_PIECES),
         None => (text, &PIECES),
@@ -140,9 +151,10 @@ fn case(
 
 // The case of each line of the list.
 fn main(rt: HostRuntime) -> io::Result<()> {
-    let list = bytes(&rt, "list")?;
-    let names = str::from_utf8(&list).unwrap_or("").lines();
-    for (k, name) in names.enumerate() {
+    let list = bytes(&rt, b"list", MOST_LISTED)?;
+    let lines = list.split_inclusive(|byte| *byte == b'\n');
+    for (k, line) in lines.enumerate() {
+        let name = line.strip_suffix(b"\n").unwrap_or(line);
         case(&rt, name, PARTS.get(k))?;
     }
     Ok(())
