@@ -3,6 +3,7 @@ ghost use Rattle.std.specs.Prelude.{◌≡◌, ◌<◌};
 ghost use Rattle.guard.specs.Level.{entity_count, role_count};
 ghost use Rattle.guard.specs.Fresh.{fresh_role, fresh_entity, tabulate, fresh, build};
 
+use crate::refusal::Refusal;
 use crate::sizes::{BLOCK, CONTAINER, EDITION_1, ENTITIES, LEVEL_ROLES, ROLES, SESSIONS, USERS};
 use crate::sound::record;
 use crate::{Entity, Label, Outcome, Role, Tables, Told, User, entities, roles, sessions};
@@ -114,7 +115,7 @@ impl Tables {
         let tables = fresh_over([nobody; USERS], EDITION_1);
         Outcome {
             tables,
-            answer: 2,
+            answer: Refusal::OutOfRange as u8,
             role: Told::None,
         }
     }
