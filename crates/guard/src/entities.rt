@@ -1,6 +1,6 @@
 // Requests that make, end, rename or mark an entity: what create, delete, rename and share are refused for, and the entity after
 // them.
-#![tactic(auto, using(crate::proofs::Decisions::refused), unfolding(crate::specs::Refusals::first, bitset::specs::Tests::either))]
+#![tactic(auto, unfolding(crate::specs::Refusals::first, bitset::specs::Tests::either))]
 
 ghost use Rattle.std.specs.Prelude.{◌≤◌, ◌<◌, ◌≡◌, true, not, [], ◌∷◌, ltb, eqb};
 ghost use Rattle.bitset.specs.Tests.{every, either};
@@ -22,9 +22,9 @@ use crate::view::View;
 use crate::{Entity, Request, kinds, labels, sizes};
 use bitset::Set;
 
-// The refusals of create up to `NoContainer`: what has to be there, and what not.
-fn create_refusal_to_9(v: View) -> Result<(), Refusal>
-    ensures { answer_of result ≡ first (5 when not v.session.live ∷ 7 when either (not v.parent.live) (not v.live) ∷ 8 when v.entity.live ∷ 9 when not (eqb v.parent.kind container) ∷ []) }
+pub fn create_refusal(q: Request, v: View) -> Result<(), Refusal>
+    requires { (q.grade ≤ top_grade) × (q.cats ≤ all_categories) }
+    ensures { answer_of result ≡ first (5 when not v.session.live ∷ 7 when either (not v.parent.live) (not v.live) ∷ 8 when v.entity.live ∷ 9 when not (eqb v.parent.kind container) ∷ 10 when either (not (eqb (entity_level q.entity) (entity_level q.parent))) (ltb (role_level q.role) (entity_level q.entity)) ∷ 11 when not (dominates (label_asked q) v.parent.label) ∷ 12 when not (has v.session.roles q.role) ∷ 13 when either (not (has v.session.writing q.parent)) (not (has v.found.rights.executes q.parent)) ∷ 14 when v.found.kin ∷ []) }
 {
     if !v.session.live {
         return Err(Refusal::SeatDead);
@@ -38,14 +38,6 @@ fn create_refusal_to_9(v: View) -> Result<(), Refusal>
     if v.parent.kind != sizes::CONTAINER {
         return Err(Refusal::NoContainer);
     }
-    Ok(())
-}
-
-// Those from `Integrity` on.
-fn create_refusal_from_10(q: Request, v: View) -> Result<(), Refusal>
-    requires { (q.grade ≤ top_grade) × (q.cats ≤ all_categories) }
-    ensures { answer_of result ≡ first (10 when either (not (eqb (entity_level q.entity) (entity_level q.parent))) (ltb (role_level q.role) (entity_level q.entity)) ∷ 11 when not (dominates (label_asked q) v.parent.label) ∷ 12 when not (has v.session.roles q.role) ∷ 13 when either (not (has v.session.writing q.parent)) (not (has v.found.rights.executes q.parent)) ∷ 14 when v.found.kin ∷ []) }
-{
     if (q.entity / sizes::LEVEL_ENTITIES != q.parent / sizes::LEVEL_ENTITIES)
         | (q.role / sizes::LEVEL_ROLES < q.entity / sizes::LEVEL_ENTITIES)
     {
@@ -65,14 +57,6 @@ fn create_refusal_from_10(q: Request, v: View) -> Result<(), Refusal>
         return Err(Refusal::NameTaken);
     }
     Ok(())
-}
-
-pub fn create_refusal(q: Request, v: View) -> Result<(), Refusal>
-    requires { (q.grade ≤ top_grade) × (q.cats ≤ all_categories) }
-    ensures { answer_of result ≡ first (5 when not v.session.live ∷ 7 when either (not v.parent.live) (not v.live) ∷ 8 when v.entity.live ∷ 9 when not (eqb v.parent.kind container) ∷ 10 when either (not (eqb (entity_level q.entity) (entity_level q.parent))) (ltb (role_level q.role) (entity_level q.entity)) ∷ 11 when not (dominates (label_asked q) v.parent.label) ∷ 12 when not (has v.session.roles q.role) ∷ 13 when either (not (has v.session.writing q.parent)) (not (has v.found.rights.executes q.parent)) ∷ 14 when v.found.kin ∷ []) }
-{
-    create_refusal_to_9(v)?;
-    create_refusal_from_10(q, v)
 }
 
 // Whether entity `e` lies in a shared container and is not one of those owned.

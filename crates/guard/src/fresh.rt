@@ -3,6 +3,7 @@ ghost use Rattle.std.specs.Prelude.{◌≡◌, ◌<◌};
 ghost use Rattle.guard.specs.Level.{entity_count, role_count};
 ghost use Rattle.guard.specs.Fresh.{fresh_role, fresh_entity, tabulate, fresh, build};
 
+use crate::refusal::Refusal;
 use crate::sizes::{BLOCK, CONTAINER, EDITION_1, ENTITIES, LEVEL_ROLES, ROLES, SESSIONS, USERS};
 use crate::sound::record;
 use crate::{Entity, Outcome, Role, Session, Tables, User};
@@ -86,7 +87,7 @@ impl Tables {
         }
         Outcome {
             tables: fresh_over([User::default(); USERS], EDITION_1),
-            answer: 2,
+            answer: Refusal::OutOfRange as u8,
             role: None,
         }
     }

@@ -34,6 +34,7 @@ pub fn judge(q: Request, v: View) -> Result<(), Refusal>
         kinds::MAKE => roles::make_refusal(q, v),
         kinds::UNMAKE => roles::unmake_refusal(q, v),
         kinds::SHARE => entities::share_refusal(q, v),
+        // In two arms, as list and unlist, every request costs some 20 instructions more.
         kinds::JOIN | kinds::UNJOIN => roles::tie_refusal(q, v),
         kinds::KINDS..=4294967295 => Err(Refusal::OutOfRange),
     }

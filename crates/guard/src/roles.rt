@@ -41,13 +41,14 @@ pub fn rights_refusal(q: Request, v: View) -> Result<(), Refusal>
 }
 
 // That the seat is not below the role and holds the keeper of the role's level.
-fn keeper_refusal(roles: u16, seat: u32, role: u32) -> Result<(), Refusal>
-    ensures { answer_of result ≡ first (10 when ltb (session_level seat) (role_level role) ∷ 12 when not (has roles (keeper_of (role_level role))) ∷ []) }
+fn keeper_refusal(q: Request, v: View) -> Result<(), Refusal>
+    ensures { answer_of result ≡ first (10 when ltb (session_level q.seat) (role_level q.role) ∷ 12 when not (has v.session.roles (keeper_of (role_level q.role))) ∷ []) }
 {
-    if seat / sizes::LEVEL_SEATS < role / sizes::LEVEL_ROLES {
+    let keeper = sizes::LEVEL_ROLES * (q.role / sizes::LEVEL_ROLES);
+    if q.seat / sizes::LEVEL_SEATS < q.role / sizes::LEVEL_ROLES {
         return Err(Refusal::Integrity);
     }
-    if !roles.has(sizes::LEVEL_ROLES * (role / sizes::LEVEL_ROLES)) {
+    if !v.session.roles.has(keeper) {
         return Err(Refusal::RoleMissing);
     }
     Ok(())
@@ -63,7 +64,7 @@ pub fn list_refusal(q: Request, v: View, so: bool) -> Result<(), Refusal>
     if !v.live {
         return Err(Refusal::NotLive);
     }
-    keeper_refusal(v.session.roles, q.seat, q.role)?;
+    keeper_refusal(q, v)?;
     if so {
         return Err(Refusal::NoChange);
     }
@@ -79,7 +80,7 @@ pub fn make_refusal(q: Request, v: View) -> Result<(), Refusal>
     if v.live {
         return Err(Refusal::NumberLive);
     }
-    keeper_refusal(v.session.roles, q.seat, q.role)
+    keeper_refusal(q, v)
 }
 
 pub fn unmake_refusal(q: Request, v: View) -> Result<(), Refusal>
@@ -94,7 +95,7 @@ pub fn unmake_refusal(q: Request, v: View) -> Result<(), Refusal>
     if !v.live {
         return Err(Refusal::NotLive);
     }
-    keeper_refusal(v.session.roles, q.seat, q.role)?;
+    keeper_refusal(q, v)?;
     if v.found.kin {
         return Err(Refusal::InUse);
     }
@@ -114,7 +115,7 @@ pub fn tie_refusal(q: Request, v: View) -> Result<(), Refusal>
     if q.junior / sizes::LEVEL_ROLES != q.role / sizes::LEVEL_ROLES {
         return Err(Refusal::Integrity);
     }
-    keeper_refusal(v.session.roles, q.seat, q.role)?;
+    keeper_refusal(q, v)?;
     if v.found.kin {
         return Err(Refusal::Cycle);
     }
