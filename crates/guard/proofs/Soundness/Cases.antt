@@ -1,11 +1,12 @@
 -- What the code tests of one record, in the cases that it tells apart.
+--     label_none, entity_none, session_none      what is equal to the empty record has every field zero or empty
 --     entity_fits_lem                                                    an entity in its ranges, its mark as its kind allows
 --     entity_dead_lem, entity_root, entity_other                         an entity n at e, where p is its parent's record
 --     rights_small, role_out, role_last                              a role p at r, by the entities on which it may have rights
 --     session_dead, session_out, session_away, session_last          a session s at a level, by the labels of the entities
 -- Assumes nothing.
 use Prim.Native.Nat.{ℕ, ◌^◌, ◌≤◌, ◌<◌}
-use mathlib.Core.Bool.{Bool, true, false, not, ◌&&◌, and-true, ◌||◌, and-false, cond}
+use mathlib.Core.Bool.{Bool, true, false, not, beq, ◌&&◌, and-true, and_comm, ◌||◌, and-false, cond}
 use mathlib.Core.Path.{◌≡◌, refl, sym, ◌∙◌}
 use mathlib.Core.List.{List, [], ◌∷◌}
 use native.Mathlib.Decide.{ℕ_discrete}
@@ -17,16 +18,45 @@ use Rattle.bitset.specs.Tests.Laws.{both, clash, is_false, not_of_true, not_of_f
 use Rattle.bitset.specs.Sets.{has, contains}
 use Rattle.bitset.specs.Sets.Laws.{has_none, join_lt}
 use Rattle.guard.specs.Level.{is_root, is_keeper}
-use Rattle.guard.specs.Label.{label_in_range}
+use Rattle.guard.specs.Label.{label_in_range, same_label, no_label}
+use Rattle.guard.specs.Tables.{no_entity, no_session}
 use Rattle.guard.specs.Sound.{entity_in_range_in, is_root_record, is_mark_allowed, is_empty_entity, is_empty_session}
 use Rattle.guard.specs.Private.Tested.{entity_fits, entity_test, rights_set, role_test, open_levels, open_labels, session_test}
 use Rattle.guard.specs.Private.InForce.{session_in_range}
+use Rattle.guard.specs.declared.Label.{Label}
 use Rattle.guard.specs.declared.Entity.{Entity}
 use Rattle.guard.specs.declared.Role.{Role}
 use Rattle.guard.specs.declared.Session.{Session}
 use Rattle.guard.proofs.Laws.Sound.Facts.{fits_in}
 use Rattle.guard.proofs.Soundness.Tests.{cond_yes, cond_no}
 use Rattle.guard.proofs.Soundness.Members.{within_mask}
+
+-- ---- equality with an empty record, in the order of its fields
+
+pub label_none : (a d : Label) (r : Bool) → (d.cats ≡ 0) × (d.grade ≡ 0) → r ≡ (eqb a.cats d.cats && eqb a.grade d.grade) → r ≡ same_label a no_label
+unfolding same_label every
+label_none a d r (cats, grade) e = e ∙ rw (cats, grade, and-true) (and_comm (eqb a.cats 0) (eqb a.grade 0))
+
+-- the mark behind the name and the label, and of the label the grade first
+last_mark : (m n x y : Bool) → (m && (n && (x && y))) ≡ (n && ((y && x) && m))
+last_mark true true x y = and_comm x y ∙ sym (and-true (y && x))
+last_mark true false x y = refl
+last_mark false true x y = sym (and-false (y && x))
+last_mark false false x y = refl
+
+pub entity_none : (n d : Entity) (r : Bool) → n.live ≡ false → d ≡ no_entity
+    → r ≡ (beq n.live d.live && (eqb n.kind d.kind && (eqb n.parent d.parent && (eqb n.shared d.shared && (eqb n.name d.name && (eqb n.label.cats d.label.cats && eqb n.label.grade d.label.grade))))))
+    → r ≡ is_empty_entity n
+unfolding is_empty_entity same_label every
+entity_none n d r dead none e =
+    e ∙ rw (none, dead) (simp (and-true, last_mark (eqb n.shared 0) (eqb n.name 0) (eqb n.label.cats 0) (eqb n.label.grade 0)))
+
+pub session_none : (s d : Session) (r : Bool) → s.live ≡ false → d ≡ no_session
+    → r ≡ (beq s.live d.live && (eqb s.user d.user && ((eqb s.label.cats d.label.cats && eqb s.label.grade d.label.grade) && (eqb s.roles d.roles && (eqb s.reading d.reading && eqb s.writing d.writing)))))
+    → r ≡ is_empty_session s
+unfolding is_empty_session same_label every
+session_none s d r dead none e =
+    e ∙ rw (none, dead) (simp (and-true, and_comm (eqb s.label.cats 0) (eqb s.label.grade 0)))
 
 -- ---- an entity
 

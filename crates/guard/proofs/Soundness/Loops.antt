@@ -1,48 +1,28 @@
 -- Loops that count up.
---     all_miss, all_next, all_done                    a loop that is left at the first miss
---     Filled, filled_none, filled_more, filled_all    a loop that fills an array of 64
+--     all_miss, all_next                              a loop that is left at the first miss
 --     Listed, listed_none, listed_more                a loop that collects a set
+--     all_of_list, all_of_range                       a chain that ends in `all`, over a list and over the numbers below n
 --     long                                            the length of an array of records
 -- Assumes nothing.
-use Prim.Native.Nat.{ℕ, ◌+◌, ◌^◌, ◌≤◌, ◌<◌}
-use mathlib.Core.Bool.{Bool, true, false, not, cond, and-eq-true_iff}
-use mathlib.Core.List.{List, map}
-use mathlib.Core.Path.{◌≡◌, sym, ◌∙◌, refl}
+use Prim.Native.Nat.{ℕ, zero, suc, ◌+◌, ◌^◌, ◌≤◌, ◌<◌}
+use mathlib.Core.Bool.{Bool, true, false, not, ◌&&◌, cond, and-true, and_assoc, and-eq-true_iff}
+use mathlib.Core.List.{List, [], ◌∷◌, map}
+use mathlib.Core.Path.{◌≡◌, refl, sym, ap, ◌∙◌}
 use native.Mathlib.Decide.{dec_lt}
 use native.Mathlib.Omega.{arith}
-use lib.ListN.{length, get_or, set, length-set, length-map}
-use lib.Seq.{get_or-set_same, get_or-set_other}
+use lib.ListN.{length, get_or, length-map}
+use Rattle.std.specs.List.{list_all, range_with_len}
+use Rattle.std.proofs.lemmas.List.FromFn.{length-range_with_len, get_or-range_with_len}
 use Rattle.bitset.specs.Sets.{has, with}
 use Rattle.bitset.specs.Sets.Laws.{has_none, has_with_same, has_with_other, with_lt}
 use Rattle.bitset.specs.Tests.{all}
-use Rattle.bitset.specs.Tests.Laws.{is_false, clash, of_not_true, of_not_false, all_e, all_more, none_below}
+use Rattle.bitset.specs.Tests.Laws.{is_false, clash, of_not_true, of_not_false, all_e, all_more, all_cong, none_below}
 
 pub all_miss : (n i : ℕ) (p : ℕ → Bool) (r : Bool) → i < n → r ≡ p i → not r ≡ true → false ≡ all n p
 all_miss n i p r l e h = sym (is_false (all n p) (λ k. clash (p i) (all_e n p k i l) (sym e ∙ of_not_true r h)))
 
 pub all_next : (i : ℕ) (p : ℕ → Bool) (r : Bool) → all i p ≡ true → r ≡ p i → not r ≡ false → all (i + 1) p ≡ true
 all_next i p r h e k = all_more i p ∙ (and-eq-true_iff (all i p) (p i)).1 (h, sym e ∙ of_not_false r k)
-
-pub all_done : (n i : ℕ) (p : ℕ → Bool) → i ≤ n → n ≤ i → all i p ≡ true → true ≡ all n p
-all_done n i p l k h = let e : i ≡ n = omega arith in rw e at (sym h)
-
--- the first i of the 64 are as f says
-pub record Filled (f : ℕ → ℕ) (i : ℕ) (a : List ℕ) : Type 0 where
-  pub long : length a ≡ 64
-  pub at : (k : ℕ) → k < i → get_or a k 0 ≡ f k
-
-pub filled_none : (f : ℕ → ℕ) (a : List ℕ) → length a ≡ 64 → Filled f 0 a
-filled_none f a e = record { long = e; at = λ k l. absurd (none_below k l) }
-
-pub filled_more : (f : ℕ → ℕ) (i v : ℕ) (a : List ℕ) → i < 64 → Filled f i a → v ≡ f i → Filled f (i + 1) (set a i v)
-filled_more f i v a l h k = record { long = simp length-set h.long; at = λ j m. go j m (dec_lt j i) }
-  where
-    go : (j : ℕ) → j < i + 1 → Dec (j < i) → get_or (set a i v) j 0 ≡ f j
-    go j m (yes b) = get_or-set_other a i j v 0 (λ q. omega arith) ∙ h.at j b
-    go j m (no b) = let q : j ≡ i = omega arith in rw q (get_or-set_same a i v 0 (rw h.long l) ∙ k)
-
-pub filled_all : (f : ℕ → ℕ) (i : ℕ) (a : List ℕ) → 64 ≤ i → Filled f i a → (k : ℕ) → k < 64 → get_or a k 0 ≡ f k
-filled_all f i a l h k b = h.at k (omega arith)
 
 -- the members of s are the numbers below i that f tells
 pub record Listed (w : ℕ) (f : ℕ → Bool) (i s : ℕ) : Type 0 where
@@ -81,3 +61,22 @@ listed_more w f i s r l h e = go (f i) refl
 -- the length of an array of records, as what a parameter is known by has it
 pub long : {X Y : Type 0} (f : X → Y) (l : List X) (n : ℕ) → length (map f l) ≡ n → length l ≡ n
 long f l n e = sym (length-map l f) ∙ e
+
+-- ---- chains that end in `all`
+all_front : (n : ℕ) (p : ℕ → Bool) → all (suc n) p ≡ (p 0 && all n (λ k. p (suc k)))
+unfolding all
+all_front zero p = sym (and-true (p 0))
+all_front (suc n) p = ap (λ (b : Bool). b && p (suc n)) (all_front n p) ∙ and_assoc (p 0) (all n (λ k. p (suc k))) (p (suc n))
+
+pub all_of_list : {A : Type 0} (p : A → Bool) (l : List A) (d : A) (n : ℕ) → length l ≡ n → list_all p l ≡ all n (λ k. p (get_or l k d))
+unfolding all
+all_of_list p [] d zero e = refl
+all_of_list p [] d (suc n) e = absurd (omega (arith, e))
+all_of_list p (x ∷ l) d zero e = absurd (omega (arith, e))
+all_of_list p (x ∷ l) d (suc n) e =
+    ap (λ (b : Bool). p x && b) (all_of_list p l d n (omega (arith, e))) ∙ sym (all_front n (λ k. p (get_or (x ∷ l) k d)))
+
+pub all_of_range : (n : ℕ) (p : ℕ → Bool) → list_all p (range_with_len 0 n) ≡ all n p
+all_of_range n p =
+    all_of_list p (range_with_len 0 n) 0 n (length-range_with_len 0 n)
+    ∙ all_cong n _ p (λ k l. let here : 0 + k ≡ k = omega arith in ap p (get_or-range_with_len 0 n k 0 l ∙ here))

@@ -7,11 +7,12 @@ ghost use Rattle.guard.specs.Tables.{no_session, no_entity};
 ghost use Rattle.guard.specs.Private.Tested.{packed_label, label_number, dominated, members, open_levels, open_labels, session_test};
 ghost use Rattle.guard.specs.Private.Scan.{Gathered, opens_given};
 
-use super::record::{is_empty_session, session_in_range};
+use super::record::session_in_range;
 use crate::scan::{GRANTS, Rights};
 use crate::sizes::{EDITION_1, ENTITIES, LEVEL_SEATS, SEAT_END, SESSIONS};
 use crate::{Entity, Label, Session, backing, scan};
 use bitset::Set;
+use std::array;
 
 // How many sets of categories there are, and the last of them; and what stands for the label of what is not live, above all
 // labels.
@@ -39,14 +40,7 @@ fn label_of(n: Entity) -> u32
 pub fn labels(entities: [Entity; ENTITIES]) -> [u32; ENTITIES]
     ensures { (e : ℕ) → e < entity_count → get_or result e 0 ≡ label_number (get_or entities e no_entity) }
 {
-    let mut a = [0u32; ENTITIES];
-    let mut e: usize = 0;
-    while e < ENTITIES {
-        let n = entities[e];
-        a[e] = label_of(n);
-        e += 1;
-    }
-    a
+    array::from_fn(|e| label_of(entities[e]))
 }
 
 // Whether `label` dominates the label of each member of `set`.
@@ -143,7 +137,7 @@ fn session_ok(labels: &[u32; ENTITIES], roles: u16, edition: u8, level: u32, s: 
     ensures { result ≡ session_test labels.now roles edition level s }
 {
     if !s.live {
-        return is_empty_session(s);
+        return s == Session::default();
     }
     if !(session_in_range(s) & roles.contains(s.roles)) {
         return false;

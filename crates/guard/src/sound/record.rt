@@ -22,12 +22,6 @@ const ENTITY_COUNT: u8 = ENTITIES as u8;
 
 const LEVEL: u8 = LEVEL_ENTITIES as u8;
 
-fn is_no_label(a: Label) -> bool
-    ensures { result ≡ same_label a no_label }
-{
-    (a.grade == 0) & (a.cats == 0)
-}
-
 fn user_in_range(u: User) -> bool
     ensures { result ≡ user_in_range u }
 {
@@ -43,27 +37,13 @@ pub fn edition_in_range(edition: u8) -> bool
 pub fn users_in_range(users: [User; USERS]) -> bool
     ensures { result ≡ all user_count (λ u. user_in_range (get_or users u no_user)) }
 {
-    let mut u: usize = 0;
-    while u < USERS {
-        if !user_in_range(users[u]) {
-            return false;
-        }
-        u += 1;
-    }
-    true
+    users.iter().all(|u| user_in_range(*u))
 }
 
 pub fn session_in_range(s: Session) -> bool
     ensures { result ≡ session_in_range s }
 {
     (s.user < USER_COUNT) & labels::in_range(s.label)
-}
-
-pub fn is_empty_session(s: Session) -> bool
-    ensures { result ≡ is_empty_session s }
-{
-    (s.user == 0)
-        & (is_no_label(s.label) & ((s.roles == 0) & ((s.reading == 0) & (s.writing == 0))))
 }
 
 // In its ranges, and with the mark 0 if it is an object: a mark is at most the kind, which is at most 1.
@@ -77,13 +57,9 @@ fn entity_fits(n: Entity) -> bool
 fn is_root_record(e: u8, n: Entity) -> bool
     ensures { result ≡ is_root_record e n }
 {
-    n.live & ((n.kind == CONTAINER) & (is_no_label(n.label) & ((n.name == 0) & (n.parent == e))))
-}
-
-fn is_empty_entity(n: Entity) -> bool
-    ensures { result ≡ is_empty_entity n }
-{
-    (n.kind == 0) & ((n.parent == 0) & ((n.name == 0) & (is_no_label(n.label) & (n.shared == 0))))
+    n.live
+        & ((n.kind == CONTAINER)
+            & ((n.label == Label::default()) & ((n.name == 0) & (n.parent == e))))
 }
 
 // Whether `n`, at `e`, may lie in `p`, its parent's record.
@@ -98,29 +74,23 @@ fn fits_in(e: u8, n: Entity, p: Entity) -> bool
 // Whether the entity `e`, whose record is `n` and whose parent's is `p`, is as soundness asks, but for its name among its
 // siblings and its chain of parents. One that is not live is no root and is empty; its ranges follow, and those of a root but
 // for its mark.
-fn entity_ok(e: u8, n: Entity, p: Entity) -> bool
-    ensures { result ≡ entity_test e n p }
+fn entity_ok(e: u8, n: &Entity, p: &Entity) -> bool
+    ensures { result ≡ entity_test e n.now p.now }
 {
     if !n.live {
-        return (e % LEVEL != 0) & is_empty_entity(n);
+        return (e % LEVEL != 0) & (*n == Entity::default());
     }
     if e % LEVEL == 0 {
-        return is_root_record(e, n) & (n.shared <= SHARED);
+        return is_root_record(e, *n) & (n.shared <= SHARED);
     }
-    entity_fits(n) & ((1 <= n.name) & fits_in(e, n, p))
+    entity_fits(*n) & ((1 <= n.name) & fits_in(e, *n, *p))
 }
 
 pub fn entities_ok(entities: [Entity; ENTITIES]) -> bool
     ensures { result ≡ all entity_count (λ e. entity_test e (get_or entities e no_entity) (get_or entities ((get_or entities e no_entity).parent % 64) no_entity)) }
 {
-    let mut e: u8 = 0;
-    while e < ENTITY_COUNT {
-        let n = entities[e as usize];
-        let p = entities[(n.parent % ENTITY_COUNT) as usize];
-        if !entity_ok(e, n, p) {
-            return false;
-        }
-        e += 1;
-    }
-    true
+    (0..ENTITY_COUNT).all(|e| {
+        let n = &entities[usize::from(e)];
+        entity_ok(e, n, &entities[usize::from(n.parent % ENTITY_COUNT)])
+    })
 }

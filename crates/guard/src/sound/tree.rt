@@ -8,6 +8,7 @@ ghost use Rattle.guard.specs.Private.Scan.{Keys};
 
 use crate::Entity;
 use crate::sizes::{BLOCK, ENTITIES, ENTITY_END, LEVEL_ENTITIES};
+use std::array;
 
 // How many names there are: a key is the parent times this, and the name.
 pub const NAMES: u32 = 65536;
@@ -28,14 +29,7 @@ pub fn key(n: Entity) -> u32
 pub fn keys(entities: [Entity; ENTITIES]) -> [u32; ENTITIES]
     ensures { Keys entities result }
 {
-    let mut a = [0u32; ENTITIES];
-    let mut e: usize = 0;
-    while e < ENTITIES {
-        let n = entities[e];
-        a[e] = key(n);
-        e += 1;
-    }
-    a
+    array::from_fn(|e| key(entities[e]))
 }
 
 // The entities that are live: of a key, bit 24 alone tells it.
@@ -44,18 +38,10 @@ pub fn live_set(keys: &[u32; ENTITIES]) -> u64
     ensures { (e : ℕ) → e < entity_count → has result e ≡ live_by_key keys.now e }
 {
     let mut dead: u64 = 0;
-    let mut e = ENTITIES;
-    while 0 < e {
-        e -= 1;
-        dead = dead << 1 | ((keys[e] >> 24) as u64);
+    for key in keys.iter().rev() {
+        dead = dead << 1 | u64::from(*key >> 24);
     }
     !dead
-}
-
-fn counted(a: u32, b: u32) -> u32
-    ensures { result ≡ cond (eqb a b) 1 0 }
-{
-    if a == b { 1 } else { 0 }
 }
 
 // Whether `e` has no name, or no other entity of its level has its key.
@@ -68,12 +54,9 @@ fn has_own_key(keys: &[u32; ENTITIES], e: usize) -> bool
         return true;
     }
     let first = e / BLOCK * BLOCK;
-    let mut hits: u32 = 0;
-    let mut m: usize = 0;
-    while m < BLOCK {
-        let one = counted(keys[first + m], k);
-        hits += one;
-        m += 1;
+    let mut hits = 0u32;
+    for other in &keys[first..first + BLOCK] {
+        hits += u32::from(*other == k);
     }
     hits == 1
 }
@@ -81,14 +64,7 @@ fn has_own_key(keys: &[u32; ENTITIES], e: usize) -> bool
 pub fn have_own_keys(keys: &[u32; ENTITIES]) -> bool
     ensures { result ≡ all entity_count (own_key keys.now) }
 {
-    let mut e: usize = 0;
-    while e < ENTITIES {
-        if !has_own_key(keys, e) {
-            return false;
-        }
-        e += 1;
-    }
-    true
+    (0..ENTITIES).all(|e| has_own_key(keys, e))
 }
 
 fn ends_at_root(keys: &[u32; ENTITIES], e: usize) -> bool
@@ -96,13 +72,11 @@ fn ends_at_root(keys: &[u32; ENTITIES], e: usize) -> bool
     ensures { result ≡ ends (parent_by_key keys.now) entities_per_level e }
 {
     let mut at = e;
-    let mut left = LEVEL_ENTITIES;
-    while 0 < left {
+    for _ in 0..LEVEL_ENTITIES {
         if at % BLOCK == 0 {
             return true;
         }
         at = (keys[at] / NAMES % ENTITY_END) as usize;
-        left -= 1;
     }
     at % BLOCK == 0
 }
@@ -110,12 +84,5 @@ fn ends_at_root(keys: &[u32; ENTITIES], e: usize) -> bool
 pub fn end_at_root(keys: &[u32; ENTITIES]) -> bool
     ensures { result ≡ all entity_count (ends (parent_by_key keys.now) entities_per_level) }
 {
-    let mut e: usize = 0;
-    while e < ENTITIES {
-        if !ends_at_root(keys, e) {
-            return false;
-        }
-        e += 1;
-    }
-    true
+    (0..ENTITIES).all(|e| ends_at_root(keys, e))
 }

@@ -5,4 +5,4 @@ use Rattle.guard.proofs.Filling.{tabulated}
 use Rattle.guard.proofs.fresh.fresh_roles.Goals as goal
 
 pub returns : goal.returns
-returns c = tabulated _ fresh_role _ _ _ (λ p q i y k. search (rules, k)) c.from_fn.ensures.items
+returns c = tabulated _ fresh_role _ _ (λ i y q k. search (rules, k)) 16 c.from_fn.ensures.items

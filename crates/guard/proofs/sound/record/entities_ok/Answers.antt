@@ -1,14 +1,20 @@
--- `entities_ok` tests each entity in turn. Assumes nothing.
-use native.Mathlib.Omega.{arith}
-use Rattle.bitset.specs.Tests.Laws.{not_of_true, not_of_false, all_none}
-use Rattle.guard.proofs.Soundness.Loops.{all_miss, all_next}
+-- `entities_ok` tests each entity. Assumes nothing.
+use Prim.Native.Nat.{ℕ, ◌%◌}
+use mathlib.Core.Bool.{Bool}
+use mathlib.Core.Path.{◌∙◌, refl}
+use borrow.Author.Rules.{rules}
+use lib.ListN.{get_or}
+use Rattle.std.proofs.Common.{tests}
+use Rattle.std.proofs.lemmas.Iterator.{YieldsList-from_range}
+use Rattle.std.proofs.lemmas.Iterator.Search.{all_from_yields_List}
+use Rattle.guard.specs.Tables.{no_entity}
+use Rattle.guard.specs.Private.Tested.{entity_test}
+use Rattle.guard.proofs.Soundness.Loops.{all_of_range}
 use Rattle.guard.proofs.sound.record.entities_ok.Goals as goal
 
-pub loop-e-init : goal.loop-e-init
-loop-e-init c = (omega arith, all_none _)
-
-pub returns-then-not-entity_ok : goal.returns-then-not-entity_ok
-returns-then-not-entity_ok c = all_miss _ c.loop-e.e _ _ (omega arith) c.entity_ok.ensures (not_of_false _ c.if-not-entity_ok.true)
-
-pub loop-e-preserved : goal.loop-e-preserved
-loop-e-preserved c = (omega arith, all_next _ _ _ c.loop-e.invariant.1 c.entity_ok.ensures (not_of_true _ c.if-not-entity_ok.false))
+pub returns : goal.returns
+returns c =
+    let all = c.args.entities in
+    let test : ℕ → Bool = λ e. entity_test e (get_or all e no_entity) (get_or all ((get_or all e no_entity).parent % 64) no_entity) in
+    all_from_yields_List test _ _ _ c.all.ensures.ran (YieldsList-from_range 0 64 64 refl refl) (λ x b q k. search (rules, tests))
+    ∙ all_of_range 64 test

@@ -1,14 +1,15 @@
--- `users_in_range` tests each user in turn. Assumes nothing.
-use native.Mathlib.Omega.{arith}
-use Rattle.bitset.specs.Tests.Laws.{not_of_true, not_of_false, all_none}
-use Rattle.guard.proofs.Soundness.Loops.{all_miss, all_next}
+-- `users_in_range` tests each user. Assumes nothing.
+use mathlib.Core.Path.{◌∙◌}
+use borrow.Author.Rules.{rules}
+use Rattle.std.proofs.Common.{tests}
+use Rattle.std.proofs.lemmas.Iterator.{YieldsList-from_slice}
+use Rattle.std.proofs.lemmas.Iterator.Search.{all_from_yields_List}
+use Rattle.guard.specs.Tables.{no_user}
+use Rattle.guard.specs.Private.InForce.{user_in_range}
+use Rattle.guard.proofs.Soundness.Loops.{all_of_list}
 use Rattle.guard.proofs.sound.record.users_in_range.Goals as goal
 
-pub loop-u-init : goal.loop-u-init
-loop-u-init c = (omega arith, all_none _)
-
-pub returns-then-not-user_in_range : goal.returns-then-not-user_in_range
-returns-then-not-user_in_range c = all_miss _ c.loop-u.u _ _ (omega arith) c.user_in_range.ensures (not_of_false _ c.if-not-user_in_range.true)
-
-pub loop-u-preserved : goal.loop-u-preserved
-loop-u-preserved c = (omega arith, all_next _ _ _ c.loop-u.invariant.1 c.user_in_range.ensures (not_of_true _ c.if-not-user_in_range.false))
+pub returns : goal.returns
+returns c =
+    all_from_yields_List user_in_range _ _ _ c.all.ensures.ran (YieldsList-from_slice c.args.users (cc)) (λ x b q k. search (rules, tests))
+    ∙ all_of_list user_in_range c.args.users no_user 16 (search (rules, c.well_formed))

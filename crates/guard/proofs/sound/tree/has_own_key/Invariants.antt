@@ -1,5 +1,5 @@
 -- `guard::sound::tree::has_own_key` counts the entities of a level that have one key. Assumes nothing.
-use Prim.Native.Nat.{ℕ, ◌+◌, ◌*◌, ◌/◌, ◌-◌, ◌≤◌}
+use Prim.Native.Nat.{ℕ, ◌+◌, ◌*◌, ◌/◌}
 use mathlib.Core.Bool.{Bool}
 use mathlib.Core.List.{List}
 use mathlib.Core.Path.{◌≡◌}
@@ -12,8 +12,5 @@ use Rattle.guard.proofs.sound.tree.has_own_key.Given as goal
 abbrev pub same : List ℕ → ℕ → ℕ → Bool
 same keys e m = eqb (get_or keys (e / 16 * 16 + m) 0) (get_or keys e 0)
 
-abbrev pub invariant-loop-m : goal.invariant-loop-m
-invariant-loop-m l = (l.m ≤ 16) × (l.hits ≡ count l.m (same l.keys l.e))
-
-abbrev pub decreases-loop-m : goal.decreases-loop-m
-decreases-loop-m l = 16 - l.m
+abbrev pub invariant-loop-other : goal.invariant-loop-other
+invariant-loop-other l = l.hits ≡ count l.other-index (same l.keys l.e)

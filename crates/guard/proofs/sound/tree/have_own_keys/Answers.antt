@@ -1,14 +1,14 @@
--- `guard::sound::tree::have_own_keys` tests each entity in turn. Assumes nothing.
-use native.Mathlib.Omega.{arith}
-use Rattle.bitset.specs.Tests.Laws.{not_of_true, not_of_false, all_none}
-use Rattle.guard.proofs.Soundness.Loops.{all_miss, all_next}
+-- `guard::sound::tree::have_own_keys` tests each entity. Assumes nothing.
+use mathlib.Core.Path.{◌∙◌, refl}
+use borrow.Author.Rules.{rules}
+use Rattle.std.proofs.Common.{tests}
+use Rattle.std.proofs.lemmas.Iterator.{YieldsList-from_range}
+use Rattle.std.proofs.lemmas.Iterator.Search.{all_from_yields_List}
+use Rattle.guard.specs.Private.Tested.{own_key}
+use Rattle.guard.proofs.Soundness.Loops.{all_of_range}
 use Rattle.guard.proofs.sound.tree.have_own_keys.Goals as goal
 
-pub loop-e-init : goal.loop-e-init
-loop-e-init c = (omega arith, all_none _)
-
-pub returns-then-not-has_own_key : goal.returns-then-not-has_own_key
-returns-then-not-has_own_key c = all_miss _ c.loop-e.e _ _ (omega arith) c.has_own_key.ensures (not_of_false _ c.if-not-has_own_key.true)
-
-pub loop-e-preserved : goal.loop-e-preserved
-loop-e-preserved c = (omega arith, all_next _ _ _ c.loop-e.invariant.1 c.has_own_key.ensures (not_of_true _ c.if-not-has_own_key.false))
+pub returns : goal.returns
+returns c =
+    all_from_yields_List (own_key c.args.keys.now) _ _ _ c.all.ensures.ran (YieldsList-from_range 0 64 64 refl refl) (λ x b q k. search (rules, tests))
+    ∙ all_of_range 64 _
