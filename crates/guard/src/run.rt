@@ -19,9 +19,8 @@ impl Tables {
         if count == 0 {
             return self;
         }
-        let mut keys = self.keys();
-        let mut grants = self.grants();
-        if !self.sound_by(&keys, &grants) {
+        let mut keys = tree::keys(self.entities);
+        if !self.sound_by(&keys) {
             rows::fill(answers, count, 1);
             rows::fill(roles, count, sizes::NO_ROLE);
             return self;
@@ -44,7 +43,7 @@ impl Tables {
             let o = look::parent_of(q.call, at.parent, entity.parent);
             let parent = self.entities[o];
             // What the scans find.
-            let found = scan::find(&keys, &grants, q, session.roles, e, o, r, j);
+            let found = scan::find(&keys, &self.roles, q, session.roles, e, o, r, j);
             // The decision.
             let v = view::seen(
                 at,
@@ -66,9 +65,10 @@ impl Tables {
                 let changed = change::change_of(q.call);
                 match changed {
                     Change::Session => {
-                        self.sessions[x] = sessions::after(&grants, q, session);
+                        self.sessions[x] = sessions::after(&self.roles, q, session);
                         // What openr and openw tell.
-                        roles[i - 1] = giver::role_told(&grants, q.call, session.roles, e);
+                        let told = giver::role_told(&self.roles, q.call, session.roles, e);
+                        roles[i - 1] = giver::byte(told);
                     }
                     Change::Entity => {
                         let f2 = entities::after(q, entity);
@@ -77,11 +77,9 @@ impl Tables {
                         if q.call == kinds::CREATE {
                             let p2 = roles::owning(q.entity, role);
                             self.roles[r] = p2;
-                            scan::put(&mut grants, r, p2);
                         } else if q.call == kinds::DELETE {
                             let all = self.roles;
                             self.roles = roles::without_entity(all, q.entity);
-                            scan::clear(&mut grants, e);
                             let seats = self.sessions;
                             self.sessions = sessions::without_entity(seats, q.entity);
                         }
@@ -89,13 +87,11 @@ impl Tables {
                     Change::Role => {
                         let p2 = roles::after(q, role);
                         self.roles[r] = p2;
-                        scan::put(&mut grants, r, p2);
                         if change::ends_opens(q.call) {
-                            let lost = backing::lost(&grants, role, p2);
-                            let seats = self.sessions;
-                            self.sessions = backing::swept(
-                                seats,
-                                &grants,
+                            let lost = backing::lost(&self.roles, role, p2);
+                            backing::sweep(
+                                &mut self.sessions,
+                                &self.roles,
                                 q.role,
                                 lost,
                                 q.call == kinds::UNMAKE,

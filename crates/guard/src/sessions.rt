@@ -14,10 +14,9 @@ ghost use Rattle.guard.specs.Private.Inside.{session_after};
 ghost use Rattle.guard.specs.Private.Scan.{backed_by};
 ghost use Rattle.guard.specs.Private.InForce.{in_ranges};
 
-use crate::scan::GRANTS;
-use crate::sizes::SESSIONS;
+use crate::sizes::{ROLES, SESSIONS};
 use crate::view::View;
-use crate::{Label, Request, Session, backing, kinds, labels, sizes};
+use crate::{Label, Request, Role, Session, backing, kinds, labels, sizes};
 use bitset::Set;
 
 pub fn login_refusal(q: Request, v: View) -> u8
@@ -127,9 +126,9 @@ fn closed(e: u32, s: Session) -> Session
 }
 
 // The acting session after a request on it; a drop also ends those of its opens that are no longer backed.
-pub fn after(grants: &[u64; GRANTS], q: Request, s: Session) -> Session
+pub fn after(roles: &[Role; ROLES], q: Request, s: Session) -> Session
     requires { in_ranges q ≡ true }
-    ensures { result ≡ session_after (backed_by grants.now) q s }
+    ensures { result ≡ session_after (backed_by roles.now) q s }
 {
     let call = q.call;
     let mut n = s;
@@ -137,7 +136,7 @@ pub fn after(grants: &[u64; GRANTS], q: Request, s: Session) -> Session
         kinds::LOGIN => return entered(q),
         kinds::LOGOUT => return empty(),
         kinds::TAKE => n.roles = s.roles.with(q.role),
-        kinds::DROP => return backing::backed(grants, dropped(q.role, s)),
+        kinds::DROP => return backing::backed(roles, dropped(q.role, s)),
         kinds::OPENR => n.reading = s.reading.with(q.entity),
         kinds::OPENW => n.writing = s.writing.with(q.entity),
         _ => return closed(q.entity, s),
