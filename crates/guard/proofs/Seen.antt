@@ -18,14 +18,15 @@ use Rattle.guard.specs.Sound.{sound}
 use Rattle.guard.specs.Conditions.{name_taken, has_children, role_tied, closes_cycle, recorded_parent}
 use Rattle.guard.specs.Kind as kind
 use Rattle.guard.specs.Private.Inside.{Placed, asks_way, asks_name, asks_rights, RightsOf, Seen}
-use Rattle.guard.specs.Private.Scan.{Keys, Grants, juniors_by, tie_by, senior_by, tied_by, reached_by, name_by, child_by, kin_by, FoundBy}
+use Rattle.guard.specs.Private.Scan.{Keys, tie_by, senior_by, tied_by, reached_by, name_by, child_by, kin_by, FoundBy}
+use Rattle.guard.specs.declared.Role.{Role}
 use Rattle.guard.specs.declared.Tables.{Tables}
 use Rattle.guard.specs.declared.Request.{Request}
 use Rattle.guard.specs.declared.look.Places.{Places}
 use Rattle.guard.specs.declared.scan.Found.{Found}
 use Rattle.guard.specs.declared.view.View.{View}
 use Rattle.guard.proofs.Soundness.Whole.{numbers}
-use Rattle.guard.proofs.Laws.Sound.{formed_e}
+use Rattle.guard.proofs.Laws.Sound.{role_in, formed_e}
 use Rattle.guard.proofs.Given.{rights_of_lem}
 use Rattle.guard.proofs.TiesAsked.{tied_of, cycle_of}
 use Rattle.guard.proofs.Columns.{way_of, child_of_lem, name_of}
@@ -64,16 +65,16 @@ module _ (keys : List ℕ) (call e o name : ℕ) where
   kin_delete c = rw c
 
 -- .. and of the ties
-module _ (grants : List ℕ) (call r j : ℕ) where
-  asked_unmake : call ≡ kind.unmake → tied_by grants call r j ≡ either (not (eqb (juniors_by grants r) 0)) (senior_by grants r)
+module _ (roles : List Role) (call r j : ℕ) where
+  asked_unmake : call ≡ kind.unmake → tied_by roles call r j ≡ either (not (eqb (role_in roles r).juniors 0)) (senior_by roles r)
   unfolding tied_by
   asked_unmake c = rw c
 
-  asked_join : call ≡ kind.join → tied_by grants call r j ≡ or_below (tie_by grants) (eqb r) j
+  asked_join : call ≡ kind.join → tied_by roles call r j ≡ or_below (tie_by roles) (eqb r) j
   unfolding tied_by
   asked_join c = rw c
 
-  asked_unjoin : call ≡ kind.unjoin → tied_by grants call r j ≡ false
+  asked_unjoin : call ≡ kind.unjoin → tied_by roles call r j ≡ false
   unfolding tied_by
   asked_unjoin c = rw c
 
@@ -83,8 +84,8 @@ module _ (t : Tables) (ok : sound t ≡ true) (q : Request) (p : Places) (P : Pl
     pub parent_in : o < 64
     parent_in = rw above (cond_less (eqb q.call kind.create) _ _ P.parent.small (numbers t ok p.entity P.entity.small).parent)
 
-    module _ (keys grants : List ℕ) (K : Keys t.entities keys) (G : Grants t.roles grants) (f : Found)
-        (found : FoundBy keys grants q (session_at t p.seat).roles p.entity o p.role p.junior f)
+    module _ (keys : List ℕ) (K : Keys t.entities keys) (f : Found)
+        (found : FoundBy keys t.roles q (session_at t p.seat).roles p.entity o p.role p.junior f)
       where
         named : q.call ≡ kind.create → o ≡ p.parent
         named c = above ∙ rw (eq-eqb q.call 7 c)
@@ -95,7 +96,7 @@ module _ (t : Tables) (ok : sound t ≡ true) (q : Request) (p : Places) (P : Pl
         rights : asks_rights q.call ≡ true → q.seat < 16 → RightsOf t q.seat f.rights
         rights a s =
             let same : p.seat ≡ q.seat = P.seat.same s in
-            rights_of_lem t (formed_e t ok).role (formed_e t ok).ties grants G q.seat f.rights (rw same at (found.rights a))
+            rights_of_lem t (formed_e t ok).role (formed_e t ok).ties q.seat f.rights (rw same at (found.rights a))
 
         reached_so : asks_way q.call ≡ true → q.seat < 16 → q.entity < 64 → f.reached ≡ reaches t q.seat q.entity
         unfolding reached_by asks_rights either
@@ -131,19 +132,19 @@ module _ (t : Tables) (ok : sound t ≡ true) (q : Request) (p : Places) (P : Pl
         unfolding asks_rights asks_way asks_name either
         unmake_tied c l =
             found.tied (rw c)
-            ∙ asked_unmake grants q.call p.role p.junior c
-            ∙ rw (P.role.same l) (tied_of t (formed_e t ok).role grants G q l)
+            ∙ asked_unmake t.roles q.call p.role p.junior c
+            ∙ rw (P.role.same l) (tied_of t q ((formed_e t ok).role q.role l).juniors.small)
 
         join_cycle : q.call ≡ kind.join → q.role < 16 → q.junior < 16 → f.kin ≡ closes_cycle t q
         unfolding asks_rights asks_way asks_name either
         join_cycle c l k =
             found.tied (rw c)
-            ∙ asked_join grants q.call p.role p.junior c
-            ∙ rw (P.role.same l, P.junior.same k) (cycle_of t (formed_e t ok).role grants G q l k)
+            ∙ asked_join t.roles q.call p.role p.junior c
+            ∙ rw (P.role.same l, P.junior.same k) (cycle_of t q l)
 
         unjoin_free : q.call ≡ kind.unjoin → f.kin ≡ false
         unfolding asks_rights asks_way asks_name either
-        unjoin_free c = found.tied (rw c) ∙ asked_unjoin grants q.call p.role p.junior c
+        unjoin_free c = found.tied (rw c) ∙ asked_unjoin t.roles q.call p.role p.junior c
 
         pub seen_of : (v : View) → v ≡ view_at t p o f → Seen t q v
         seen_of v same =

@@ -5,7 +5,7 @@
 use Prim.Native.Nat.{ℕ, ◌+◌, ◌≤◌, ◌<◌}
 use mathlib.Core.Path.{◌≡◌, refl, sym, ap, subst, ◌∙◌}
 use mathlib.Core.Bool.{Bool, true, false, cond, ◌||◌}
-use mathlib.Core.List.{List, map}
+use mathlib.Core.List.{map}
 use mathlib.Core.Logic.{◌⊎◌, inl, inr, ⊎_elim}
 use native.Mathlib.Decide.{dec_lt, ℕ_discrete}
 use native.Mathlib.Omega.{arith}
@@ -24,7 +24,7 @@ use Rattle.guard.specs.Requests.{Rule, rules, rule_of, login, logout, take, drop
 use Rattle.guard.specs.Step.{in_ranges_in}
 use Rattle.guard.specs.Kind as kind
 use Rattle.guard.specs.Private.Inside.{number, Placed, change_of, OfEntity, ends_opens, session_after, entity_after, users_after, juniors_after, role_after, owning}
-use Rattle.guard.specs.Private.Scan.{Grants, backed_by, Lost, kept_by, left_by}
+use Rattle.guard.specs.Private.Scan.{backed_by, Lost, kept_by, left_by}
 use Rattle.guard.specs.Private.InForce.{in_ranges}
 use Rattle.guard.specs.declared.Session.{Session}
 use Rattle.guard.specs.declared.Role.{Role}
@@ -98,9 +98,9 @@ module _ (t : Tables) (q : Request) (z : 0 ≡ number (rule_of q) t q) where
     abbrev Done : Tables → Type 0
     Done u = u ≡ (rule_of q).effect q t
 
-    module _ (sure : sound t ≡ true) (grants : List ℕ) (G : Grants t.roles grants) where
+    module _ (sure : sound t ≡ true) where
       abbrev SessionDone : ℕ → Type 0
-      SessionDone k = q.call ≡ k → Done (with_sessions t (set t.sessions p.seat (session_after (backed_by grants) q (session_at t p.seat))))
+      SessionDone k = q.call ≡ k → Done (with_sessions t (set t.sessions p.seat (session_after (backed_by t.roles) q (session_at t p.seat))))
 
       login_done : SessionDone 0
       unfolding session_after rules login at_session
@@ -129,10 +129,10 @@ module _ (t : Tables) (q : Request) (z : 0 ≡ number (rule_of q) t q) where
           dropped : Tables
           dropped = at_session q.seat (drop_role q.role) t
 
-          acting : q.seat < 16 → backed_by grants (drop_role q.role (session_at t q.seat)) ≡ backed dropped q.seat
+          acting : q.seat < 16 → backed_by t.roles (drop_role q.role (session_at t q.seat)) ≡ backed dropped q.seat
           acting l =
-              ap (backed_by grants) (sym (get_or-set_same t.sessions q.seat _ no_session (omega (arith, facts.many_sessions))))
-              ∙ backed_by_lem dropped facts.role facts.ties grants G q.seat
+              ap (backed_by t.roles) (sym (get_or-set_same t.sessions q.seat _ no_session (omega (arith, facts.many_sessions))))
+              ∙ backed_by_lem dropped facts.role facts.ties q.seat
 
       openr_done : SessionDone 4
       unfolding session_after rules openr at_session
@@ -146,7 +146,7 @@ module _ (t : Tables) (q : Request) (z : 0 ≡ number (rule_of q) t q) where
       unfolding session_after rules close at_session
       close_done c = rw (rule_at q 6 c, c, P.seat.same (in_close q ok c).0)
 
-      pub session_stored : q.call ≤ 6 → (s : Session) → s ≡ session_after (backed_by grants) q (session_at t p.seat) → Done (with_sessions t (set t.sessions p.seat s))
+      pub session_stored : q.call ≤ 6 → (s : Session) → s ≡ session_after (backed_by t.roles) q (session_at t p.seat) → Done (with_sessions t (set t.sessions p.seat s))
       session_stored h s same =
           rw same
           (span SessionDone 0 7
@@ -245,8 +245,8 @@ module _ (t : Tables) (q : Request) (z : 0 ≡ number (rule_of q) t q) where
             (before 15 _ (before 16 _ (before 17 _ (before 18 _ known unjoins) other) not) unmakes) refl
 
     -- ---- the role loses rights or a junior, or goes: opens that are no longer backed end
-    module _ (sure : sound t ≡ true) (r : Role) (same : r ≡ role_after q (role_at t p.role)) (grants : List ℕ)
-        (G : Grants (set t.roles p.role r) grants) (lost : ℕ) (is_lost : Lost grants (role_at t p.role) r lost) where
+    module _ (sure : sound t ≡ true) (r : Role) (same : r ≡ role_after q (role_at t p.role))
+        (lost : ℕ) (is_lost : Lost (set t.roles p.role r) (role_at t p.role) r lost) where
       facts : Formed all_categories t
       facts = formed_e t sure
 
@@ -259,24 +259,24 @@ module _ (t : Tables) (q : Request) (z : 0 ≡ number (rule_of q) t q) where
 
       -- each session, over roles that are as soundness asks
       kept : ((k : ℕ) → k < 16 → RoleOk t.entities k (role_at replaced k)) → TiesOk replaced.roles → (x : ℕ) → x < 16
-          → backed replaced x ≡ kept_by grants lost (session_at t x)
-      kept roles ties = kept_is t p.role r P.role.small facts.many_roles facts.ties roles grants G lost is_lost (backed_e _ t sure) ties
+          → backed replaced x ≡ kept_by replaced.roles lost (session_at t x)
+      kept roles ties = kept_is t p.role r P.role.small facts.many_roles facts.ties roles lost is_lost (backed_e _ t sure) ties
 
       -- the role is changed by f, and stays
       changed : (f : Role → Role) → replaced ≡ at_role q.role f t → Formed all_categories (at_role q.role f t)
-          → with_sessions replaced (map (left_by grants q.role lost false) t.sessions) ≡ end_unbacked (at_role q.role f t)
+          → with_sessions replaced (map (left_by replaced.roles q.role lost false) t.sessions) ≡ end_unbacked (at_role q.role f t)
       unfolding left_by
       changed f inner formed = sym ended ∙ ap end_unbacked inner
         where
           after : Formed all_categories replaced
           after = subst (Formed all_categories) (sym inner) formed
 
-          ended : end_unbacked replaced ≡ with_sessions replaced (map (left_by grants q.role lost false) t.sessions)
+          ended : end_unbacked replaced ≡ with_sessions replaced (map (left_by replaced.roles q.role lost false) t.sessions)
           ended =
               ended_is replaced _ (length-map t.sessions _ ∙ facts.many_sessions)
-              (map_each (λ x a. backed replaced x ≡ a) (left_by grants q.role lost false) 16 t.sessions no_session facts.many_sessions (kept after.role after.ties))
+              (map_each (λ x a. backed replaced x ≡ a) (left_by replaced.roles q.role lost false) 16 t.sessions no_session facts.many_sessions (kept after.role after.ties))
 
-      revoke_stored : q.call ≡ 11 → Done (with_sessions replaced (map (left_by grants q.role lost false) t.sessions))
+      revoke_stored : q.call ≡ 11 → Done (with_sessions replaced (map (left_by replaced.roles q.role lost false) t.sessions))
       unfolding rules revoke role_after at_role
       revoke_stored c =
           rw (rule_at q 11 c)
@@ -284,13 +284,13 @@ module _ (t : Tables) (q : Request) (z : 0 ≡ number (rule_of q) t q) where
           (rw (same, c, revoked q.entity (role_at t p.role) q.rights, P.role.same (in_revoke q ok c).1))
           (revoked_formed t q (done_as revoke (rule_at q 11 c))))
 
-      unjoin_stored : q.call ≡ 18 → Done (with_sessions replaced (map (left_by grants q.role lost false) t.sessions))
+      unjoin_stored : q.call ≡ 18 → Done (with_sessions replaced (map (left_by replaced.roles q.role lost false) t.sessions))
       unfolding rules unjoin
       unjoin_stored c =
           rw (rule_at q 18 c)
           (changed (untie_junior q.junior) (ap (λ (a : Role). with_roles t (set t.roles p.role a)) same ∙ untied_is c) (untied_formed t q (done_as unjoin (rule_at q 18 c))))
 
-      unmake_stored : q.call ≡ 15 → Done (with_sessions replaced (map (left_by grants q.role lost true) t.sessions))
+      unmake_stored : q.call ≡ 15 → Done (with_sessions replaced (map (left_by replaced.roles q.role lost true) t.sessions))
       unfolding rules unmake left_by role_after each_session at_role
       unmake_stored c = rw (rule_at q 15 c) (sym ended ∙ ap end_unbacked inner)
         where
@@ -315,14 +315,14 @@ module _ (t : Tables) (q : Request) (z : 0 ≡ number (rule_of q) t q) where
           dropped : (x : ℕ) → x < 16 → get_or (map (drop_role q.role) t.sessions) x no_session ≡ drop_role q.role (session_at t x)
           dropped = map_each (λ x a. a ≡ drop_role q.role (session_at t x)) (drop_role q.role) 16 t.sessions no_session facts.many_sessions (λ x l. refl)
 
-          ended : end_unbacked unheld ≡ with_sessions replaced (map (left_by grants q.role lost true) t.sessions)
+          ended : end_unbacked unheld ≡ with_sessions replaced (map (left_by replaced.roles q.role lost true) t.sessions)
           ended =
               ended_is unheld _ (length-map t.sessions _ ∙ facts.many_sessions)
-              (map_each (λ x a. backed unheld x ≡ a) (left_by grants q.role lost true) 16 t.sessions no_session facts.many_sessions (λ x l.
+              (map_each (λ x a. backed unheld x ≡ a) (left_by replaced.roles q.role lost true) 16 t.sessions no_session facts.many_sessions (λ x l.
               unmade_is replaced _ q.role empty x (dropped x l) ∙ ap (drop_role q.role) (kept after.role after.ties x l)))
 
       pub loss_stored : (q.call ≡ 11) ⊎ ((q.call ≡ 15) ⊎ (q.call ≡ 18)) → (unmade : Bool) → unmade ≡ eqb q.call 15
-          → Done (with_sessions replaced (map (left_by grants q.role lost unmade) t.sessions))
+          → Done (with_sessions replaced (map (left_by replaced.roles q.role lost unmade) t.sessions))
       loss_stored (inl c) unmade is = let kept' : unmade ≡ false = is ∙ rw c in rw kept' (revoke_stored c)
       loss_stored (inr (inl c)) unmade is = let gone' : unmade ≡ true = is ∙ rw c in rw gone' (unmake_stored c)
       loss_stored (inr (inr c)) unmade is = let kept' : unmade ≡ false = is ∙ rw c in rw kept' (unjoin_stored c)

@@ -24,22 +24,24 @@ use Rattle.guard.specs.Level.{role_level, entity_level}
 use Rattle.guard.specs.Tables.{no_session, no_role, session_at, role_at, read, write, rights_of, has_right}
 use Rattle.guard.specs.Edits.{with_roles, with_sessions, drop_role}
 use Rattle.guard.specs.Backed.{backed}
-use Rattle.guard.specs.Private.Scan.{side, Grants, given, backed_by, has_with, Lost, concerned, kept_by}
+use Rattle.guard.specs.Private.Scan.{given, backed_by, has_with, Lost, concerned, kept_by}
 use Rattle.guard.specs.declared.Session.{Session}
 use Rattle.guard.specs.declared.Role.{Role}
 use Rattle.guard.specs.declared.Tables.{Tables}
+use Rattle.guard.specs.declared.scan.Right.{Right}
+use Rattle.guard.specs.declared.scan.Right.TheVariants.{Read, Write}
 use Rattle.guard.proofs.Laws.Below.{Below, direct, below_trans, itself, by, meets_e, meets_i}
 use Rattle.guard.proofs.Laws.Juniors.{Has}
 use Rattle.guard.proofs.Laws.Rights.{contains_read, contains_write}
 use Rattle.guard.proofs.Laws.Told.{right_by_lem}
 use Rattle.guard.proofs.Laws.Sound.{role_in, junior_in, gives_in, has_in, right_by, RoleOk, TiesOk, BackedBy, Backed}
 use Rattle.guard.proofs.Laws.Backed.{right_more, stays}
-use Rattle.guard.proofs.Given.{has_same, backed_by_lem}
+use Rattle.guard.proofs.Given.{number_of, in_set, has_same, backed_by_lem}
 
 -- ---- role r replaced by p
 module _ (t : Tables) (r : ℕ) (p : Role) (small : r < 16) (long : length t.roles ≡ 16) (ties : TiesOk t.roles)
     (role : (k : ℕ) → k < 16 → RoleOk t.entities k (role_in (set t.roles r p) k))
-    (grants : List ℕ) (G : Grants (set t.roles r p) grants) (lost : ℕ) (is_lost : Lost grants (role_at t r) p lost) where
+    (lost : ℕ) (is_lost : Lost (set t.roles r p) (role_at t r) p lost) where
   abbrev new : List Role
   new = set t.roles r p
 
@@ -64,9 +66,11 @@ module _ (t : Tables) (r : ℕ) (p : Role) (small : r < 16) (long : length t.rol
       none : bit_and (join s.reading s.writing) lost ≡ 0 → ⊥
       none z = clash (has (bit_and (join s.reading s.writing) lost) e) (has_meet (join s.reading s.writing) lost e ∙ rw (opened, gone)) (rw z (has_none e))
 
-  -- of the right at one of the two sets
-  module _ (right k : ℕ) (low : k < 4) (same : (a : Role) (e : ℕ) → contains (rights_of a e) right ≡ has (side a k) e)
-      (loses : (e : ℕ) → has_with grants (role_at t r) k e ≡ true → has_with grants p k e ≡ false → has lost e ≡ true) where
+  -- of one of the two rights
+  module _ (one : Right) (loses : (e : ℕ) → has_with new (role_at t r) one e ≡ true → has_with new p one e ≡ false → has lost e ≡ true) where
+    abbrev right : ℕ
+    right = number_of one
+
     -- what is below r is beside it, and has what it had
     below_r : (e a : ℕ) → a < 16 → Below (junior_in t.roles) r a → Has t.roles right e a → Has new right e a
     below_r e a l under (itself g) = itself {a = a} (ap (λ (b : Role). contains (rights_of b e) right) (beside a (apart a under)) ∙ g)
@@ -74,26 +78,26 @@ module _ (t : Tables) (r : ℕ) (p : Role) (small : r < 16) (long : length t.rol
         by {a = a} m b (ap (λ (b : Role). has b.juniors m) (beside a (apart a under)) ∙ tie) (below_r e m b (below_trans _ l under (direct tie)) f)
 
     -- what r had
-    had : (e : ℕ) → Has t.roles right e r → has_with grants (role_at t r) k e ≡ true
+    had : (e : ℕ) → Has t.roles right e r → has_with new (role_at t r) one e ≡ true
     unfolding given
-    had e (itself g) = either_l _ _ (sym (same (role_at t r) e) ∙ g)
+    had e (itself g) = either_l _ _ (sym (in_set one (role_at t r) e) ∙ g)
     had e (by m b tie f) =
-        either_r _ _ (some_i 16 _ m b (every_i _ (tie, (has_same replaced role grants G right k low same e m b ∙ meets_i _ _ m b (below_r e m b (direct tie) f), tt))))
+        either_r _ _ (some_i 16 _ m b (every_i _ (tie, (has_same new one e m b ∙ meets_i _ _ m b (below_r e m b (direct tie) f), tt))))
 
     -- what r has
-    has_now : (e : ℕ) → has_with grants p k e ≡ true → Has new right e r
+    has_now : (e : ℕ) → has_with new p one e ≡ true → Has new right e r
     unfolding given
     has_now e h =
-        ⊎_elim (λ g. itself {a = r} (ap (λ (b : Role). contains (rights_of b e) right) at_r ∙ same p e ∙ g))
+        ⊎_elim (λ g. itself {a = r} (ap (λ (b : Role). contains (rights_of b e) right) at_r ∙ in_set one p e ∙ g))
         (λ h.
         let (m, b, met) = some_e 16 _ h in
-        by {a = r} m b (ap (λ (b : Role). has b.juniors m) at_r ∙ every_at _ met 0) (meets_e _ _ m (sym (has_same replaced role grants G right k low same e m b) ∙ every_at _ met 1)))
+        by {a = r} m b (ap (λ (b : Role). has b.juniors m) at_r ∙ every_at _ met 0) (meets_e _ _ m (sym (has_same new one e m b) ∙ every_at _ met 1)))
         (either_e _ _ h)
 
     -- r has it still, unless it was lost
     r_still : (e : ℕ) → has lost e ≡ false → Has t.roles right e r → Has new right e r
     r_still e kept h =
-        has_now e (of_not_false _ (is_false _ (λ gone. clash _ (loses e (had e h) (of_not_true (has_with grants p k e) gone)) kept)))
+        has_now e (of_not_false _ (is_false _ (λ gone. clash _ (loses e (had e h) (of_not_true (has_with new p one e) gone)) kept)))
 
     -- and so has every role
     still : (e : ℕ) → has lost e ≡ false → (a : ℕ) → a < 16 → Has t.roles right e a → Has new right e a
@@ -123,24 +127,23 @@ module _ (t : Tables) (r : ℕ) (p : Role) (small : r < 16) (long : length t.rol
         kept = is_false _ (λ gone. clash _ (is_concerned s e opened gone) passed)
 
   backs : (x : ℕ) → BackedBy t.roles (session_at t x) → concerned lost (session_at t x) ≡ false → BackedBy new (session_at t x)
-  unfolding side
   backs x ok passed =
       let s = session_at t x in
       record {
         reading = λ e l m.
-            keeps read 0 (omega arith) contains_read is_lost.reads s e passed
+            keeps Read is_lost.reads s e passed
             (has_join s.reading s.writing e ∙ or_l (has s.reading e) (has s.writing e) m) (ok.reading e l m);
         writing = λ e l m.
-            keeps write 1 (omega arith) contains_write is_lost.writes s e passed
+            keeps Write is_lost.writes s e passed
             (has_join s.reading s.writing e ∙ or_r (has s.reading e) (has s.writing e) m) (ok.writing e l m);
       }
 
-  pub kept_is : Backed t → TiesOk new → (x : ℕ) → x < 16 → backed replaced x ≡ kept_by grants lost (session_at t x)
+  pub kept_is : Backed t → TiesOk new → (x : ℕ) → x < 16 → backed replaced x ≡ kept_by new lost (session_at t x)
   unfolding kept_by
   kept_is ok tied x l = go (concerned lost (session_at t x)) refl
     where
-      go : (b : Bool) → concerned lost (session_at t x) ≡ b → backed replaced x ≡ cond b (backed_by grants (session_at t x)) (session_at t x)
-      go true m = sym (backed_by_lem replaced role tied grants G x)
+      go : (b : Bool) → concerned lost (session_at t x) ≡ b → backed replaced x ≡ cond b (backed_by new (session_at t x)) (session_at t x)
+      go true m = sym (backed_by_lem replaced role tied x)
       go false m = stays replaced x (backs x (ok x l) m)
 
 -- ---- an empty role gives nothing, so that no right goes with it

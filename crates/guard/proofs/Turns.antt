@@ -1,6 +1,6 @@
 -- One turn of a run: from the tables before a request to those after it.
 --     Stepped, refuses, does        a number, a role's byte, and where the number is 0 what the rule does, are the request's step
---     opens_nothing, opens_by       .. where no role is told, and where the columns tell one
+--     opens_nothing, opens_by       .. where no role is told, and where the records of the roles tell one
 --     Held, held_none, held_more    after i requests of a batch
 --     held_length, held_roles, held_all      .. the room stays, and after all of them the batch is run
 --     no_batch, unsound_batch       of no request; on unsound tables
@@ -27,7 +27,7 @@ use Rattle.guard.specs.Step.{in_ranges_in, answer, answer_in, next, next_in, rol
 use Rattle.guard.specs.Kind as kind
 use Rattle.guard.specs.Private.Inside.{row_of, number, Placed}
 use Rattle.guard.specs.Batch.{request_at, requests, shorter, batch_length, batch_count, RunsBatch}
-use Rattle.guard.specs.Private.Scan.{Keys, Grants, opened_by, read_byte}
+use Rattle.guard.specs.Private.Scan.{Keys, opened_by, read_byte}
 use Rattle.guard.specs.Private.InForce.{in_ranges}
 use Rattle.guard.specs.declared.Tables.{Tables}
 use Rattle.guard.specs.declared.Request.{Request}
@@ -65,12 +65,12 @@ pub opens_nothing : (t : Tables) (q : Request) → (q.call ≡ kind.openr → �
 unfolding role_opening role_byte
 opens_nothing t q r w = rw (ne_eqb q.call kind.openr r, ne_eqb q.call kind.openw w)
 
--- what the columns tell for an accepted request is what it tells
-pub opens_by : (t : Tables) → sound t ≡ true → (grants : List ℕ) → Grants t.roles grants → (q : Request) → in_ranges q ≡ true → (p : Places) → Placed q p
-    → (b : ℕ) → b ≡ role_byte (opened_by grants q.call (session_at t p.seat).roles p.entity) → b ≡ role_byte (role_opening t q)
+-- what the records of the roles tell for an accepted request is what it tells
+pub opens_by : (t : Tables) → sound t ≡ true → (q : Request) → in_ranges q ≡ true → (p : Places) → Placed q p
+    → (told : Option ℕ) → told ≡ opened_by t.roles q.call (session_at t p.seat).roles p.entity → (b : ℕ) → b ≡ role_byte told → b ≡ role_byte (role_opening t q)
 unfolding role_opening
-opens_by t ok grants G q fits p near b h =
-    h ∙ ap role_byte (role_of t (formed_e t ok).role (formed_e t ok).ties grants G p.seat q.call p.entity near.entity.small ∙ opening_same t t q.call _ _ _ _ reads writes)
+opens_by t ok q fits p near told h b is =
+    is ∙ ap role_byte (h ∙ role_of t (formed_e t ok).role (formed_e t ok).ties p.seat q.call p.entity near.entity.small ∙ opening_same t t q.call _ _ _ _ reads writes)
   where
     reads : q.call ≡ kind.openr → role_for t p.seat read p.entity ≡ role_for t q.seat read q.entity
     reads is = let (s, l) = in_openr q fits is in rw (near.seat.same s, near.entity.same l)
@@ -79,20 +79,18 @@ opens_by t ok grants G q fits p near b h =
     writes is = let (s, l) = in_openw q fits is in rw (near.seat.same s, near.entity.same l)
 
 -- ---- after i requests
-pub record Held (t₀ : Tables) (rows old old_roles : List ℕ) (i : ℕ) (t : Tables) (said roles k g : List ℕ) : Type 0 where
+pub record Held (t₀ : Tables) (rows old old_roles : List ℕ) (i : ℕ) (t : Tables) (said roles keys : List ℕ) : Type 0 where
   pub ran : t ≡ run t₀ (requests i rows)
   pub is_sound : sound t ≡ true
   pub answered : said ≡ answers t₀ (requests i rows) ++ drop i old
   pub told : roles ≡ map role_byte (roles_told t₀ (requests i rows)) ++ drop i old_roles
-  pub keys : Keys t.entities k
-  pub grants : Grants t.roles g
+  pub by_keys : Keys t.entities keys
 
-pub held_none : (t : Tables) (rows old old_roles keys grants : List ℕ) → sound t ≡ true → Keys t.entities keys → Grants t.roles grants
-    → Held t rows old old_roles 0 t old old_roles keys grants
+pub held_none : (t : Tables) (rows old old_roles keys : List ℕ) → sound t ≡ true → Keys t.entities keys → Held t rows old old_roles 0 t old old_roles keys
 unfolding run_in each_in tabulate
-held_none t rows old old_roles keys grants h K G = record { ran = refl; is_sound = h; answered = refl; told = refl; keys = K; grants = G }
+held_none t rows old old_roles keys h K = record { ran = refl; is_sound = h; answered = refl; told = refl; by_keys = K }
 
-module _ (t₀ : Tables) (rows old old_roles : List ℕ) (i : ℕ) (t : Tables) (said roles keys grants : List ℕ) (held : Held t₀ rows old old_roles i t said roles keys grants) where
+module _ (t₀ : Tables) (rows old old_roles : List ℕ) (i : ℕ) (t : Tables) (said roles keys : List ℕ) (held : Held t₀ rows old old_roles i t said roles keys) where
   one_more : requests (i + 1) rows ≡ requests i rows ++ (request_at rows i ∷ [])
   unfolding tabulate
   one_more = rw add-one
@@ -104,9 +102,8 @@ module _ (t₀ : Tables) (rows old old_roles : List ℕ) (i : ℕ) (t : Tables) 
   passed_roles = length-map (roles_told t₀ (requests i rows)) role_byte ∙ passed role_told
 
   pub held_more : (q : Request) → q ≡ request_at rows i → i < length old → i < length old_roles → (u : Tables) (n b : ℕ) → Stepped t q u n b
-      → (keys' grants' : List ℕ) → Keys u.entities keys' → Grants u.roles grants'
-      → Held t₀ rows old old_roles (i + 1) u (set said i n) (set roles i b) keys' grants'
-  held_more q asked low low' u n b step keys' grants' K G =
+      → (keys' : List ℕ) → Keys u.entities keys' → Held t₀ rows old old_roles (i + 1) u (set said i n) (set roles i b) keys'
+  held_more q asked low low' u n b step keys' K =
       let after : u ≡ next t (request_at rows i) = step.tables ∙ ap (next t) asked in
       let number : n ≡ answer t (request_at rows i) = step.answered ∙ ap (answer t) asked in
       let role : b ≡ role_byte (role_told t (request_at rows i)) = step.told ∙ ap (λ (q : Request). role_byte (role_told t q)) asked in
@@ -117,8 +114,7 @@ module _ (t₀ : Tables) (rows old old_roles : List ℕ) (i : ℕ) (t : Tables) 
             (store_more (answers t₀ (requests i rows)) old i _ (passed answer) low);
         told = rw (held.told, one_more, each_snoc role_told t₀ (requests i rows) (request_at rows i), map-append, ← held.ran, role)
             (store_more (map role_byte (roles_told t₀ (requests i rows))) old_roles i _ passed_roles low');
-        keys = K;
-        grants = G;
+        by_keys = K;
       }
 
   pub held_length : i ≤ length old → length said ≡ length old

@@ -2,83 +2,73 @@
 ghost use Rattle.std.specs.Prelude.{◌<◌, ◌≡◌};
 ghost use Rattle.guard.specs.Level.{role_count, entity_count};
 ghost use Rattle.guard.specs.Told.{lowest, role_byte};
-ghost use Rattle.guard.specs.Private.Scan.{First, side_of, has_by, gives, opened_by, read_byte};
+ghost use Rattle.guard.specs.Private.Scan.{First, has_by, gives, opened_by, read_byte};
 
-use crate::scan::{GRANTS, Rights, SETS, TIES};
-use crate::sizes::NO_ROLE;
-use crate::{kinds, scan};
+use crate::scan::Right;
+use crate::sizes::{NO_ROLE, ROLES};
+use crate::{Role, kinds, scan};
 use bitset::Set;
-
-// Of the four sets of a role, those of read and of write.
-const READS: usize = 0;
-
-const WRITES: usize = 1;
 
 // The lowest member of a set that has one.
 fn first(set: u16) -> u32
     requires { 0 < set }
     ensures { First set result }
 {
-    u16::trailing_zeros(set)
+    set.trailing_zeros()
 }
 
-// Of four sets the one of number `k`.
-fn side(rights: Rights, k: usize) -> u64
-    requires { k < 4 }
-    ensures { result ≡ side_of rights k }
+// Whether role `r` has the right on the entity, itself or through a role below it.
+fn gives(roles: &[Role; ROLES], r: u32, right: Right, e: usize) -> bool
+    requires { (r < role_count) × (e < entity_count) }
+    ensures { result ≡ has_by roles.now right e r }
 {
-    match k {
-        0 => rights.reads,
-        1 => rights.writes,
-        2 => rights.executes,
-        _ => rights.owns,
-    }
-}
-
-// Whether role `r` has the right of set `k` on the entity, itself or through a role below it.
-fn gives(grants: &[u64; GRANTS], r: u32, k: usize, e: usize) -> bool
-    requires { (r < role_count) × (k < 4) × (e < entity_count) }
-    ensures { result ≡ has_by grants.now k e r }
-{
-    if scan::is_in(grants[SETS * r as usize + k], e) {
+    let role = &roles[r as usize];
+    if scan::is_in(role.on(right), e) {
         return true;
     }
-    if grants[TIES + r as usize] == 0 {
+    if role.juniors == 0 {
         return false;
     }
-    let rights = scan::gather(grants, 0u16.with(r));
-    scan::is_in(side(rights, k), e)
+    let rights = scan::gather(roles, 0u16.with(r));
+    scan::is_in(rights.on(right), e)
 }
 
-// The lowest-numbered of the roles held that has the right of set `k` on the entity.
-fn lowest(grants: &[u64; GRANTS], held: u16, k: usize, e: usize) -> u8
-    requires { (k < 4) × (e < entity_count) }
-    ensures { result ≡ role_byte (lowest role_count (gives grants.now held k e)) }
+// The lowest-numbered of the roles held that has the right on the entity.
+fn lowest(roles: &[Role; ROLES], held: u16, right: Right, e: usize) -> Option<u8>
+    requires { e < entity_count }
+    ensures { result ≡ lowest role_count (gives roles.now held right e) }
 {
     let mut left = held;
     while left != 0 {
         let r = first(left);
-        if gives(grants, r, k, e) {
-            return r as u8;
+        if gives(roles, r, right, e) {
+            return Some(r as u8);
         }
         left = left.without(r);
     }
-    NO_ROLE
+    None
 }
 
 // What an accepted request of that kind tells: openr and openw the role for read or write on the entity.
-pub fn role_told(grants: &[u64; GRANTS], call: u32, held: u16, e: usize) -> u8
+pub fn role_told(roles: &[Role; ROLES], call: u32, held: u16, e: usize) -> Option<u8>
     requires { e < entity_count }
-    ensures { result ≡ role_byte (opened_by grants.now call held e) }
+    ensures { result ≡ opened_by roles.now call held e }
 {
     match call {
-        kinds::OPENR => lowest(grants, held, READS, e),
-        kinds::OPENW => lowest(grants, held, WRITES, e),
-        _ => NO_ROLE,
+        kinds::OPENR => lowest(roles, held, Right::Read, e),
+        kinds::OPENW => lowest(roles, held, Right::Write, e),
+        _ => None,
     }
 }
 
-// The role that a byte of `run` tells.
+// The byte of `run` that tells it, and the role that a byte tells.
+#[tactic(auto, unfolding(crate::specs::Told::role_byte))]
+pub fn byte(role: Option<u8>) -> u8
+    ensures { result ≡ role_byte role }
+{
+    role.unwrap_or(NO_ROLE)
+}
+
 pub fn read(byte: u8) -> Option<u8>
     ensures { result ≡ read_byte byte }
 {

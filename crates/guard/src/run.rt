@@ -21,10 +21,9 @@ impl Tables {
         if count == 0 {
             return self;
         }
-        let mut keys = self.keys();
-        let mut grants = self.grants();
-        if !self.sound_by(&keys, &grants) {
-            rows::fill(answers, count, refusal::answer(Err(Refusal::Unsound)));
+        let mut keys = tree::keys(self.entities);
+        if !self.sound_by(&keys) {
+            rows::fill(answers, count, Refusal::Unsound as u8);
             rows::fill(roles, count, sizes::NO_ROLE);
             return self;
         }
@@ -33,7 +32,7 @@ impl Tables {
             // The records that the request concerns.
             let q = rows::request(rows, i);
             let Some(at) = look::look_up(q) else {
-                answers[i] = refusal::answer(Err(Refusal::OutOfRange));
+                answers[i] = Refusal::OutOfRange as u8;
                 roles[i] = sizes::NO_ROLE;
                 i += 1;
                 continue;
@@ -51,7 +50,7 @@ impl Tables {
             let o = look::parent_of(q.call, at.parent, entity.parent);
             let parent = self.entities[o];
             // What the scans find.
-            let found = scan::find(&keys, &grants, q, session.roles, e, o, r, j);
+            let found = scan::find(&keys, &self.roles, q, session.roles, e, o, r, j);
             // The decision.
             let v = View {
                 session,
@@ -74,9 +73,10 @@ impl Tables {
                 let changed = change::change_of(q.call);
                 match changed {
                     Change::Session => {
-                        self.sessions[x] = sessions::after(&grants, q, session);
+                        self.sessions[x] = sessions::after(&self.roles, q, session);
                         // What openr and openw tell.
-                        roles[i - 1] = giver::role_told(&grants, q.call, session.roles, e);
+                        let told = giver::role_told(&self.roles, q.call, session.roles, e);
+                        roles[i - 1] = giver::byte(told);
                     }
                     Change::Entity => {
                         let f2 = entities::after(q, entity);
@@ -85,11 +85,9 @@ impl Tables {
                         if q.call == kinds::CREATE {
                             let p2 = roles::owning(q.entity, role);
                             self.roles[r] = p2;
-                            scan::put(&mut grants, r, p2);
                         } else if q.call == kinds::DELETE {
                             let all = self.roles;
                             self.roles = roles::without_entity(all, q.entity);
-                            scan::clear(&mut grants, e);
                             let seats = self.sessions;
                             self.sessions = sessions::without_entity(seats, q.entity);
                         }
@@ -97,13 +95,11 @@ impl Tables {
                     Change::Role => {
                         let p2 = roles::after(q, role);
                         self.roles[r] = p2;
-                        scan::put(&mut grants, r, p2);
                         if change::ends_opens(q.call) {
-                            let lost = backing::lost(&grants, role, p2);
-                            let seats = self.sessions;
-                            self.sessions = backing::swept(
-                                seats,
-                                &grants,
+                            let lost = backing::lost(&self.roles, role, p2);
+                            backing::sweep(
+                                &mut self.sessions,
+                                &self.roles,
                                 q.role,
                                 lost,
                                 q.call == kinds::UNMAKE,

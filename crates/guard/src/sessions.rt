@@ -17,10 +17,9 @@ ghost use Rattle.guard.specs.Private.Scan.{backed_by};
 ghost use Rattle.guard.specs.Private.InForce.{in_ranges};
 
 use crate::refusal::Refusal;
-use crate::scan::GRANTS;
-use crate::sizes::SESSIONS;
+use crate::sizes::{ROLES, SESSIONS};
 use crate::view::View;
-use crate::{Request, Session, backing, kinds, labels, sizes};
+use crate::{Request, Role, Session, backing, kinds, labels, sizes};
 use bitset::Set;
 
 pub fn login_refusal(q: Request, v: View) -> Result<(), Refusal>
@@ -118,9 +117,9 @@ fn closed(e: u32, s: Session) -> Session
 }
 
 // The acting session after a request on it; a drop also ends those of its opens that are no longer backed.
-pub fn after(grants: &[u64; GRANTS], q: Request, s: Session) -> Session
+pub fn after(roles: &[Role; ROLES], q: Request, s: Session) -> Session
     requires { in_ranges q ≡ true }
-    ensures { result ≡ session_after (backed_by grants.now) q s }
+    ensures { result ≡ session_after (backed_by roles.now) q s }
 {
     match q.call {
         kinds::LOGIN => entered(q),
@@ -129,7 +128,7 @@ pub fn after(grants: &[u64; GRANTS], q: Request, s: Session) -> Session
             roles: s.roles.with(q.role),
             ..s
         },
-        kinds::DROP => backing::backed(grants, dropped(q.role, s)),
+        kinds::DROP => backing::backed(roles, dropped(q.role, s)),
         kinds::OPENR => Session {
             reading: s.reading.with(q.entity),
             ..s

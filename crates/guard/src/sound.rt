@@ -10,25 +10,16 @@ pub mod tree;
 
 ghost use Rattle.std.specs.Prelude.{◌≡◌};
 ghost use Rattle.guard.specs.Sound.{sound};
-ghost use Rattle.guard.specs.Private.Scan.{Keys, Grants};
+ghost use Rattle.guard.specs.Private.Scan.{Keys};
 
 use crate::Tables;
-use crate::scan::GRANTS;
 use crate::sizes::ENTITIES;
 
 impl Tables {
-    // Of each entity its parent and its name in one number.
-    pub(crate) fn keys(self) -> [u32; ENTITIES]
-        ensures { Keys self.entities result }
-    {
-        let entities = self.entities;
-        tree::keys(entities)
-    }
-
-    // Whether the tables are sound, by the keys of their entities and the sets of their roles.
-    pub(crate) fn sound_by(self, keys: &[u32; ENTITIES], grants: &[u64; GRANTS]) -> bool
-        requires { Keys self.entities keys.now × Grants self.roles grants.now }
-        ensures { result ≡ sound self }
+    // Whether the tables are sound, by the keys of their entities.
+    pub(crate) fn sound_by(&self, keys: &[u32; ENTITIES]) -> bool
+        requires { Keys self.now.entities keys.now }
+        ensures { result ≡ sound self.now }
     {
         let edition = self.edition;
         let users = self.users;
@@ -46,25 +37,21 @@ impl Tables {
             return false;
         }
         let live = tree::live_set(keys);
-        let roles = self.roles;
-        let found = rights::roles_ok(roles, live);
-        if !found.ok {
+        let Some(live_roles) = rights::roles_ok(&self.roles, live) else {
             return false;
-        }
-        if !rights::ties_ok(grants, found.live) {
+        };
+        if !rights::ties_ok(&self.roles, live_roles) {
             return false;
         }
         let labels = opens::labels(entities);
         let sessions = self.sessions;
-        opens::sessions_ok(sessions, &labels, grants, found.live, edition)
+        opens::sessions_ok(sessions, &labels, &self.roles, live_roles, edition)
     }
 
     // Whether the tables are sound, for all tables that the types admit.
     pub fn is_sound(self) -> bool
         ensures { result ≡ sound self }
     {
-        let keys = self.keys();
-        let grants = self.grants();
-        self.sound_by(&keys, &grants)
+        self.sound_by(&tree::keys(self.entities))
     }
 }

@@ -19,7 +19,7 @@ use Rattle.guard.specs.Tables.{no_user, session_at, role_at, entity_at}
 use Rattle.guard.specs.Label.{all_categories}
 use Rattle.guard.specs.Sound.{users_in_range_in, edition_in_range, sound}
 use Rattle.guard.specs.Private.Tested.{parent_by_key, live_by_key, grantable_in, ends, entity_test, own_key, role_test, session_test}
-use Rattle.guard.specs.Private.Scan.{Keys, Grants, tie_test, opens_given}
+use Rattle.guard.specs.Private.Scan.{Keys, tie_test, opens_given}
 use Rattle.guard.specs.Private.InForce.{user_in_range}
 use Rattle.guard.specs.declared.Tables.{Tables}
 use Rattle.guard.proofs.Laws.Sound.{formed_e, backed_e, sound_i}
@@ -47,12 +47,12 @@ names_test keys = all 64 (own_key keys)
 abbrev pub roles_test : Tables → ℕ → Bool
 roles_test t live = all 16 (λ r. role_test (grantable_in live r) r (role_at t r))
 
-abbrev pub ties_test : List ℕ → ℕ → Bool
-ties_test grants roles = all 16 (tie_test grants roles)
+abbrev pub ties_test : Tables → ℕ → Bool
+ties_test t roles = all 16 (tie_test t.roles roles)
 
-abbrev pub sessions_test : Tables → List ℕ → List ℕ → ℕ → Bool
-sessions_test t labels grants roles =
-    all 16 (λ s. every (session_test labels roles t.edition (session_level s) (session_at t s) ∷ opens_given grants (session_at t s) ∷ []))
+abbrev pub sessions_test : Tables → List ℕ → ℕ → Bool
+sessions_test t labels roles =
+    all 16 (λ s. every (session_test labels roles t.edition (session_level s) (session_at t s) ∷ opens_given t.roles (session_at t s) ∷ []))
 
 -- the set of the live entities, as the code takes it from the keys
 abbrev pub Taken : List ℕ → ℕ → Type 0
@@ -111,12 +111,12 @@ module _ (t : Tables) (h : sound t ≡ true) where
   pub roles_pass : (keys : List ℕ) (live : ℕ) → Keys t.entities keys → Taken keys live → roles_test t live ≡ true
   roles_pass keys live K L = all_i 16 _ (λ r l. role_i t live (λ e k. L e k ∙ live_of_key t keys K numbers e k) r _ (ok.role r l))
 
-  pub ties_pass : (grants : List ℕ) (roles : ℕ) → Grants t.roles grants → LiveRoles t roles → ties_test grants roles ≡ true
-  ties_pass grants roles G R = ties_i t ok.role grants G roles R ok.ties
+  pub ties_pass : (roles : ℕ) → LiveRoles t roles → ties_test t roles ≡ true
+  ties_pass roles R = ties_i t ok.role roles R ok.ties
 
-  pub sessions_pass : (labels grants : List ℕ) (roles : ℕ) → Labels t labels → Grants t.roles grants → LiveRoles t roles → sessions_test t labels grants roles ≡ true
-  sessions_pass labels grants roles L G R =
-      all_i 16 _ (λ s l. every_i _ (session_i t labels L numbers roles R s _ (ok.session s l), ((opens_right t ok.role ok.ties grants G s).1 (backed_e _ t h s l), tt)))
+  pub sessions_pass : (labels : List ℕ) (roles : ℕ) → Labels t labels → LiveRoles t roles → sessions_test t labels roles ≡ true
+  sessions_pass labels roles L R =
+      all_i 16 _ (λ s l. every_i _ (session_i t labels L numbers roles R s _ (ok.session s l), ((opens_right t ok.role ok.ties s).1 (backed_e _ t h s l), tt)))
 
 -- ---- a part that fails, and one that is met
 pub refuted : (t : Tables) (r p : Bool) → r ≡ p → (sound t ≡ true → p ≡ true) → not r ≡ true → false ≡ sound t
@@ -132,11 +132,11 @@ pub record Sized (t : Tables) : Type 0 where
   pub roles : length t.roles ≡ 16
   pub entities : length t.entities ≡ 64
 
-passed : (t : Tables) (keys labels grants : List ℕ) (live roles : ℕ) → Sized t → Keys t.entities keys → Grants t.roles grants → Taken keys live → Labels t labels → LiveRoles t roles
-    → edition_in_range t.edition ≡ true → users_test t ≡ true → entities_test t ≡ true → chains_test keys ≡ true → names_test keys ≡ true → roles_test t live ≡ true → ties_test grants roles ≡ true → sessions_test t labels grants roles ≡ true
+passed : (t : Tables) (keys labels : List ℕ) (live roles : ℕ) → Sized t → Keys t.entities keys → Taken keys live → Labels t labels → LiveRoles t roles
+    → edition_in_range t.edition ≡ true → users_test t ≡ true → entities_test t ≡ true → chains_test keys ≡ true → names_test keys ≡ true → roles_test t live ≡ true → ties_test t roles ≡ true → sessions_test t labels roles ≡ true
     → Formed all_categories t
 unfolding users_in_range_in
-passed t keys labels grants live roles size K G L B R d u e c n r x s =
+passed t keys labels live roles size K L B R d u e c n r x s =
     record {
       edition = d;
       users = every_i _ (eq-eqb _ _ size.users, (u, tt));
@@ -145,7 +145,7 @@ passed t keys labels grants live roles size K G L B R d u e c n r x s =
       many_entities = size.entities;
       session = λ k l. session_e t labels B numbers' roles R k _ (every_at _ (all_e 16 _ s k l) 0);
       role = role';
-      ties = ties_e t role' grants G roles R x;
+      ties = ties_e t role' roles R x;
       entity = λ k l.
           let set = settled' k l in
           record {
@@ -171,13 +171,13 @@ passed t keys labels grants live roles size K G L B R d u e c n r x s =
     role' : (k : ℕ) → k < 16 → RoleOk t.entities k (role_at t k)
     role' k l = role_e t live (λ f b. L f b ∙ live_of_key t keys K numbers' f b) k _ (all_e 16 _ r k l)
 
-pub decided : (t : Tables) (keys grants labels : List ℕ) (live roles : ℕ) → Sized t → Keys t.entities keys → Grants t.roles grants → Taken keys live → Labels t labels → LiveRoles t roles
-    → edition_in_range t.edition ≡ true → users_test t ≡ true → entities_test t ≡ true → chains_test keys ≡ true → names_test keys ≡ true → roles_test t live ≡ true → ties_test grants roles ≡ true
-    → (r : Bool) → r ≡ sessions_test t labels grants roles → r ≡ sound t
-decided t keys grants labels live roles size K G L B R d u e c n p x r s = both r (sound t) forth (λ h. s ∙ sessions_pass t h labels grants roles B G R)
+pub decided : (t : Tables) (keys labels : List ℕ) (live roles : ℕ) → Sized t → Keys t.entities keys → Taken keys live → Labels t labels → LiveRoles t roles
+    → edition_in_range t.edition ≡ true → users_test t ≡ true → entities_test t ≡ true → chains_test keys ≡ true → names_test keys ≡ true → roles_test t live ≡ true → ties_test t roles ≡ true
+    → (r : Bool) → r ≡ sessions_test t labels roles → r ≡ sound t
+decided t keys labels live roles size K L B R d u e c n p x r s = both r (sound t) forth (λ h. s ∙ sessions_pass t h labels roles B R)
   where
     forth : r ≡ true → sound t ≡ true
     forth h =
         let all_met = sym s ∙ h in
-        let ok = passed t keys labels grants live roles size K G L B R d u e c n p x all_met in
-        sound_i t ok (λ y l. (opens_right t ok.role ok.ties grants G y).0 (every_at _ (all_e 16 _ all_met y l) 1))
+        let ok = passed t keys labels live roles size K L B R d u e c n p x all_met in
+        sound_i t ok (λ y l. (opens_right t ok.role ok.ties y).0 (every_at _ (all_e 16 _ all_met y l) 1))

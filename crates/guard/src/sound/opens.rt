@@ -1,5 +1,6 @@
 // Sessions, and what they have open, by a label for each entity, grade and categories in one number, and by the sets of each role.
 ghost use Rattle.std.specs.Prelude.{ℕ, ◌<◌, ◌≡◌, List, [], ◌∷◌, leb, eqb, get_or};
+ghost use Rattle.guard.specs.declared.Role.{Role};
 ghost use Rattle.bitset.specs.Tests.{every, all};
 ghost use Rattle.bitset.specs.Sets.{has};
 ghost use Rattle.guard.specs.Level.{session_count, entity_count, session_level, entity_level};
@@ -8,9 +9,9 @@ ghost use Rattle.guard.specs.Private.Tested.{packed_label, label_number, dominat
 ghost use Rattle.guard.specs.Private.Scan.{Gathered, opens_given};
 
 use super::record::session_in_range;
-use crate::scan::{GRANTS, Rights};
-use crate::sizes::{EDITION_1, ENTITIES, LEVEL_SEATS, SEAT_END, SESSIONS};
-use crate::{Entity, Label, Session, backing, scan};
+use crate::scan::Rights;
+use crate::sizes::{EDITION_1, ENTITIES, LEVEL_SEATS, ROLES, SEAT_END, SESSIONS};
+use crate::{Entity, Label, Role, Session, backing, scan};
 use bitset::Set;
 use std::array;
 
@@ -152,41 +153,39 @@ fn session_ok(labels: &[u32; ENTITIES], roles: u16, edition: u8, level: u32, s: 
 fn session_sound(
     labels: &[u32; ENTITIES],
     rights: Rights,
-    roles: u16,
+    live: u16,
     edition: u8,
     level: u32,
     s: Session,
 ) -> bool
     requires { level < 4 }
-    ensures { (grants : List ℕ) → Gathered grants s.roles rights → result ≡ every (session_test labels.now roles edition level s ∷ opens_given grants s ∷ []) }
+    ensures { (roles : List Role) → Gathered roles s.roles rights → result ≡ every (session_test labels.now live edition level s ∷ opens_given roles s ∷ []) }
 {
-    if !session_ok(labels, roles, edition, level, s) {
+    if !session_ok(labels, live, edition, level, s) {
         return false;
     }
     backing::is_backed(rights, s)
 }
 
-// Every session so. Neighbours mostly hold the same roles, and their rights are gathered once.
+// Every session so; `live` are the live roles. Neighbours mostly hold the same roles, and their rights are gathered once.
 pub fn sessions_ok(
     sessions: [Session; SESSIONS],
     labels: &[u32; ENTITIES],
-    grants: &[u64; GRANTS],
-    roles: u16,
+    roles: &[Role; ROLES],
+    live: u16,
     edition: u8,
 ) -> bool
-    ensures { result ≡ all session_count (λ s. every (session_test labels.now roles edition (session_level s) (get_or sessions s no_session) ∷ opens_given grants.now (get_or sessions s no_session) ∷ [])) }
+    ensures { result ≡ all session_count (λ s. every (session_test labels.now live edition (session_level s) (get_or sessions s no_session) ∷ opens_given roles.now (get_or sessions s no_session) ∷ [])) }
 {
-    let mut held: u16 = 0;
-    let mut rights = scan::gather(grants, 0);
-    let mut s: u32 = 0;
-    while s < SEAT_END {
+    let mut held = 0u16;
+    let mut rights = scan::gather(roles, held);
+    for s in 0..SEAT_END {
         let x = sessions[s as usize];
-        rights = scan::regather(grants, held, rights, x.roles);
+        rights = scan::regather(roles, held, rights, x.roles);
         held = x.roles;
-        if !session_sound(labels, rights, roles, edition, s / LEVEL_SEATS, x) {
+        if !session_sound(labels, rights, live, edition, s / LEVEL_SEATS, x) {
             return false;
         }
-        s += 1;
     }
     true
 }

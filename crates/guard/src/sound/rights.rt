@@ -1,5 +1,5 @@
 // Roles, their rights, by the set of the entities on which each may have some, and their ties.
-ghost use Rattle.std.specs.Prelude.{ℕ, ◌<◌, ◌≡◌, true, cond, eqb, get_or};
+ghost use Rattle.std.specs.Prelude.{ℕ, ◌<◌, ◌≡◌, cond, eqb, get_or, is_some, IfSome};
 ghost use Rattle.bitset.specs.Tests.{all};
 ghost use Rattle.bitset.specs.Sets.{has, with};
 ghost use Rattle.guard.specs.Level.{role_count, role_level};
@@ -8,22 +8,14 @@ ghost use Rattle.guard.specs.Private.Tested.{grantable_in, role_test};
 ghost use Rattle.guard.specs.Private.Scan.{tie_test};
 
 use super::opens::to_level;
-use crate::scan::GRANTS;
 use crate::sizes::{LEVEL_ROLES, ROLE_END, ROLES};
 use crate::{Role, scan};
 use bitset::Set;
 
-// The count as the loop has it that hands a number on, and how many roles a level has.
+// How many roles there are, and how many of a level, as the tests have them.
 const ROLE_COUNT: u8 = ROLES as u8;
 
 const LEVEL: u8 = LEVEL_ROLES as u8;
-
-// What is found of the roles: whether each is as soundness asks, and if so the set of those that are live.
-#[derive(Clone, Copy)]
-pub struct Roles {
-    pub ok: bool,
-    pub live: u16,
-}
 
 // A role that is not live may have no rights.
 fn bound(live: bool, set: u64) -> u64
@@ -53,26 +45,21 @@ fn listed(set: u16, r: u8, live: bool) -> u16
     set.with(r as u32)
 }
 
-// The roles, where `live` are the live entities.
-pub fn roles_ok(roles: [Role; ROLES], live: u64) -> Roles
-    ensures ok { result.ok ≡ all role_count (λ k. role_test (grantable_in live k) k (get_or roles k no_role)) }
-    ensures live { result.ok ≡ true → (k : ℕ) → k < role_count → has result.live k ≡ (get_or roles k no_role).live }
+// Whether each role is as soundness asks, where `live` are the live entities; if so, the set of those that are live.
+pub fn roles_ok(roles: &[Role; ROLES], live: u64) -> Option<u16>
+    ensures ok { is_some result ≡ all role_count (λ k. role_test (grantable_in live k) k (get_or roles.now k no_role)) }
+    ensures live { IfSome result (λ found. (k : ℕ) → k < role_count → has found k ≡ (get_or roles.now k no_role).live) }
 {
-    let mut found: u16 = 0;
-    let mut r: u8 = 0;
-    while r < ROLE_COUNT {
-        let p = roles[r as usize];
+    let mut found = 0u16;
+    for r in 0..ROLE_COUNT {
+        let role = roles[r as usize];
         let set = live & to_level((r as u32) / LEVEL_ROLES);
-        if !role_ok(set, r, p) {
-            return Roles { ok: false, live: 0 };
+        if !role_ok(set, r, role) {
+            return None;
         }
-        found = listed(found, r, p.live);
-        r += 1;
+        found = listed(found, r, role.live);
     }
-    Roles {
-        ok: true,
-        live: found,
-    }
+    Some(found)
 }
 
 // The roles of a level.
@@ -93,31 +80,29 @@ fn of_level(level: u32) -> u16
 }
 
 // Whether the ties of role `r` join it to roles of its level among those that are live, and it is not below itself.
-fn tie_ok(grants: &[u64; GRANTS], live: u16, r: u32) -> bool
+fn tie_ok(roles: &[Role; ROLES], live: u16, r: u32) -> bool
     requires { r < role_count }
-    ensures { result ≡ tie_test grants.now live r }
+    ensures { result ≡ tie_test roles.now live r }
 {
-    let juniors = scan::juniors(grants, r as usize);
+    let juniors = roles[r as usize].juniors;
     if juniors == 0 {
         return true;
     }
     if !(live & of_level(r / LEVEL_ROLES)).contains(juniors) {
         return false;
     }
-    let below = scan::gather(grants, juniors);
+    let below = scan::gather(roles, juniors);
     !below.roles.has(r)
 }
 
 // Every role so.
-pub fn ties_ok(grants: &[u64; GRANTS], live: u16) -> bool
-    ensures { result ≡ all role_count (tie_test grants.now live) }
+pub fn ties_ok(roles: &[Role; ROLES], live: u16) -> bool
+    ensures { result ≡ all role_count (tie_test roles.now live) }
 {
-    let mut r = 0u32;
-    while r < ROLE_END {
-        if !tie_ok(grants, live, r) {
+    for r in 0..ROLE_END {
+        if !tie_ok(roles, live, r) {
             return false;
         }
-        r += 1;
     }
     true
 }

@@ -16,7 +16,7 @@ use Rattle.guard.specs.Step.{role_opening}
 use Rattle.guard.specs.Kind as kind
 use Rattle.guard.specs.Batch.{batch_count, request_at}
 use Rattle.guard.specs.Private.Inside.{number, Placed, OfEntity, Seen}
-use Rattle.guard.specs.Private.Scan.{Keys, Grants, FoundBy}
+use Rattle.guard.specs.Private.Scan.{Keys, FoundBy}
 use Rattle.guard.specs.Private.InForce.{in_ranges}
 use Rattle.guard.specs.declared.Tables.{Tables}
 use Rattle.guard.specs.declared.Request.{Request}
@@ -25,9 +25,9 @@ use Rattle.guard.specs.declared.scan.Found.{Found}
 use Rattle.guard.specs.declared.view.View.{View}
 use Rattle.guard.specs.declared.change.Change.TheVariants.{Session as ASession, Entity as AnEntity, Role as ARole}
 use Rattle.guard.proofs.Laws.Sound.{Formed, formed_e}
-use Rattle.guard.proofs.Ranges.{in_create, in_delete}
+use Rattle.guard.proofs.Ranges.{in_create}
 use Rattle.guard.proofs.Logs.{batch_room, batch_space, batch_rows, set_again}
-use Rattle.guard.proofs.Columns.{keys_set, keys_other, grants_other, grants_role, grants_each}
+use Rattle.guard.proofs.Columns.{keys_set, keys_other}
 use Rattle.guard.proofs.Seen.{view_at, parent_in, seen_of}
 use Rattle.guard.proofs.Answers.{done_in_range, out_of_range}
 use Rattle.guard.proofs.Stored.{told, session_stored, create_stored, delete_stored, alone_stored, role_stored, loss_stored, loses, no_loss}
@@ -35,8 +35,8 @@ use Rattle.guard.proofs.Turns.{Held, held_none, held_more, held_length, held_rol
 use Rattle.guard.proofs.Tables.run.Goals as goal
 
 -- ---- one turn of the loop, once its request is decided: what held before it, the request, where its records stand, and its answer
-record Turn (t₀ t : Tables) (rows old old_roles said roles keys grants : List ℕ) (i n : ℕ) (q : Request) (p : Places) (a : ℕ) : Type 0 where
-  pub held : Held t₀ rows old old_roles i t said roles keys grants
+record Turn (t₀ t : Tables) (rows old old_roles said roles keys : List ℕ) (i n : ℕ) (q : Request) (p : Places) (a : ℕ) : Type 0 where
+  pub held : Held t₀ rows old old_roles i t said roles keys
   pub on : i < n
   pub all : n ≡ batch_count rows old old_roles
   pub asked : q ≡ request_at rows i
@@ -44,7 +44,7 @@ record Turn (t₀ t : Tables) (rows old old_roles said roles keys grants : List 
   pub decided : a ≡ number (rule_of q) t q
 
 -- the batch has room for its answers and for its roles
-module _ {t₀ t : Tables} {rows old old_roles said roles keys grants : List ℕ} {i n : ℕ} (held : Held t₀ rows old old_roles i t said roles keys grants)
+module _ {t₀ t : Tables} {rows old old_roles said roles keys : List ℕ} {i n : ℕ} (held : Held t₀ rows old old_roles i t said roles keys)
     (on : i < n) (all : n ≡ batch_count rows old old_roles)
   where
     within : i < length old
@@ -54,37 +54,37 @@ module _ {t₀ t : Tables} {rows old old_roles said roles keys grants : List ℕ
     within_roles = omega (arith, on, all, batch_space (length rows) (length old) (length old_roles))
 
     room : i < length said
-    room = rw (held_length _ _ _ _ _ _ _ _ _ _ held (omega (arith, within))) within
+    room = rw (held_length _ _ _ _ _ _ _ _ _ held (omega (arith, within))) within
 
     space : i < length roles
-    space = rw (held_roles _ _ _ _ _ _ _ _ _ _ held (omega (arith, within_roles))) within_roles
+    space = rw (held_roles _ _ _ _ _ _ _ _ _ held (omega (arith, within_roles))) within_roles
 
-    -- the next turn holds, by what the tables and the columns are then, and what is stored of the role
+    -- the next turn holds, by what the tables and the keys are then, and what is stored of the role
     next_turn : {q : Request} {a : ℕ} → q ≡ request_at rows i → (u : Tables) (b : ℕ) → Stepped t q u a b
-        → (roles' : List ℕ) → roles' ≡ set roles i b → (k g : List ℕ) → Keys u.entities k → Grants u.roles g
-        → (i + 1 ≤ n) × (n ≡ batch_count rows old old_roles) × Held t₀ rows old old_roles (i + 1) u (set said i a) roles' k g
-    next_turn asked u b step roles' same k g K G =
-        rw same (omega (arith, on), all, held_more _ _ _ _ _ _ _ _ _ _ held _ asked within within_roles u _ _ step k g K G)
+        → (roles' : List ℕ) → roles' ≡ set roles i b → (k : List ℕ) → Keys u.entities k
+        → (i + 1 ≤ n) × (n ≡ batch_count rows old old_roles) × Held t₀ rows old old_roles (i + 1) u (set said i a) roles' k
+    next_turn asked u b step roles' same k K =
+        rw same (omega (arith, on), all, held_more _ _ _ _ _ _ _ _ _ held _ asked within within_roles u _ _ step k K)
 
     -- the decision, and its number
     turn_of : {q : Request} {p : Places} {o d a : ℕ} {f : Found} {v : View} → q ≡ request_at rows i → Placed q p
         → o ≡ cond (eqb q.call kind.create) p.parent (entity_at t p.entity).parent
-        → FoundBy keys grants q (session_at t p.seat).roles p.entity o p.role p.junior f → v ≡ view_at t p o f
-        → ((s : Tables) → Seen s q v → d ≡ number (rule_of q) s q) → a ≡ d → Turn t₀ t rows old old_roles said roles keys grants i n q p a
+        → FoundBy keys t.roles q (session_at t p.seat).roles p.entity o p.role p.junior f → v ≡ view_at t p o f
+        → ((s : Tables) → Seen s q v → d ≡ number (rule_of q) s q) → a ≡ d → Turn t₀ t rows old old_roles said roles keys i n q p a
     turn_of asked near above found seen says numbered = record {
       held = held;
       on = on;
       all = all;
       asked = asked;
       near = near;
-      decided = numbered ∙ says _ (seen_of _ held.is_sound _ _ near _ above _ _ held.keys held.grants _ found _ seen);
+      decided = numbered ∙ says _ (seen_of _ held.is_sound _ _ near _ above _ held.by_keys _ found _ seen);
     }
 
-module _ {t₀ t : Tables} {rows old old_roles said roles keys grants : List ℕ} {i n : ℕ} {q : Request} {p : Places} {a : ℕ}
-    (turn : Turn t₀ t rows old old_roles said roles keys grants i n q p a)
+module _ {t₀ t : Tables} {rows old old_roles said roles keys : List ℕ} {i n : ℕ} {q : Request} {p : Places} {a : ℕ}
+    (turn : Turn t₀ t rows old old_roles said roles keys i n q p a)
   where
-    turned : (u : Tables) (b : ℕ) → Stepped t q u a b → (roles' : List ℕ) → roles' ≡ set roles i b → (k g : List ℕ) → Keys u.entities k → Grants u.roles g
-        → (i + 1 ≤ n) × (n ≡ batch_count rows old old_roles) × Held t₀ rows old old_roles (i + 1) u (set said i a) roles' k g
+    turned : (u : Tables) (b : ℕ) → Stepped t q u a b → (roles' : List ℕ) → roles' ≡ set roles i b → (k : List ℕ) → Keys u.entities k
+        → (i + 1 ≤ n) × (n ≡ batch_count rows old old_roles) × Held t₀ rows old old_roles (i + 1) u (set said i a) roles' k
     turned = next_turn turn.held turn.on turn.all turn.asked
 
     many : Formed all_categories t
@@ -98,8 +98,8 @@ module _ {t₀ t : Tables} {rows old old_roles said roles keys grants : List ℕ
     fits z = done_in_range _ _ (zero z)
 
     done : a ≡ 0 → (u : Tables) → u ≡ (rule_of q).effect q t → (b : ℕ) → b ≡ role_byte (role_opening t q)
-        → (roles' : List ℕ) → roles' ≡ set roles i b → (k g : List ℕ) → Keys u.entities k → Grants u.roles g
-        → (i + 1 ≤ n) × (n ≡ batch_count rows old old_roles) × Held t₀ rows old old_roles (i + 1) u (set said i a) roles' k g
+        → (roles' : List ℕ) → roles' ≡ set roles i b → (k : List ℕ) → Keys u.entities k
+        → (i + 1 ≤ n) × (n ≡ batch_count rows old old_roles) × Held t₀ rows old old_roles (i + 1) u (set said i a) roles' k
     done z u e b r = turned u b (does _ _ _ turn.held.is_sound turn.decided z u e b r)
 
 -- what changes an entity or a role tells none
@@ -126,11 +126,11 @@ fill-requires-then-not-sound_by c = omega (arith, c.count-count.ensures, batch_s
 
 pub returns-then-not-sound_by : goal.returns-then-not-sound_by
 returns-then-not-sound_by c =
-    unsound_batch _ _ _ _ _ _ _ (sym c.sound_by.ensures ∙ c.if-not-sound_by.true) c.count-count.ensures (rw c.answer.ensures at c.fill.ensures.1) c.fill-then-not-sound_by.ensures.1
+    unsound_batch _ _ _ _ _ _ _ (sym c.sound_by.ensures ∙ c.if-not-sound_by.true) c.count-count.ensures c.fill.ensures.1 c.fill-then-not-sound_by.ensures.1
 
 pub loop-i-init : goal.loop-i-init
 loop-i-init c =
-    (omega arith, c.count-count.ensures, held_none _ _ _ _ _ _ (sym c.sound_by.ensures ∙ c.if-not-sound_by.false) c.keys-keys.ensures c.grants-grants.ensures)
+    (omega arith, c.count-count.ensures, held_none _ _ _ _ _ (sym c.sound_by.ensures ∙ c.if-not-sound_by.false) c.keys-keys.ensures)
 
 -- ---- in a turn
 pub request-q-requires : goal.request-q-requires
@@ -164,7 +164,7 @@ pub loop-i-preserved-in_default : goal.loop-i-preserved-in_default
 loop-i-preserved-in_default c =
     let held = c.loop-i.invariant.2 in
     next_turn held c.loop-i-test.true c.loop-i.invariant.1 c.request-q.ensures _ _
-    (refuses _ _ _ held.is_sound (c.answer-in_default.ensures ∙ out_of_range _ _ (sym c.in_default.ensures.fits)) (λ e. omega (arith, c.answer-in_default.ensures, e))) _ refl _ _ held.keys held.grants
+    (refuses _ _ _ held.is_sound (out_of_range _ _ (sym c.in_default.ensures.fits)) (λ e. omega arith)) _ refl _ held.by_keys
 
 pub after-requires : goal.after-requires
 after-requires c =
@@ -179,11 +179,10 @@ loop-i-preserved-in-Session c =
     let turn = turn_of c.loop-i.invariant.2 c.loop-i-test.true c.loop-i.invariant.1 c.request-q.ensures (placed_in c.look_up.ensures.some c.in-Some.is) c.parent_of-o.ensures c.find-found.ensures refl c.judge.ensures c.answer-n.ensures in
     let z = c.if-n-eq0.true in
     done turn z _
-    (session_stored _ _ (zero turn z) _ turn.near turn.held.is_sound _ turn.held.grants (told ASession _ _ c.change_of-changed.ensures c.in-Session.is) _ c.after.ensures) _
-    (opens_by _ turn.held.is_sound _ turn.held.grants _ (fits turn z) _ turn.near _ c.role_told.ensures)
-    _ (set_again c.loop-i.roles c.loop-i.i 255 c.role_told.result) _ _
-    (keys_other _ _ turn.held.keys _ refl)
-    (grants_other _ _ turn.held.grants _ refl)
+    (session_stored _ _ (zero turn z) _ turn.near turn.held.is_sound (told ASession _ _ c.change_of-changed.ensures c.in-Session.is) _ c.after.ensures) _
+    (opens_by _ turn.held.is_sound _ (fits turn z) _ turn.near _ c.role_told-told.ensures _ c.byte.ensures)
+    _ (set_again c.loop-i.roles c.loop-i.i 255 c.byte.result) _
+    (keys_other _ _ turn.held.by_keys _ refl)
 
 pub after-f2-requires : goal.after-f2-requires
 after-f2-requires c =
@@ -204,9 +203,8 @@ loop-i-preserved-then-q-eq-CREATE c =
     let of = told AnEntity _ _ c.change_of-changed.ensures c.in-Entity.is in
     done turn z _
     (create_stored _ _ (zero turn z) _ turn.near c.if-q-eq-CREATE.true _ _ c.after-f2.ensures c.owning-p2.ensures) _ (entity_silent _ _ of)
-    _ refl _ _
-    (keys_set _ _ turn.held.keys _ (many turn).many_entities _ turn.near.entity.small _ _ c.key.ensures refl)
-    (grants_role _ _ turn.held.grants _ (many turn).many_roles _ turn.near.role.small _ _ c.put.ensures refl)
+    _ refl _
+    (keys_set _ _ turn.held.by_keys _ (many turn).many_entities _ turn.near.entity.small _ _ c.key.ensures refl)
 
 pub loop-i-preserved-then-q-eq-DELETE : goal.loop-i-preserved-then-q-eq-DELETE
 loop-i-preserved-then-q-eq-DELETE c =
@@ -216,9 +214,8 @@ loop-i-preserved-then-q-eq-DELETE c =
     rw (c.without_entity-self.ensures, c.without_entity-self-then-q-eq-DELETE.ensures)
     (done turn z _
     (delete_stored _ _ (zero turn z) _ turn.near c.if-q-eq-DELETE.true _ c.after-f2.ensures) _ (entity_silent _ _ of)
-    _ refl _ _
-    (keys_set _ _ turn.held.keys _ (many turn).many_entities _ turn.near.entity.small _ _ c.key.ensures refl)
-    (grants_each _ _ turn.held.grants _ _ _ (rw (turn.near.entity.same (in_delete _ (fits turn z) c.if-q-eq-DELETE.true).1) at c.clear.ensures) refl))
+    _ refl _
+    (keys_set _ _ turn.held.by_keys _ (many turn).many_entities _ turn.near.entity.small _ _ c.key.ensures refl))
 
 pub loop-i-preserved-else-q-eq-DELETE : goal.loop-i-preserved-else-q-eq-DELETE
 loop-i-preserved-else-q-eq-DELETE c =
@@ -227,9 +224,8 @@ loop-i-preserved-else-q-eq-DELETE c =
     let of = told AnEntity _ _ c.change_of-changed.ensures c.in-Entity.is in
     done turn z _
     (alone_stored _ _ (zero turn z) _ turn.near of c.if-q-eq-CREATE.false c.if-q-eq-DELETE.false _ c.after-f2.ensures) _ (entity_silent _ _ of)
-    _ refl _ _
-    (keys_set _ _ turn.held.keys _ (many turn).many_entities _ turn.near.entity.small _ _ c.key.ensures refl)
-    (grants_other _ _ turn.held.grants _ refl)
+    _ refl _
+    (keys_set _ _ turn.held.by_keys _ (many turn).many_entities _ turn.near.entity.small _ _ c.key.ensures refl)
 
 pub after-p2-requires : goal.after-p2-requires
 after-p2-requires c =
@@ -241,11 +237,10 @@ loop-i-preserved-then-ends_opens c =
     let turn = turn_of c.loop-i.invariant.2 c.loop-i-test.true c.loop-i.invariant.1 c.request-q.ensures (placed_in c.look_up.ensures.some c.in-Some.is) c.parent_of-o.ensures c.find-found.ensures refl c.judge.ensures c.answer-n.ensures in
     let z = c.if-n-eq0.true in
     let of = told ARole _ _ c.change_of-changed.ensures c.in-Role.is in
-    let sets = grants_role _ _ turn.held.grants _ (many turn).many_roles _ turn.near.role.small _ _ c.put-in-Role.ensures refl in
-    rw c.swept-self.ensures
+    rw c.sweep.ensures
     (done turn z _
-    (loss_stored _ _ (zero turn z) _ turn.near turn.held.is_sound _ c.after-p2.ensures _ sets _ c.lost-lost.ensures (loses _ (sym c.ends_opens.ensures ∙ c.if-ends_opens.true)) _ refl) _ (role_silent _ _ of.0)
-    _ refl _ _ (keys_other _ _ turn.held.keys _ refl) sets)
+    (loss_stored _ _ (zero turn z) _ turn.near turn.held.is_sound _ c.after-p2.ensures _ c.lost-lost.ensures (loses _ (sym c.ends_opens.ensures ∙ c.if-ends_opens.true)) _ refl) _ (role_silent _ _ of.0)
+    _ refl _ (keys_other _ _ turn.held.by_keys _ refl))
 
 pub loop-i-preserved-else-ends_opens : goal.loop-i-preserved-else-ends_opens
 loop-i-preserved-else-ends_opens c =
@@ -254,11 +249,10 @@ loop-i-preserved-else-ends_opens c =
     let of = told ARole _ _ c.change_of-changed.ensures c.in-Role.is in
     done turn z _
     (role_stored _ _ (zero turn z) _ turn.near turn.held.is_sound of (no_loss _ (sym c.ends_opens.ensures ∙ c.if-ends_opens.false)) _ c.after-p2.ensures) _ (role_silent _ _ of.0)
-    _ refl _ _
-    (keys_other _ _ turn.held.keys _ refl)
-    (grants_role _ _ turn.held.grants _ (many turn).many_roles _ turn.near.role.small _ _ c.put-in-Role.ensures refl)
+    _ refl _
+    (keys_other _ _ turn.held.by_keys _ refl)
 
 pub loop-i-preserved : goal.loop-i-preserved
 loop-i-preserved c =
     let turn = turn_of c.loop-i.invariant.2 c.loop-i-test.true c.loop-i.invariant.1 c.request-q.ensures (placed_in c.look_up.ensures.some c.in-Some.is) c.parent_of-o.ensures c.find-found.ensures refl c.judge.ensures c.answer-n.ensures in
-    turned turn _ _ (refuses _ _ _ turn.held.is_sound turn.decided c.if-n-eq0.false) _ refl _ _ turn.held.keys turn.held.grants
+    turned turn _ _ (refuses _ _ _ turn.held.is_sound turn.decided c.if-n-eq0.false) _ refl _ turn.held.by_keys

@@ -6,7 +6,7 @@ use Rattle.guard.proofs.Turns.{Held}
 use Rattle.guard.proofs.Tables.run.Given as goal
 
 abbrev pub invariant-loop-i : goal.invariant-loop-i
-invariant-loop-i l = (l.i ≤ l.count) × (l.count ≡ batch_count l.rows l.initial.answers l.initial.roles) × Held l.initial.self l.rows l.initial.answers l.initial.roles l.i l.self l.answers l.roles l.keys l.grants
+invariant-loop-i l = (l.i ≤ l.count) × (l.count ≡ batch_count l.rows l.initial.answers l.initial.roles) × Held l.initial.self l.rows l.initial.answers l.initial.roles l.i l.self l.answers l.roles l.keys
 
 abbrev pub decreases-loop-i : goal.decreases-loop-i
 decreases-loop-i l = l.count - l.i

@@ -2,7 +2,6 @@
 use native.Mathlib.Omega.{arith}
 use mathlib.Core.Path.{◌∙◌}
 use borrow.Author.Tests.{ne_eqb}
-use Rattle.guard.specs.Told.{role_byte}
 use Rattle.guard.specs.Kind as kind
 use Rattle.guard.specs.Private.Scan.{opened_by}
 use Rattle.guard.proofs.giver.role_told.Goals as goal
@@ -16,5 +15,5 @@ unfolding opened_by
 returns-in-5 c = c.lowest-in-5.ensures ∙ rw c.in-5.is
 
 pub returns-in_default : goal.returns-in_default
-unfolding opened_by role_byte
+unfolding opened_by
 returns-in_default c = rw (ne_eqb c.args.call kind.openr (omega arith), ne_eqb c.args.call kind.openw (omega arith))

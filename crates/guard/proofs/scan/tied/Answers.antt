@@ -9,15 +9,15 @@ use Rattle.guard.proofs.scan.tied.Goals as goal
 
 pub returns-then-call-eq-UNMAKE : goal.returns-then-call-eq-UNMAKE
 unfolding tied_by either
-returns-then-call-eq-UNMAKE c = rw (eq-eqb _ _ c.if-call-eq-UNMAKE.true, c.juniors.ensures, c.has_senior.ensures)
+returns-then-call-eq-UNMAKE c = rw (eq-eqb _ _ c.if-call-eq-UNMAKE.true, c.has_senior.ensures)
 
 pub returns-then-call-eq-JOIN : goal.returns-then-call-eq-JOIN
 unfolding tied_by
 returns-then-call-eq-JOIN c =
     rw (ne_eqb _ _ c.if-call-eq-UNMAKE.false, eq-eqb _ _ c.if-call-eq-JOIN.true)
     (c.has.ensures
-    ∙ c.gather-below.ensures.roles _ c.requires.0
-    ∙ rw (c.with.ensures, mod-eq_of_lt c.requires.1) (met_one c.args.grants.now c.args.j c.requires.1 c.args.r))
+    ∙ c.gather-below.ensures.met _ c.requires.0
+    ∙ rw (c.with.ensures, mod-eq_of_lt c.requires.1) (met_one c.args.roles.now c.args.j c.requires.1 c.args.r))
 
 pub returns : goal.returns
 unfolding tied_by

@@ -5,7 +5,7 @@ use Rattle.guard.proofs.Soundness.Loops.{all_miss, all_next}
 use Rattle.guard.proofs.sound.opens.sessions_ok.Goals as goal
 
 pub loop-s-init : goal.loop-s-init
-loop-s-init c = (omega arith, c.gather-rights.ensures, all_none _)
+loop-s-init c = (c.gather-rights.ensures, all_none _)
 
 pub returns-then-not-session_sound : goal.returns-then-not-session_sound
 returns-then-not-session_sound c =
@@ -15,4 +15,4 @@ returns-then-not-session_sound c =
 pub loop-s-preserved : goal.loop-s-preserved
 loop-s-preserved c =
     let rights = c.regather-rights.ensures in
-    (omega arith, rights, all_next _ _ _ c.loop-s.invariant.2 (c.session_sound.ensures _ rights) (not_of_true _ c.if-not-session_sound.false))
+    (rights, all_next _ _ _ c.loop-s.invariant.1 (c.session_sound.ensures _ rights) (not_of_true _ c.if-not-session_sound.false))

@@ -1,5 +1,4 @@
 -- `sessions_ok` tests each session in turn. Assumes nothing.
-use Prim.Native.Nat.{◌-◌, ◌≤◌}
 use mathlib.Core.Bool.{true}
 use mathlib.Core.Path.{◌≡◌}
 use mathlib.Core.List.{[], ◌∷◌}
@@ -12,7 +11,4 @@ use Rattle.guard.specs.Private.Scan.{Gathered, opens_given}
 use Rattle.guard.proofs.sound.opens.sessions_ok.Given as goal
 
 abbrev pub invariant-loop-s : goal.invariant-loop-s
-invariant-loop-s l = (l.s ≤ 16) × Gathered l.grants l.held l.rights × (all l.s (λ k. every (session_test l.labels l.roles l.edition (session_level k) (get_or l.sessions k no_session) ∷ opens_given l.grants (get_or l.sessions k no_session) ∷ [])) ≡ true)
-
-abbrev pub decreases-loop-s : goal.decreases-loop-s
-decreases-loop-s l = 16 - l.s
+invariant-loop-s l = Gathered l.roles l.held l.rights × (all l.s (λ k. every (session_test l.labels l.live l.edition (session_level k) (get_or l.sessions k no_session) ∷ opens_given l.roles (get_or l.sessions k no_session) ∷ [])) ≡ true)

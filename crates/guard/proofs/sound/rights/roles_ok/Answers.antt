@@ -9,15 +9,15 @@ use Rattle.guard.proofs.Soundness.Grants.{role_masked}
 use Rattle.guard.proofs.sound.rights.roles_ok.Goals as goal
 
 pub loop-r-init : goal.loop-r-init
-loop-r-init c = (omega arith, all_none _, listed_none 16 _ (omega arith))
+loop-r-init c = (all_none _, listed_none 16 _ (omega arith))
 
 pub returns-then-not-role_ok-clause-ok : goal.returns-then-not-role_ok-clause-ok
 returns-then-not-role_ok-clause-ok c =
     all_miss _ c.loop-r.r _ _ (omega arith)
-    (c.role_ok.ensures ∙ role_masked c.args.live c.to_level.result c.loop-r.r (get_or c.args.roles c.loop-r.r no_role) c.to_level.ensures)
+    (c.role_ok.ensures ∙ role_masked c.args.live c.to_level.result c.loop-r.r (get_or c.args.roles.now c.loop-r.r no_role) c.to_level.ensures)
     (not_of_false _ c.if-not-role_ok.true)
 
 pub loop-r-preserved : goal.loop-r-preserved
 loop-r-preserved c =
     let b = c.loop-r.invariant in
-    (omega arith, all_next _ _ _ b.1 (c.role_ok.ensures ∙ role_masked c.args.live c.to_level.result c.loop-r.r (get_or c.args.roles c.loop-r.r no_role) c.to_level.ensures) (not_of_true _ c.if-not-role_ok.false), listed_more 16 _ _ _ _ (omega arith) b.2 c.listed-found.ensures)
+    (all_next _ _ _ b.0 (c.role_ok.ensures ∙ role_masked c.args.live c.to_level.result c.loop-r.r (get_or c.args.roles.now c.loop-r.r no_role) c.to_level.ensures) (not_of_true _ c.if-not-role_ok.false), listed_more 16 _ _ _ _ (omega arith) b.1 c.listed-found.ensures)

@@ -1,5 +1,4 @@
 -- `roles_ok` tests each role in turn, and lists those that are live. Assumes nothing.
-use Prim.Native.Nat.{◌-◌, ◌≤◌}
 use mathlib.Core.Bool.{true}
 use mathlib.Core.Path.{◌≡◌}
 use lib.ListN.{get_or}
@@ -11,7 +10,4 @@ use Rattle.guard.proofs.sound.rights.roles_ok.Given as goal
 
 abbrev pub invariant-loop-r : goal.invariant-loop-r
 invariant-loop-r l =
-    (l.r ≤ 16) × (all l.r (λ k. role_test (grantable_in l.live k) k (get_or l.roles k no_role)) ≡ true) × Listed 16 (λ k. (get_or l.roles k no_role).live) l.r l.found
-
-abbrev pub decreases-loop-r : goal.decreases-loop-r
-decreases-loop-r l = 16 - l.r
+    (all l.r (λ k. role_test (grantable_in l.live k) k (get_or l.roles k no_role)) ≡ true) × Listed 16 (λ k. (get_or l.roles k no_role).live) l.r l.found

@@ -5,10 +5,10 @@ use Rattle.guard.proofs.Soundness.Loops.{all_miss, all_next}
 use Rattle.guard.proofs.sound.rights.ties_ok.Goals as goal
 
 pub loop-r-init : goal.loop-r-init
-loop-r-init c = (omega arith, all_none _)
+loop-r-init c = all_none _
 
 pub returns-then-not-tie_ok : goal.returns-then-not-tie_ok
 returns-then-not-tie_ok c = all_miss _ c.loop-r.r _ _ (omega arith) c.tie_ok.ensures (not_of_false _ c.if-not-tie_ok.true)
 
 pub loop-r-preserved : goal.loop-r-preserved
-loop-r-preserved c = (omega arith, all_next _ _ _ c.loop-r.invariant.1 c.tie_ok.ensures (not_of_true _ c.if-not-tie_ok.false))
+loop-r-preserved c = all_next _ _ _ c.loop-r.invariant c.tie_ok.ensures (not_of_true _ c.if-not-tie_ok.false)

@@ -1,5 +1,4 @@
 -- `ties_ok` tests each role in turn. Assumes nothing.
-use Prim.Native.Nat.{◌-◌, ◌≤◌}
 use mathlib.Core.Bool.{true}
 use mathlib.Core.Path.{◌≡◌}
 use Rattle.bitset.specs.Tests.{all}
@@ -7,7 +6,4 @@ use Rattle.guard.specs.Private.Scan.{tie_test}
 use Rattle.guard.proofs.sound.rights.ties_ok.Given as goal
 
 abbrev pub invariant-loop-r : goal.invariant-loop-r
-invariant-loop-r l = (l.r ≤ 16) × (all l.r (tie_test l.grants l.live) ≡ true)
-
-abbrev pub decreases-loop-r : goal.decreases-loop-r
-decreases-loop-r l = 16 - l.r
+invariant-loop-r l = all l.r (tie_test l.roles l.live) ≡ true
