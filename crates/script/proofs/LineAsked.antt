@@ -11,14 +11,14 @@ use lib.ListN.{length, get_or, length-map}
 use borrow.Author.Tests.{eqb-true, le-leb, lt-leb, ltb-true, ltb-false}
 use Rattle.bitset.specs.Tests.{every}
 use Rattle.bitset.specs.Tests.Laws.{none_below}
+use Rattle.std.specs.Prelude.{Option, None}
 use Rattle.script.specs.Text.{values}
 use Rattle.script.specs.Names.{all_names, under, Ordered}
 use Rattle.script.specs.Line.{used, Numbers, these, asks, line_of, read_line}
 use Rattle.script.specs.Private.Rows.{no_word, name_count, field_count, fine, fills, IsRow, take_from, ahead, members}
 use Rattle.script.specs.declared.line.Line.{Line}
 use Rattle.script.specs.declared.line.Line.TheVariants.{Bad}
-use Rattle.script.specs.declared.fields.Half.{Half}
-use Rattle.script.specs.declared.fields.Half.TheVariants.{Fault as Broken}
+use Rattle.script.specs.declared.fields.Six.{Six}
 use Rattle.script.specs.declared.row.Row.{Row}
 use Rattle.script.proofs.FieldsTaken.{take_split}
 use Rattle.script.proofs.ValuesInTurn.{values_some}
@@ -111,14 +111,14 @@ module _ {h : List (List ℕ)} {at l vals : List ℕ} {r : Row} (o : Ordered h a
         → asks (get_or vals 0 0) (take_from u r.given vals 1 field_count (these [])) ≡ read_line h l
     read_known u m e = line_known _ _ _ u held m e ∙ read_good
 
-    pub read_halves : (u : ℕ) (x : Half) → get_or vals 0 0 < no_word → members u 1 field_count ≡ used (get_or vals 0 0)
+    pub read_halves : (u : ℕ) (x : Option Six) → get_or vals 0 0 < no_word → members u 1 field_count ≡ used (get_or vals 0 0)
         → ((rest : Numbers) → take_from u r.given vals 1 6 rest ≡ ahead x rest)
         → asks (get_or vals 0 0) (ahead x (take_from u r.given vals 7 (field_count - 6) (these []))) ≡ read_line h l
     read_halves u x m e f = ap (asks (get_or vals 0 0)) (sym (f _) ∙ sym (take_split u r.given vals 1 6 (field_count - 6) (these []))) ∙ read_known u m e
 
-pub asks_by : (w : ℕ) (x y : Half) (rest : Numbers) → x ≡ y → asks w (ahead y rest) ≡ asks w (ahead x rest)
+pub asks_by : (w : ℕ) (x y : Option Six) (rest : Numbers) → x ≡ y → asks w (ahead y rest) ≡ asks w (ahead x rest)
 asks_by w x y rest e = rw e
 
-pub asks_fault : (w : ℕ) (x : Half) (rest : Numbers) → x ≡ Broken → Bad ≡ asks w (ahead x rest)
+pub asks_fault : (w : ℕ) (x : Option Six) (rest : Numbers) → x ≡ None → Bad ≡ asks w (ahead x rest)
 unfolding asks ahead
 asks_fault w x rest e = rw e

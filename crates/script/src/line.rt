@@ -5,7 +5,6 @@ ghost use Rattle.script.specs.Private.Slices.{before};
 ghost use Rattle.script.specs.Names.{Ordered};
 ghost use Rattle.script.specs.Private.Rows.{blank, IsRow};
 
-use crate::fields::Half;
 use crate::row::Row;
 use crate::{fields, limits, row};
 use guard::Request;
@@ -54,7 +53,7 @@ fn asked(row: Row, vals: &[u32; limits::PLACES]) -> Line
         return Line::Bad;
     }
     let uses = fields::uses(word);
-    let Half::Numbers(six) = fields::first(vals, row.given, uses) else {
+    let Some(six) = fields::first(vals, row.given, uses) else {
         return Line::Bad;
     };
     fields::second(word, six, vals, row.given, uses)

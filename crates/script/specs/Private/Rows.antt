@@ -1,6 +1,6 @@
 -- The words in which the contracts of the row reader's private functions are put: a row of numbers, one under each name,
 -- and how it is taken apart. The report does not cite them, so a reader of the paper need not read them.
-use Rattle.std.specs.Prelude.{ℕ, zero, suc, ◌+◌, ◌%◌, ◌≡◌, Bool, true, false, not, cond, ◌&&◌, List, [], ◌∷◌, eqb, leb, ltb, length, get_or, set, drop, replicate}
+use Rattle.std.specs.Prelude.{ℕ, zero, suc, ◌+◌, ◌%◌, ◌≡◌, Bool, true, false, not, cond, ◌&&◌, List, [], ◌∷◌, Option, Some, None, eqb, leb, ltb, length, get_or, set, drop, replicate}
 use Rattle.bitset.specs.Sets.{has, with}
 use Rattle.script.specs.Text.{bytes, same, values}
 use Rattle.script.specs.Names.{place_count, column}
@@ -8,10 +8,7 @@ use Rattle.script.specs.Line.{value_of, words, Numbers, unreadable, joined}
 use Rattle.script.specs.Private.Slices.{leading}
 use Rattle.script.specs.declared.line.Value.{Value}
 use Rattle.script.specs.declared.line.Value.TheVariants.{Digits, Dash, Other}
-use Rattle.script.specs.declared.fields.Taken.{Taken}
-use Rattle.script.specs.declared.fields.Taken.TheVariants.{Number, Fault}
-use Rattle.script.specs.declared.fields.Half.{Half}
-use Rattle.script.specs.declared.fields.Half.TheVariants.{Numbers as Whole, Fault as Broken}
+use Rattle.script.specs.declared.fields.Six.{Six}
 use Rattle.script.specs.declared.row.Found.{Found}
 use Rattle.script.specs.declared.row.Row.{Row}
 
@@ -86,16 +83,16 @@ pub record IsRow (at l vals : List ℕ) (r : Row) : Type 0 where
   pub marks : r.good ≡ true → r.given ≡ marked at (values l) (length (values l))
 
 -- ---- fields
--- what a field is taken as, by whether the word uses it and whether its value is a number
-unfoldable pub taken_as : Bool → Bool → ℕ → Taken
-taken_as true true n = Number n
-taken_as true false n = Fault
-taken_as false true n = Fault
-taken_as false false n = Number n
+-- what a field is taken as, by whether the word uses it and whether its value is a number; nothing where it has a fault
+unfoldable pub taken_as : Bool → Bool → ℕ → Option ℕ
+taken_as true true n = Some n
+taken_as true false n = None
+taken_as false true n = None
+taken_as false false n = Some n
 
-unfoldable pub joins : Taken → Numbers → Numbers
-joins (Number n) rest = joined n rest
-joins Fault rest = unreadable
+unfoldable pub joins : Option ℕ → Numbers → Numbers
+joins (Some n) rest = joined n rest
+joins None rest = unreadable
 
 -- n fields of a row from name i on, in front of the rest; `uses` is the set of the used ones, `given` that of the numbers
 unfoldable pub take_from : ℕ → ℕ → List ℕ → ℕ → ℕ → Numbers → Numbers
@@ -107,9 +104,9 @@ unfoldable pub front : List ℕ → Numbers → Numbers
 front [] rest = rest
 front (n ∷ ns) rest = joined n (front ns rest)
 
-unfoldable pub ahead : Half → Numbers → Numbers
-ahead (Whole x) rest = front (x.seat ∷ x.user ∷ x.role ∷ x.entity ∷ x.parent ∷ x.kind ∷ []) rest
-ahead Broken rest = unreadable
+unfoldable pub ahead : Option Six → Numbers → Numbers
+ahead (Some x) rest = front (x.seat ∷ x.user ∷ x.role ∷ x.entity ∷ x.parent ∷ x.kind ∷ []) rest
+ahead None rest = unreadable
 
 -- the members of a set from i on, n of them, as tests
 unfoldable pub members : ℕ → ℕ → ℕ → List Bool

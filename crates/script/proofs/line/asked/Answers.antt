@@ -15,4 +15,4 @@ returns-in_default c =
 
 pub returns : goal.returns
 returns c =
-    λ h at l o d. c.second.ensures ∙ asks_by _ _ _ _ c.in-Numbers.is ∙ read_halves o d c.if-row.false _ _ c.if-word-ge-NO_WORD.false c.uses-uses.ensures c.first.ensures
+    λ h at l o d. c.second.ensures ∙ asks_by _ _ _ _ c.in-Some.is ∙ read_halves o d c.if-row.false _ _ c.if-word-ge-NO_WORD.false c.uses-uses.ensures c.first.ensures
