@@ -3,12 +3,11 @@ pub mod Texts
 pub mod ByKey
 pub mod ValuesInTurn
 pub mod FirstValue
-pub mod CodeForms
 pub mod FieldsTaken
 pub mod NamePlaces
-pub mod RowUnderHeader
 pub mod WordAtFront
 pub mod FoundValue
+pub mod RowUnderHeader
 pub mod RowLoop
 pub mod RowStores
 pub mod LineOfRow

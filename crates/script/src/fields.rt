@@ -1,5 +1,5 @@
 // The fields of a row, taken apart in the order of the names.
-ghost use Rattle.std.specs.Prelude.{◌-◌, ◌<◌, ◌≡◌, [], Some};
+ghost use Rattle.std.specs.Prelude.{◌-◌, ◌<◌, ◌≤◌, ◌≡◌, [], Some, MatchOption};
 ghost use Rattle.bitset.specs.Sets.{has};
 ghost use Rattle.script.specs.Line.{Numbers, these, used, asks};
 ghost use Rattle.script.specs.Private.Rows.{no_word, field_count, taken_as, take_from, ahead, members};
@@ -44,11 +44,11 @@ const USES: [u16; limits::WORDS] = [
     0b10000000001010, // unjoin
 ];
 
-pub fn uses(word: u32) -> u16
-    requires { word < no_word }
-    ensures { members result 1 field_count ≡ used word }
+// The fields that a word uses, if it is a word.
+pub fn uses(word: u32) -> Option<u16>
+    ensures { MatchOption result (no_word ≤ word) (λ uses. (word < no_word) × (members uses 1 field_count ≡ used word)) }
 {
-    USES[word as usize]
+    USES.get(word as usize).copied()
 }
 
 // A field i that the word uses must be a number, and any other a dash, which stands as 0; else it has a fault.

@@ -72,21 +72,19 @@ fn take_names(mut r: Runner, s: &[u8], out: &mut [u8]) -> Said
     requires { line_room ≤ length out.old }
     ensures { Named r s.now out.old out.new result }
 {
-    let order = header::header(s);
-    if order.good {
-        let at = order.at;
-        r.at = at;
-        r.phase = AT_LINES;
-        r.done = 1;
-        r.skip = false;
-        return Said {
-            runner: r,
-            wrote: 0,
-        };
+    let Some(at) = header::header(s) else {
+        let wrote = print::put_line(print::numeral_of(1), limits::UNREAD, out);
+        r.phase = AT_END;
+        return Said { runner: r, wrote };
+    };
+    r.at = at;
+    r.phase = AT_LINES;
+    r.done = 1;
+    r.skip = false;
+    Said {
+        runner: r,
+        wrote: 0,
     }
-    let wrote = print::put_line(print::numeral_of(1), limits::UNREAD, out);
-    r.phase = AT_END;
-    Said { runner: r, wrote }
 }
 
 impl Runner {
