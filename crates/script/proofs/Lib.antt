@@ -21,7 +21,6 @@ pub mod LeftToTell
 pub mod Onward
 pub mod PieceLoop
 pub mod StepReturns
-pub mod ShiftLoop
 pub mod RequestRows
 pub mod LinesInBatch
 pub mod GatherLoop

@@ -1,6 +1,7 @@
 -- Lines of values in a batch. The contracts of the batch's private functions are put in these words; the report does not
 -- cite them.
 use Rattle.std.specs.Prelude.{ℕ, ◌+◌, ◌-◌, ◌*◌, ◌≤◌, ◌<◌, ◌≡◌, Bool, true, false, not, List, [], ◌∷◌, ◌++◌, length, take, drop, get_or}
+use Rattle.std.specs.Int.{from_bool}
 use Rattle.guard.specs.Step.{run, answers}
 use Rattle.guard.specs.Batch.{row_length, requests}
 use Rattle.guard.specs.Private.Inside.{row_of}
@@ -35,9 +36,8 @@ is_allowed shut Bad = false
 
 -- ---- the output for lines
 -- `marks` tells of each line whether it asks a request; how many do
-unfoldable pub one : Bool → ℕ
-one true = 1
-one false = 0
+abbrev pub one : Bool → ℕ
+one m = from_bool m
 
 unfoldable pub asked : List Bool → ℕ
 asked [] = 0
