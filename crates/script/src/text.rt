@@ -12,36 +12,16 @@ use crate::{digit, limits};
 pub fn find(s: &[u8], d: u8) -> usize
     ensures { result ≡ length (before d s.now) }
 {
-    let mut i = 0;
-    while i < s.len() {
-        if s[i] == d {
-            return i;
-        }
-        i += 1;
-    }
-    i
+    s.iter().position(|&b| b == d).unwrap_or(s.len())
 }
 
 // Where the first value ends: before a space, byte 10 or the end.
 pub fn span(s: &[u8]) -> usize
     ensures { result ≡ length (leading s.now) }
 {
-    let mut i = 0;
-    while i < s.len() {
-        let b = s[i];
-        if 32 < b {
-            i += 1;
-            continue;
-        }
-        if b == 32 {
-            return i;
-        }
-        if b == 10 {
-            return i;
-        }
-        i += 1;
-    }
-    i
+    s.iter()
+        .position(|&b| b == b' ' || b == b'\n')
+        .unwrap_or(s.len())
 }
 
 // Where the line ends that goes on at `from`.
