@@ -50,17 +50,14 @@ pub fn value(s: &[u8]) -> Value
         return Value::Other;
     }
     let mut n: u32 = 0;
-    let mut i = 0;
-    while i < s.len() {
-        let b = s[i];
+    for &b in s {
         if b < b'0' {
             return Value::Other;
         }
         if b'9' < b {
             return Value::Other;
         }
-        n = digit::append(n, b as u32 - 48);
-        i += 1;
+        n = digit::append(n, u32::from(b) - 48);
     }
     Value::Digits(n)
 }
@@ -73,10 +70,8 @@ fn key(s: &[u8]) -> u64
         return 0;
     }
     let mut k: u64 = 1;
-    let mut i = 0;
-    while i < s.len() {
-        k = 256 * k + s[i] as u64;
-        i += 1;
+    for &b in s {
+        k = 256 * k + u64::from(b);
     }
     k
 }
