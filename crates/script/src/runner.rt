@@ -4,7 +4,6 @@
 ghost use Rattle.std.specs.Prelude.{◌≤◌, ◌<◌, ◌≡◌, ◌≢◌, length};
 ghost use Rattle.script.specs.Report.{line_room, last_line};
 ghost use Rattle.script.specs.Private.Slices.{before};
-ghost use Rattle.script.specs.Private.LineBatch.{Lent};
 ghost use Rattle.script.specs.Run.{unbegun, is_over, Finished};
 ghost use Rattle.script.specs.Private.Steps.{Spoken, Named, Stepped};
 ghost use Rattle.script.specs.declared.runner.Phase.TheVariants.{Heading, Names, Lines};
@@ -221,19 +220,19 @@ fn values_step(mut r: Runner, piece: &[u8], end: bool, out: &mut [u8]) -> Ran
     idle(r)
 }
 
-// The names line; or whole lines of values, as many as a batch takes, and where there is none, the one line that is left. The
-// last four are room for a batch.
-fn one(
-    mut r: Runner,
-    piece: &[u8],
-    end: bool,
-    out: &mut [u8],
-    rows: &mut [u32],
-    marks: &mut [bool],
-    answers: &mut [u8],
-    roles: &mut [u8],
-) -> Ran
-    requires { (r.phase ≢ Heading) × Lent rows.old marks.old answers.old roles.old }
+// Room for a batch: its requests as rows, of each line whether it asks one, the answers, and the roles told, which are not
+// printed.
+#[derive(Drop)]
+struct Room {
+    rows: [u32; limits::BATCH_NUMBERS],
+    marks: [bool; limits::BATCH],
+    answers: [u8; limits::BATCH],
+    roles: [u8; limits::BATCH],
+}
+
+// The names line; or whole lines of values, as many as a batch takes, and where there is none, the one line that is left.
+fn one(mut r: Runner, piece: &[u8], end: bool, out: &mut [u8], room: &mut Room) -> Ran
+    requires { r.phase ≢ Heading }
     ensures { Stepped r piece.now end out.old out.new result }
 {
     match r.phase {
@@ -246,15 +245,15 @@ fn one(
     }
     let at = r.at;
     let most = batch::most(r.done, out.len());
-    let g = batch::gather(piece, at, most, r.shut, rows, marks);
+    let g = batch::gather(piece, at, most, r.shut, &mut room.rows, &mut room.marks);
     let lines = g.lines;
     if lines == 0 {
         return values_step(r, piece, end, out);
     }
     let n = sizes::ROW * g.count;
     let t = r.tables;
-    let next = t.run(&rows[..n], answers, roles);
-    let wrote = batch::put_answers(marks, answers, lines, r.done + 1, out);
+    let next = t.run(&room.rows[..n], &mut room.answers, &mut room.roles);
+    let wrote = batch::put_answers(&room.marks, &room.answers, lines, r.done + 1, out);
     r.tables = next;
     r.shut = g.shut;
     r.done = r.done + lines as u32;
@@ -270,24 +269,17 @@ fn work(r: Runner, piece: &[u8], end: bool, out: &mut [u8]) -> Ran
     requires { r.phase ≢ Heading }
     ensures { Finished r piece.now end out.old out.new result }
 {
-    let mut rows = [0u32; limits::BATCH_NUMBERS];
-    let mut marks = [false; limits::BATCH];
-    let mut answers = [0u8; limits::BATCH];
-    let mut roles = [0u8; limits::BATCH];
+    let mut room = Room {
+        rows: [0; limits::BATCH_NUMBERS],
+        marks: [false; limits::BATCH],
+        answers: [0; limits::BATCH],
+        roles: [0; limits::BATCH],
+    };
     let mut held = r;
     let mut at = 0;
     let mut wrote = 0;
     loop {
-        let ran = one(
-            held,
-            &piece[at..],
-            end,
-            &mut out[wrote..],
-            &mut rows,
-            &mut marks,
-            &mut answers,
-            &mut roles,
-        );
+        let ran = one(held, &piece[at..], end, &mut out[wrote..], &mut room);
         let next = ran.runner;
         held = next;
         at = at + ran.used;
