@@ -25,7 +25,7 @@ use Rattle.guard.proofs.Filling.{length_tabulate}
 use Rattle.guard.proofs.Logs.{length_each}
 use Rattle.script.specs.Report.{line_text, last_line}
 use Rattle.script.specs.Private.Slices.{written, Put}
-use Rattle.script.specs.Run.{at_lines, bench, bench_of, told_first, from_line, rest, Goes}
+use Rattle.script.specs.Run.{bench, bench_of, told_first, from_line, rest, Goes}
 use Rattle.script.specs.Private.Steps.{Stepped}
 use Rattle.script.specs.Private.LineBatch.{batch_lines, one, asked, said, texts, Most, Batched}
 use Rattle.script.specs.declared.runner.Runner.{Runner}
@@ -34,6 +34,9 @@ use Rattle.script.specs.Proof.Silent.{rest_lines}
 use Rattle.script.proofs.Texts.{put_nil, put_then, line_length}
 use Rattle.script.proofs.ValuesInTurn.{to_end}
 use Rattle.script.proofs.RequestRows.{requests_take}
+use Rattle.script.specs.declared.runner.Phase.TheVariants.{Lines}
+use Rattle.script.proofs.Onward.{begun}
+use Rattle.script.proofs.StepReturns.{lines_later}
 use Rattle.script.proofs.PieceLoop.{ran, worked, stepped, tail_back}
 use Rattle.script.proofs.LinesInBatch.{asked_snoc, asked_few, texts_snoc, texts_given, texts_length}
 
@@ -133,7 +136,7 @@ pub room_for : {at s rows : List ℕ} {shut : Bool} {marks : List Bool} (told : 
 room_for told most took some d = (took.marked, omega (arith, took.few, most.fits), omega (arith, took.few, most.space), omega (arith, some, took.few, most.last))
 
 module _ (r : Runner) (piece old new : List ℕ) (end : Bool) (g : Gathered) (u : Tables) (rows : List ℕ) (marks : List Bool) (given told old_roles roles : List ℕ) (m n : ℕ)
-    (p : r.phase ≡ at_lines) (k : r.skip ≡ false) (most : Most r.done (length old) m) (took : Batched r.at r.shut piece m rows marks g)
+    (p : r.phase ≡ Lines) (k : r.skip ≡ false) (most : Most r.done (length old) m) (took : Batched r.at r.shut piece m rows marks g)
     (some : g.lines ≡ 0 → ⊥) (deep : length given ≡ batch_lines) (wide : length old_roles ≡ batch_lines)
     (did : RunsBatch r.tables (take (row_length * g.count) rows) given told old_roles roles u)
     (puts : Put old 0 (texts (r.done + 1) (take g.lines marks) told) new n) where
@@ -171,14 +174,11 @@ module _ (r : Runner) (piece old new : List ℕ) (end : Bool) (g : Gathered) (u 
   goes header f =
       record {
         known = header;
-        fits = record { opens = λ h. absurd (past h); knows = λ h. f.knows p };
+        fits = record { opens = λ h. absurd (begun p h); knows = λ h. f.knows p };
         same = λ more e.
             rest_lines header r (piece ++ more) p ∙ (rw k) ∙ took.goes header (f.knows p) r.tables r.done last more ∙ (rw (← words, ← there))
             ∙ ap (told_first (texts (r.done + 1) asks told)) (sym (later header more));
       }
-    where
-      past : r.phase < 2 → ⊥
-      past h = omega arith
 
   fit : length (texts (r.done + 1) asks told) ≤ length old
   fit = omega (arith, texts_length (r.done + 1) asks told, length-take g.lines marks, took.few, most.space)
@@ -186,4 +186,4 @@ module _ (r : Runner) (piece old new : List ℕ) (end : Bool) (g : Gathered) (u 
   pub batch_done : Stepped r piece end old new (ran then g.used n)
   batch_done =
       stepped (worked r then piece end old new (texts (r.done + 1) asks told) g.used n puts fit took.within goes)
-      (omega arith) (took.moves (omega (arith, some)))
+      (λ h. lines_later p h) (took.moves (omega (arith, some)))

@@ -14,14 +14,15 @@ use native.Mathlib.Omega.{arith}
 use mir.Syntax.{w8}
 use mir.Val.{Fits}
 use lib.Dec.{leb, ltb, eqb}
-use lib.ListN.{length, get_or, drop, drop_of_length-le}
+use lib.ListN.{length, get_or, drop, drop_of_length-le, length-map}
 use lib.Seq.{drop-cons}
-use borrow.Author.Tests.{le-leb, lt-leb, eq-eqb, ne_eqb, eqb-true, leb-true, leb-false, ltb-true}
+use borrow.Author.Tests.{le-leb, lt-leb, eq-eqb, ne_eqb, eqb-true, leb-true, leb-false, ltb-true, le-ltb}
 use Rattle.bitset.specs.Tests.Laws.{both}
 use Rattle.script.specs.Text.{bytes, same}
 use Rattle.script.specs.Names.{names, optional_names, all_names, column}
 use Rattle.script.specs.Line.{request_words, words}
-use Rattle.script.specs.Private.ShortTexts.{packed, text_key, spot}
+use Rattle.std.specs.Prelude.{None}
+use Rattle.script.specs.Private.ShortTexts.{packed, text_key, spot, below, place_in}
 
 -- ---- the loop that makes a key: k is the first i bytes
 pub record Packed (s : List ℕ) (k i : ℕ) : Type 0 where
@@ -178,6 +179,10 @@ spot_none {A} t k (n ∷ ns) p m = go (t n) refl (spot_none t k ns p) (spot_none
     go true e one other m = let h = one m in (h.0.0, rw (ne_eqb k n h.0.1, h.1))
     go false e one other m = let h = other m in (h.0, rw (ne_eqb k n (λ i. true≢false (sym p ∙ ap t i ∙ e)), h.1))
 
+-- what stands behind the last place is none
+pub none_below_it : (n i : ℕ) → i ≡ n → None ≡ below n i
+none_below_it n i e = rw (e, le-ltb n n (omega arith))
+
 -- ns are the keys of qs
 pub record Keyed (qs : List (List ℕ)) (ns : List ℕ) : Type 0 where
   pub keys : map text_key qs ≡ ns
@@ -188,11 +193,15 @@ module _ {qs : List (List ℕ)} {ns : List ℕ} (y : Keyed qs ns) (s : List ℕ)
   by_number : spot k ns ≡ column s qs
   by_number = ap (λ (n : ℕ). spot n ns) h ∙ ap (spot (text_key s)) (sym y.keys) ∙ by_key s qs (λ i. (p i).fits) y.fit
 
-  pub at_key : {n : ℕ} → k ≡ n → spot n ns ≡ column s qs
-  at_key e = ap (λ (n : ℕ). spot n ns) (sym e) ∙ by_number
+  placed : below (length ns) (spot k ns) ≡ place_in s qs
+  unfolding place_in
+  placed = rw (by_number, ← y.keys, length-map qs text_key)
 
-  pub at_none : Misses (Unit {0}) k (kept (λ n. true) ns) → length ns ≡ column s qs
-  at_none m = sym (spot_none (λ n. true) k ns refl m).1 ∙ by_number
+  pub at_key : {n : ℕ} → k ≡ n → below (length ns) (spot n ns) ≡ place_in s qs
+  at_key e = ap (λ (n : ℕ). below (length ns) (spot n ns)) (sym e) ∙ placed
+
+  pub at_none : Misses (Unit {0}) k (kept (λ n. true) ns) → None ≡ place_in s qs
+  at_none m = none_below_it (length ns) _ (spot_none (λ n. true) k ns refl m).1 ∙ placed
 
 -- ---- the keys of the names and of the words
 abbrev name_keys : List ℕ

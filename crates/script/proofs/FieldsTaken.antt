@@ -17,40 +17,38 @@ use Rattle.bitset.specs.Sets.{has}
 use Rattle.bitset.specs.Tests.{all}
 use Rattle.bitset.specs.Tests.Laws.{all_e}
 use Rattle.guard.proofs.Compute.{computing}
+use Rattle.std.specs.Prelude.{Option, Some, None}
 use Rattle.script.specs.Line.{user_word, call_of, Numbers, these, unreadable, joined, asks, used, is_used, ordinal, fields, optional_fields}
 use Rattle.script.specs.Private.Rows.{no_word, field_count, taken_as, joins, take_from, front, ahead, members}
 use Rattle.script.specs.declared.line.Line.TheVariants.{Ask, SetUser, Bad}
-use Rattle.script.specs.declared.fields.Taken.{Taken}
-use Rattle.script.specs.declared.fields.Taken.TheVariants.{Number, Fault}
 use Rattle.script.specs.declared.fields.Six.{Six}
-use Rattle.script.specs.declared.fields.Half.TheVariants.{Numbers as Whole}
 
 -- ---- one field: used or not, and a number or not
 module _ (u g : Bool) (n : ℕ) {a b : Bool} (h : a ≡ u) (k : b ≡ g) where
-  pub field_missing : (a && not b) ≡ true → Fault ≡ taken_as u g n
+  pub field_missing : (a && not b) ≡ true → None ≡ taken_as u g n
   unfolding taken_as
   field_missing e = rw (← h, ← k) (go a b e)
     where
-      go : (a b : Bool) → (a && not b) ≡ true → Fault ≡ taken_as a b n
+      go : (a b : Bool) → (a && not b) ≡ true → None ≡ taken_as a b n
       go true true e = cc
       go true false e = refl
       go false b e = cc
 
-  pub field_extra : (b && not a) ≡ true → Fault ≡ taken_as u g n
+  pub field_extra : (b && not a) ≡ true → None ≡ taken_as u g n
   unfolding taken_as
   field_extra e = rw (← h, ← k) (go a b e)
     where
-      go : (a b : Bool) → (b && not a) ≡ true → Fault ≡ taken_as a b n
+      go : (a b : Bool) → (b && not a) ≡ true → None ≡ taken_as a b n
       go true true e = cc
       go true false e = refl
       go false true e = refl
       go false false e = cc
 
-  pub field_number : (a && not b) ≡ false → (b && not a) ≡ false → Number n ≡ taken_as u g n
+  pub field_number : (a && not b) ≡ false → (b && not a) ≡ false → Some n ≡ taken_as u g n
   unfolding taken_as
   field_number e f = rw (← h, ← k) (go a b e f)
     where
-      go : (a b : Bool) → (a && not b) ≡ false → (b && not a) ≡ false → Number n ≡ taken_as a b n
+      go : (a b : Bool) → (a && not b) ≡ false → (b && not a) ≡ false → Some n ≡ taken_as a b n
       go true true e f = refl
       go true false e f = cc
       go false true e f = cc
@@ -84,31 +82,31 @@ pub took_none : {u g : ℕ} {v : List ℕ} {i : ℕ} → Took u g v i 0 []
 unfolding take_from front
 took_none = record { so = λ x. refl }
 
-module _ {u g : ℕ} {v : List ℕ} {i k : ℕ} {ns : List ℕ} {r : Taken} (p : Took u g v i k ns) (h : r ≡ taken_as (has u (i + k)) (has g (i + k)) (get_or v (i + k) 0)) where
-  pub took : {n : ℕ} → r ≡ Number n → Took u g v i (k + 1) (ns ++ (n ∷ []))
+module _ {u g : ℕ} {v : List ℕ} {i k : ℕ} {ns : List ℕ} {r : Option ℕ} (p : Took u g v i k ns) (h : r ≡ taken_as (has u (i + k)) (has g (i + k)) (get_or v (i + k) 0)) where
+  pub took : {n : ℕ} → r ≡ Some n → Took u g v i (k + 1) (ns ++ (n ∷ []))
   unfolding take_from joins
   took {n} e =
       record {
         so = λ x.
             take_split u g v i k 1 x
             ∙ p.so _
-            ∙ ap (λ (t : Taken). front ns (joins t x)) (sym h ∙ e)
+            ∙ ap (λ (t : Option ℕ). front ns (joins t x)) (sym h ∙ e)
             ∙ sym (front_more ns n x);
       }
 
-  pub faulty : r ≡ Fault → (m : ℕ) (x : Numbers) → take_from u g v i (k + suc m) x ≡ unreadable
+  pub faulty : r ≡ None → (m : ℕ) (x : Numbers) → take_from u g v i (k + suc m) x ≡ unreadable
   unfolding take_from joins
   faulty e m x =
-      take_split u g v i k (suc m) x ∙ p.so _ ∙ ap (λ (t : Taken). front ns (joins t (take_from u g v (suc (i + k)) m x))) (sym h ∙ e) ∙ front_bad ns
+      take_split u g v i k (suc m) x ∙ p.so _ ∙ ap (λ (t : Option ℕ). front ns (joins t (take_from u g v (suc (i + k)) m x))) (sym h ∙ e) ∙ front_bad ns
 
 -- ---- what the line asks
 module _ (w : ℕ) (six : Six) (x : Numbers) where
-  pub asks_bad : x ≡ unreadable → Bad ≡ asks w (ahead (Whole six) x)
+  pub asks_bad : x ≡ unreadable → Bad ≡ asks w (ahead (Some six) x)
   unfolding asks ahead front joined
   asks_bad h = rw h
 
   module _ (name level cats rights ceiling shared junior : ℕ) (h : x ≡ these (name ∷ level ∷ cats ∷ rights ∷ ceiling ∷ shared ∷ junior ∷ [])) where
-    pub asks_user : w ≡ user_word → SetUser six.user level cats ceiling ≡ asks w (ahead (Whole six) x)
+    pub asks_user : w ≡ user_word → SetUser six.user level cats ceiling ≡ asks w (ahead (Some six) x)
     unfolding asks ahead front joined
     asks_user e = rw (h, e)
 
@@ -129,7 +127,7 @@ module _ (w : ℕ) (six : Six) (x : Numbers) where
           shared = shared;
           junior = junior;
         })
-        ≡ asks w (ahead (Whole six) x)
+        ≡ asks w (ahead (Some six) x)
     unfolding asks ahead front joined
     asks_request e = rw (h, ne_eqb w user_word e)
 

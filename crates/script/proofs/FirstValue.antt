@@ -1,5 +1,5 @@
 -- The first value of a line, and where it ends.
---     span_space, span_line, span_more, span_end       the loop that looks for its end
+--     leading_place                                    where it ends
 --     before_drop, before_rest                         what stands before a byte, from some byte on
 --     before_again, before_part, before_all            what holds no such byte
 --     lead_most, lead_take, lead_more, lead_last       the first value of a line; whether a space stands behind it
@@ -9,35 +9,30 @@
 -- Assumes nothing.
 use Prim.Native.Nat.{ℕ, zero, suc, ◌+◌, ◌-◌, ◌≤◌, ◌<◌}
 use mathlib.Core.Path.{◌≡◌, refl, ap, sym, ◌∙◌}
-use mathlib.Core.Bool.{Bool, true, false, not, cond, ◌&&◌}
+use mathlib.Core.Bool.{Bool, true, false, not, cond, ◌&&◌, ◌||◌}
 use mathlib.Core.List.{List, [], ◌∷◌, ◌++◌}
 use native.Mathlib.Numerals.{add-one}
-use native.Mathlib.Nat.{add-zero}
 use native.Mathlib.Omega.{arith}
 use lib.Dec.{eqb}
-use lib.ListN.{length, get_or, take, drop, length-drop, drop_of_length-le}
+use lib.ListN.{length, get_or, take, drop, length-drop}
 use lib.Seq.{drop-cons, length-take-le, take_all}
 use borrow.Author.Tests.{eqb-true, ne_eqb}
+use Rattle.bitset.specs.Tests.Laws.{or-true, or-false}
 use Rattle.script.specs.Private.Slices.{before, leading}
 use Rattle.script.proofs.ValuesInTurn.{before_take, before_most, to_end}
 
--- ---- the loop
-module _ (s : List ℕ) (i : ℕ) (h : length (leading s) ≡ i + length (leading (drop i s))) where
-  pub span_space : i < length s → get_or s i 0 ≡ 32 → i ≡ length (leading s)
-  unfolding before
-  span_space l e = sym (h ∙ (rw (drop-cons s i 0 l, e, add-zero)))
-
-  pub span_line : i < length s → get_or s i 0 ≡ 10 → i ≡ length (leading s)
-  unfolding before
-  span_line l e = sym (h ∙ (rw (drop-cons s i 0 l, e, add-zero)))
-
-  pub span_more : i < length s → (get_or s i 0 ≡ 32 → ⊥) → (get_or s i 0 ≡ 10 → ⊥) → length (leading s) ≡ (i + 1) + length (leading (drop (i + 1) s))
-  unfolding before
-  span_more l e f = h ∙ (rw (drop-cons s i 0 l, ne_eqb (get_or s i 0) 10 f, ne_eqb (get_or s i 0) 32 e, add-one) (omega arith))
-
-  pub span_end : length s ≤ i → i ≡ length (leading s)
-  unfolding before
-  span_end l = sym (h ∙ (rw (drop_of_length-le s l, add-zero)))
+-- ---- the first value ends at the first space or byte 10
+pub leading_place : (x : ℕ) (xs : List ℕ) → length (leading (x ∷ xs)) ≡ cond (eqb x 32 || eqb x 10) 0 (1 + length (leading xs))
+unfolding before
+leading_place x xs = go (eqb x 10)
+  where
+    go : (a : Bool) → length (before 32 (cond a [] (x ∷ before 10 xs))) ≡ cond (eqb x 32 || a) 0 (1 + length (leading xs))
+    go true = rw (or-true (eqb x 32))
+    go false = rw (or-false (eqb x 32)) (last (eqb x 32))
+      where
+        last : (t : Bool) → length (cond t [] (x ∷ before 32 (before 10 xs))) ≡ cond t 0 (1 + length (leading xs))
+        last true = refl
+        last false = omega arith
 
 -- ---- what stands before a byte, from byte n on
 pub before_drop : (d n : ℕ) (s : List ℕ) → n ≤ length (before d s) → drop n (before d s) ≡ before d (drop n s)

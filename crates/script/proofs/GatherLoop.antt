@@ -167,10 +167,11 @@ module _ {at s : List ℕ} {first shut : Bool} {rows new : List ℕ} {marks : Li
   taken_next = rw (more, w, b) (taken_more h (to_end used s) low free len is l a)
 
 pub taken_all : {at s : List ℕ} {first shut : Bool} {rows : List ℕ} {marks : List Bool} {count lines used : ℕ} (most : ℕ)
-    → Taken at s first rows marks count lines used shut → lines ≤ most → most ≤ length marks → row_length * most ≤ length rows
-    → Batched at first s most rows marks (record { count = count; lines = lines; used = used; shut = shut })
-taken_all most h l m r =
-    record {
+    → Taken at s first rows marks count lines used shut → {n : ℕ} → n ≡ lines → lines ≤ most → most ≤ length marks → row_length * most ≤ length rows
+    → Batched at first s most rows marks (record { count = count; lines = n; used = used; shut = shut })
+taken_all most h e l m r =
+    rw e
+    (record {
       few = l;
       within = h.within;
       moves = λ z. omega (arith, h.moves);
@@ -178,4 +179,4 @@ taken_all most h l m r =
       stored = omega (arith, count_few h);
       count = h.counted;
       goes = h.goes;
-    }
+    })

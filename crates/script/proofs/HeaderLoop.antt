@@ -1,19 +1,21 @@
--- The order of columns, as a loop over the line of names finds it: the names so far, and the set of those seen, with what is none.
+-- The order of columns, as a loop over the line of names finds it: the names so far, and the set of those seen.
 --     every_map                                     a test met by each element of a list
---     stands, name_fits                             which names have come; a name's number fits a set of sixteen
+--     stands, name_known_at                         which names have come; a name's place
 --     Seen, seen_start, seen_few, seen_more         the loop
---     seen_again, seen_end                          its two ends: one that is none or stands twice, and the last
+--     seen_none, seen_again, seen_end               its ends: one that is none, one that stands twice, and the last
 -- Assumes nothing.
 use Prim.Native.Nat.{ℕ, suc, ◌+◌, ◌-◌, ◌≤◌, ◌<◌}
 use mathlib.Core.Path.{◌≡◌, refl, ap, sym, ◌∙◌}
 use mathlib.Core.Bool.{Bool, true, false, ◌||◌, and-eq-true_iff}
 use mathlib.Core.List.{List, [], ◌∷◌, map}
-use native.Mathlib.Decide.{dec_lt, ℕ_discrete}
+use native.Mathlib.Decide.{dec_lt}
 use native.Mathlib.Omega.{arith}
-use lib.Dec.{eqb}
+use lib.Dec.{eqb, ltb}
 use lib.ListN.{length, get_or, set, take, drop, replicate, length-set, get_or-replicate, get_or-eq_default}
 use lib.Seq.{get_or-set_same, get_or-set_other}
-use borrow.Author.Tests.{eqb-true, eqb-false, eq-eqb}
+use borrow.Author.Tests.{eqb-true, eqb-false, eq-eqb, lt-ltb, ltb-true}
+use Rattle.std.specs.Prelude.{Some, None, MatchOption}
+use Rattle.std.specs.Bool.{then_some}
 use Rattle.bitset.specs.Sets.{has, with, contains}
 use Rattle.bitset.specs.Sets.Laws.{has_none, has_with_same, has_with_other, has_below, has_contains, contains_has}
 use Rattle.bitset.specs.Tests.{every, all, some}
@@ -21,9 +23,10 @@ use Rattle.bitset.specs.Tests.Laws.{all_e, both, clash, is_false, every_i, some_
 use Rattle.script.specs.Text.{values}
 use Rattle.script.specs.Names.{names, all_names, column, among, is_names, Ordered}
 use Rattle.script.specs.Private.Slices.{before}
+use Rattle.script.specs.Private.ShortTexts.{place_in}
 use Rattle.script.specs.Private.Rows.{name_count}
 use Rattle.script.proofs.ValuesInTurn.{Reached, reached_start, reached_some, reached_here, reached_end, reached_next}
-use Rattle.script.proofs.NamePlaces.{column_most, column_found, among_found, among_i, twice_i, names_length, no_name, twelve, twelve_at, named_alike, Different, different_few, name_among, name_known, name_apart}
+use Rattle.script.proofs.NamePlaces.{column_found, among_found, among_i, twice_i, names_length, no_name, twelve, twelve_at, named_alike, Different, different_few, name_among, name_known, name_apart}
 
 -- the name i stands at one of the first n places
 unfoldable pub stands : List (List ℕ) → ℕ → ℕ → Bool
@@ -78,9 +81,16 @@ module _ (h : List (List ℕ)) (n seen : ℕ) (long : length h ≡ n) (different
   seen_names : contains seen 4095 ≡ is_names h
   seen_names = both _ _ names_there names_back
 
+-- a name's place
+pub name_known_at : (p : List ℕ) (n : ℕ) → Some n ≡ place_in p all_names → (n ≡ column p all_names) × (n < name_count)
+unfolding place_in
+name_known_at p n e = go (ltb (column p all_names) (length all_names)) refl e
+  where
+    go : (b : Bool) → ltb (column p all_names) (length all_names) ≡ b → Some n ≡ then_some b (column p all_names) → (n ≡ column p all_names) × (n < name_count)
+    go true t e = let same : n ≡ column p all_names = cc in (same, omega (arith, ltb-true _ _ t, names_length))
+    go false t e = let z : ◌≡◌ {A = ℕ} 0 1 = cc in absurd (omega arith)
+
 -- ---- the loop
-pub name_fits : (p : List ℕ) (n : ℕ) → n ≡ column p all_names → n < 16
-name_fits p n e = omega (arith, column_most p all_names, names_length)
 
 pub record Seen (s at : List ℕ) (seen from j : ℕ) : Type 0 where
   pub reached : Reached s from j
@@ -88,49 +98,62 @@ pub record Seen (s at : List ℕ) (seen from j : ℕ) : Type 0 where
   pub place : (k : ℕ) → k < j → get_or at k 0 ≡ column (get_or (values s) k []) all_names
   pub none : (k : ℕ) → j ≤ k → k < 16 → get_or at k 0 ≡ name_count
   pub is : (i : ℕ) → i < name_count → has seen i ≡ stands (values s) j i
-  pub shut : has seen name_count ≡ true
   pub different : Different (values s) j
 
-pub seen_start : (s : List ℕ) {m : ℕ} → m ≡ with 0 name_count → Seen s (replicate 16 name_count) m 0 0
+pub seen_start : (s : List ℕ) → Seen s (replicate 16 name_count) 0 0 0
 unfolding stands
-seen_start s {m} w =
+seen_start s =
     record {
       reached = reached_start s;
       long = refl;
       place = λ k l. absurd (none_below k l);
       none = λ k l h. get_or-replicate 16 k name_count 0 h;
-      is = λ i l. rw w (has_with_other 0 name_count i (λ e. omega arith) ∙ has_none i) ∙ sym (some_none _);
-      shut = rw w (has_with_same 0 name_count);
+      is = λ i l. has_none i ∙ sym (some_none _);
       different = record { known = λ k l. absurd (none_below k l); apart = λ a b l m. absurd (none_below b m) };
     }
 
 pub seen_few : {s at : List ℕ} {seen from j : ℕ} → Seen s at seen from j → j ≤ name_count
 seen_few {s} {at} {seen} {from} {j} p = different_few (values s) j p.different
 
-module _ {s at : List ℕ} {seen from j e n : ℕ} (p : Seen s at seen from j) (f : e ≡ length (before 32 (take (length s - from) (drop from s))))
-    (c : n ≡ column (take e (take (length s - from) (drop from s))) all_names) where
-  name_here : n ≡ column (get_or (values s) j []) all_names
-  name_here = c ∙ ap (λ (v : List ℕ). column v all_names) (reached_here p.reached f)
+module _ {s at : List ℕ} {seen from j e : ℕ} (p : Seen s at seen from j) (f : e ≡ length (before 32 (take (length s - from) (drop from s)))) where
+  -- it is none of the names
+  pub seen_none : None ≡ place_in (take e (take (length s - from) (drop from s))) all_names → is_names (values s) ≡ false
+  unfolding place_in
+  seen_none c = is_false (is_names (values s)) (λ g. go (ltb _ _) (known g) c)
+    where
+      here : get_or (values s) j [] ≡ take e (take (length s - from) (drop from s))
+      here = sym (reached_here p.reached f)
 
-  -- it is none of the names, or stands twice
-  pub seen_again : has seen n ≡ true → (at2 : List ℕ) → (false ≡ is_names (values s)) × (false ≡ true → Ordered (values s) at2)
+      known : is_names (values s) ≡ true → ltb (column (take e (take (length s - from) (drop from s))) all_names) (length all_names) ≡ true
+      known g =
+          lt-ltb _ _ (omega (arith, names_length, ap (λ (v : List ℕ). column v all_names) here, name_known (values s) g j (reached_some p.reached)))
+
+      go : (b : Bool) → b ≡ true → None ≡ then_some b (column (take e (take (length s - from) (drop from s))) all_names) → ⊥
+      go true t c = let z : ◌≡◌ {A = ℕ} 0 1 = cc in omega arith
+      go false t c = clash false t refl
+
+module _ {s at : List ℕ} {seen from j e n : ℕ} (p : Seen s at seen from j) (f : e ≡ length (before 32 (take (length s - from) (drop from s))))
+    (c : Some n ≡ place_in (take e (take (length s - from) (drop from s))) all_names) where
+  found : (n ≡ column (take e (take (length s - from) (drop from s))) all_names) × (n < name_count)
+  found = name_known_at _ n c
+
+  name_here : n ≡ column (get_or (values s) j []) all_names
+  name_here = found.0 ∙ ap (λ (v : List ℕ). column v all_names) (reached_here p.reached f)
+
+  known_here : n < name_count
+  known_here = found.1
+
+  -- it stands twice
+  pub seen_again : has seen n ≡ true → is_names (values s) ≡ false
   unfolding stands
-  seen_again h at2 = (sym (is_false (is_names (values s)) twice), λ t. absurd (clash false t refl))
+  seen_again h = is_false (is_names (values s)) twice
     where
       twice : is_names (values s) ≡ true → ⊥
       twice g =
-          let l : n < name_count = rw (← name_here) at (name_known (values s) g j (reached_some p.reached)) in
-          let (k, m, q) = some_e j (λ k. eqb (column (get_or (values s) k []) all_names) n) (sym (p.is n l) ∙ h) in
-          name_apart (values s) g k j m (reached_some p.reached) (named_alike _ _ (eqb-true _ _ q ∙ name_here) (rw (← name_here) l))
+          let (k, m, q) = some_e j (λ k. eqb (column (get_or (values s) k []) all_names) n) (sym (p.is n known_here) ∙ h) in
+          name_apart (values s) g k j m (reached_some p.reached) (named_alike _ _ (eqb-true _ _ q ∙ name_here) (rw (← name_here) known_here))
 
   module _ {m : ℕ} (w : m ≡ with seen n) (new : has seen n ≡ false) where
-    known_here : n < name_count
-    known_here = go (ℕ_discrete n name_count)
-      where
-        go : Dec (n ≡ name_count) → n < name_count
-        go (yes q) = absurd (clash (has seen n) (ap (has seen) q ∙ p.shut) new)
-        go (no q) = omega (arith, q, c, column_most (take e (take (length s - from) (drop from s))) all_names, names_length)
-
     place_more : (k : ℕ) → k < j + 1 → get_or (set at j n) k 0 ≡ column (get_or (values s) k []) all_names
     place_more k l = go (dec_lt k j)
       where
@@ -155,9 +178,6 @@ module _ {s at : List ℕ} {seen from j e n : ℕ} (p : Seen s at seen from j) (
         go : (b : Bool) → eqb n i ≡ b → has (with seen n) i ≡ (stands (values s) j i || b)
         go true q = ap (λ (x : ℕ). has (with seen x) i) (eqb-true n i q) ∙ has_with_same seen i ∙ sym (or-true (stands (values s) j i))
         go false q = has_with_other seen n i (λ z. eqb-false n i q (sym z)) ∙ p.is i l ∙ sym (or-false (stands (values s) j i))
-
-    shut_more : has m name_count ≡ true
-    shut_more = rw w (has_with_other seen n name_count (λ z. omega (arith, known_here)) ∙ p.shut)
 
     different_more : Different (values s) (j + 1)
     unfolding stands
@@ -188,18 +208,21 @@ module _ {s at : List ℕ} {seen from j e n : ℕ} (p : Seen s at seen from j) (
           place = place_more;
           none = none_more;
           is = is_more;
-          shut = shut_more;
           different = different_more;
         }
 
-    pub seen_end : length (take (length s - from) (drop from s)) ≤ e → (g : Bool) → g ≡ contains m 4095
-        → (g ≡ is_names (values s)) × (g ≡ true → Ordered (values s) (set at j n))
-    seen_end h g k =
+    pub seen_end : length (take (length s - from) (drop from s)) ≤ e → {g : Bool} → g ≡ contains m 4095
+        → MatchOption (then_some g (set at j n)) (is_names (values s) ≡ false) (λ at. Ordered (values s) at)
+    seen_end h {g} k =
         let many : length (values s) ≡ j + 1 = reached_end p.reached f h in
-        let names_so : g ≡ is_names (values s) = k ∙ seen_names (values s) (j + 1) m many different_more is_more in
-        (names_so, λ t. record { good = sym names_so ∙ t; place = λ i l. go i l many (dec_lt i (j + 1)) })
+        so g (k ∙ seen_names (values s) (j + 1) m many different_more is_more) many
       where
         go : (i : ℕ) → i < 16 → length (values s) ≡ j + 1 → Dec (i < j + 1) → get_or (set at j n) i 0 ≡ column (get_or (values s) i []) all_names
         go i l many (yes b) = place_more i b
         go i l many (no b) =
             none_more i (omega arith) l ∙ sym (ap (λ (v : List ℕ). column v all_names) (get_or-eq_default (values s) [] {n = i} (omega arith)) ∙ no_name)
+
+        so : (b : Bool) → b ≡ is_names (values s) → length (values s) ≡ j + 1
+            → MatchOption (then_some b (set at j n)) (is_names (values s) ≡ false) (λ at. Ordered (values s) at)
+        so true e many = record { good = sym e; place = λ i l. go i l many (dec_lt i (j + 1)) }
+        so false e many = sym e

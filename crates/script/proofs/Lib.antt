@@ -3,12 +3,11 @@ pub mod Texts
 pub mod ByKey
 pub mod ValuesInTurn
 pub mod FirstValue
-pub mod CodeForms
 pub mod FieldsTaken
 pub mod NamePlaces
-pub mod RowUnderHeader
 pub mod WordAtFront
 pub mod FoundValue
+pub mod RowUnderHeader
 pub mod RowLoop
 pub mod RowStores
 pub mod LineOfRow
@@ -22,7 +21,6 @@ pub mod LeftToTell
 pub mod Onward
 pub mod PieceLoop
 pub mod StepReturns
-pub mod ShiftLoop
 pub mod RequestRows
 pub mod LinesInBatch
 pub mod GatherLoop

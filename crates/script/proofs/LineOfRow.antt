@@ -1,7 +1,7 @@
 -- The values of a line, one under each name, by their numbers.
 --     Fit, take_all_from                         the fields of a line are those of its row
 --     Held                                      the values in the sample's order, by their numbers
---     code_later, no_values                     the code of a value that is no word; a line has values
+--     under_later, no_values                    a value that is no word; a line has values
 --     line_unknown, line_known                  what the line asks: an unknown word; a word
 -- Assumes nothing.
 use Prim.Native.Nat.{ℕ, zero, suc, ◌+◌, ◌≤◌, ◌<◌}
@@ -12,14 +12,14 @@ use native.Mathlib.Nat.{add-zero}
 use native.Mathlib.Omega.{arith}
 use lib.Dec.{ltb, eqb}
 use lib.ListN.{length, get_or}
-use borrow.Author.Tests.{ne_eqb, lt-ltb, le-ltb, eqb-true}
+use borrow.Author.Tests.{lt-ltb, le-ltb, ltb-false, eqb-true}
 use Rattle.bitset.specs.Sets.{has}
 use Rattle.bitset.specs.Tests.{all}
-use Rattle.bitset.specs.Tests.Laws.{all_e}
+use Rattle.bitset.specs.Tests.Laws.{all_e, clash}
 use Rattle.script.specs.Text.{bytes, same}
 use Rattle.script.specs.Names.{column}
 use Rattle.script.specs.Line.{value_of, request_words, words, used, Numbers, these, taken, take_each, asks, line_of}
-use Rattle.script.specs.Private.Rows.{coded, code_at, no_word, name_count, field_count, blank, taken_as, joins, take_from, members}
+use Rattle.script.specs.Private.Rows.{word_value, value_under, has_form, no_word, name_count, field_count, blank, taken_as, joins, take_from, members}
 use Rattle.script.specs.declared.line.Value.{Value}
 use Rattle.script.specs.declared.line.Value.TheVariants.{Digits, Dash, Other}
 use Rattle.script.specs.declared.line.Line.TheVariants.{Bad}
@@ -27,7 +27,8 @@ use Rattle.script.proofs.ByKey.{same_eq}
 use Rattle.script.proofs.FieldsTaken.{step_on}
 use Rattle.script.proofs.NamePlaces.{column_most}
 use Rattle.script.proofs.WordAtFront.{words_length}
-use Rattle.script.proofs.CodeForms.{digits_small}
+use Rattle.script.proofs.FoundValue.{value_later}
+use Rattle.script.proofs.RowUnderHeader.{is_number, number_or}
 
 -- ---- fields
 -- a value, by whether it is a number and which
@@ -59,24 +60,19 @@ take_all_from u g v i (suc n) (w ∷ ws) h f =
 -- ---- the values in the sample's order
 pub record Held (us : List (List ℕ)) (vals : List ℕ) (given : ℕ) : Type 0 where
   pub whole : length us ≡ name_count
-  pub number : (i : ℕ) → i < name_count → get_or vals i 0 ≡ cond (ltb (code_at i (get_or us i [])) 100000) (code_at i (get_or us i [])) (get_or blank i 0)
-  pub mark : (i : ℕ) → i < name_count → has given i ≡ ltb (code_at i (get_or us i [])) 100000
-  pub form : (i : ℕ) → i < name_count → code_at i (get_or us i []) ≤ 100000
+  pub number : (i : ℕ) → i < name_count → get_or vals i 0 ≡ number_or (get_or blank i 0) (value_under i (get_or us i []))
+  pub mark : (i : ℕ) → i < name_count → has given i ≡ is_number (value_under i (get_or us i []))
+  pub form : (i : ℕ) → i < name_count → has_form (value_under i (get_or us i [])) ≡ true
 
 pub no_values : ◌≡◌ {A = ℕ} 0 name_count → ⊥
 no_values e = omega arith
 
--- the code of a value that is no word
-pub code_later : (i : ℕ) (w : List ℕ) → code_at (suc i) w ≡ coded (value_of w)
-unfolding code_at value_of coded
-code_later i w = rw (ne_eqb (suc i) 0 (λ e. absurd (later e))) (go (same w (bytes "-")) _)
+-- a value that is no word
+pub under_later : (i : ℕ) (w : List ℕ) → value_under (suc i) w ≡ value_of w
+under_later i w = sym (value_later w (λ e. later e) refl)
   where
     later : suc i ≡ 0 → ⊥
     later e = omega arith
-
-    go : (b : Bool) (y : Value) → cond b 100000 (coded (cond b Dash y)) ≡ coded (cond b Dash y)
-    go true y = refl
-    go false y = refl
 
 blank_zeros : all 15 (λ k. eqb (get_or blank (suc k) 0) 0) ≡ true
 unfolding all blank
@@ -85,35 +81,34 @@ blank_zeros = refl
 blank_later : (k : ℕ) → k < field_count → get_or blank (suc k) 0 ≡ 0
 blank_later k l = eqb-true _ _ (all_e 15 (λ k. eqb (get_or blank (suc k) 0) 0) blank_zeros k (omega arith))
 
-fits : (v : List ℕ) (y : Value) (g : Bool) (n z : ℕ) → value_of v ≡ y → g ≡ ltb (coded y) 100000 → n ≡ cond (ltb (coded y) 100000) (coded y) z → z ≡ 0
-    → coded y ≤ 100000 → Fit y g n
-unfolding coded
-fits v (Digits m) g n z e a b c l =
-    let s : ltb m 100000 ≡ true = lt-ltb m 100000 (digits_small v (value_of v) refl e) in
-    rw (a, b, s) (digits m)
-fits v Dash g n z e a b c l = rw (a, b, c) dash
-fits v Other g n z e a b c l = absurd (omega arith)
+fits : (y : Value) (g : Bool) (n z : ℕ) → g ≡ is_number y → n ≡ number_or z y → z ≡ 0 → has_form y ≡ true → Fit y g n
+unfolding is_number number_or has_form
+fits (Digits m) g n z a b c f = rw (a, b) (digits m)
+fits Dash g n z a b c f = rw (a, b, c) dash
+fits Other g n z a b c f = absurd (clash false f refl)
 
 module _ {us : List (List ℕ)} {vals : List ℕ} {given : ℕ} (c : Held us vals given) where
   later : (k : ℕ) → k < field_count → Fit (value_of (get_or us (suc k) [])) (has given (suc k)) (get_or vals (suc k) 0)
   later k l =
-      fits (get_or us (suc k) []) (value_of (get_or us (suc k) [])) _ _ (get_or blank (suc k) 0) refl
-      (c.mark (suc k) (omega arith) ∙ ap (λ (n : ℕ). ltb n 100000) (code_later k (get_or us (suc k) [])))
-      (c.number (suc k) (omega arith) ∙ ap (λ (n : ℕ). cond (ltb n 100000) n (get_or blank (suc k) 0)) (code_later k (get_or us (suc k) [])))
+      fits (value_of (get_or us (suc k) [])) _ _ (get_or blank (suc k) 0)
+      (rw under_later at (c.mark (suc k) (omega arith)))
+      (rw under_later at (c.number (suc k) (omega arith)))
       (blank_later k l)
-      (rw code_later at (c.form (suc k) (omega arith)))
+      (rw under_later at (c.form (suc k) (omega arith)))
 
 dash_word : column (bytes "-") words ≡ no_word
 unfolding column words request_words same bytes
 dash_word = refl
 
-first_word : (w : List ℕ) {n : ℕ} → n ≡ cond (ltb (code_at 0 w) 100000) (code_at 0 w) (get_or blank 0 0) → n ≡ column w words
-unfolding code_at blank
-first_word w e = e ∙ go (same w (bytes "-")) refl
+first_word : (w : List ℕ) {n : ℕ} → n ≡ number_or (get_or blank 0 0) (value_under 0 w) → n ≡ column w words
+unfolding value_under word_value number_or blank
+first_word w e = e ∙ go (same w (bytes "-")) refl (ltb (column w words) (length words)) refl
   where
-    go : (b : Bool) → same w (bytes "-") ≡ b → cond (ltb (cond b 100000 (column w words)) 100000) (cond b 100000 (column w words)) no_word ≡ column w words
-    go true h = sym (ap (λ (v : List ℕ). column v words) (same_eq w (bytes "-") h) ∙ dash_word)
-    go false h = rw (lt-ltb (column w words) 100000 (omega (arith, column_most w words, words_length)))
+    go : (b : Bool) → same w (bytes "-") ≡ b → (t : Bool) → ltb (column w words) (length words) ≡ t
+        → number_or no_word (cond b Dash (cond t (Digits (column w words)) Other)) ≡ column w words
+    go true h t k = sym (ap (λ (v : List ℕ). column v words) (same_eq w (bytes "-") h) ∙ dash_word)
+    go false h true k = refl
+    go false h false k = omega (arith, column_most w words, ltb-false _ _ k, words_length)
 
 -- ---- lines
 pub line_unknown : (us : List (List ℕ)) (vals : List ℕ) (g : ℕ) → Held us vals g → no_word ≤ get_or vals 0 0 → Bad ≡ line_of us

@@ -36,7 +36,6 @@ line_in t shut Bad h = rw (or-false shut)
 
 -- ---- the output of lines
 pub one_few : (m : Bool) → one m ≤ 1
-unfolding one
 one_few true = omega arith
 one_few false = omega arith
 
@@ -66,7 +65,7 @@ texts_snoc n (p ∷ ms) m given =
     moved k = omega arith
 
 pub texts_given : (n : ℕ) (ms : List Bool) (given zs : List ℕ) → asked ms ≤ length given → texts n ms (given ++ zs) ≡ texts n ms given
-unfolding texts asked one said
+unfolding texts asked said
 texts_given n [] given zs h = refl
 texts_given n (false ∷ ms) given zs h = ap (λ (w : List ℕ). line_text n 17 ++ w) (texts_given (n + 1) ms given zs (omega arith))
 texts_given n (true ∷ ms) [] zs h = absurd (none (asked ms) h)

@@ -9,18 +9,17 @@ use native.Mathlib.Omega.{arith}
 use lib.Dec.{ltb}
 use lib.ListN.{length, get_or}
 use borrow.Author.Tests.{ltb-true}
+use Rattle.bitset.specs.Tests.Laws.{clash}
 use Rattle.script.specs.Text.{bytes, same}
 use Rattle.script.specs.Names.{column}
 use Rattle.script.specs.Line.{value_of, words, used, Numbers, unreadable, joined, taken, take_each, asks, line_of}
-use Rattle.script.specs.Private.Rows.{coded, code_at, name_count, field_count, members}
+use Rattle.script.specs.Private.Rows.{word_value, value_under, has_form, name_count, field_count, members}
 use Rattle.script.specs.declared.line.Value.{Value}
 use Rattle.script.specs.declared.line.Value.TheVariants.{Digits, Dash, Other}
 use Rattle.script.specs.declared.line.Line.TheVariants.{Bad}
 use Rattle.script.proofs.FieldsTaken.{table_used}
-use Rattle.script.proofs.NamePlaces.{column_most}
 use Rattle.script.proofs.WordAtFront.{words_length}
-use Rattle.script.proofs.CodeForms.{digits_small}
-use Rattle.script.proofs.LineOfRow.{code_later, no_values}
+use Rattle.script.proofs.LineOfRow.{under_later, no_values}
 
 taken_other : (b : Bool) (x : Numbers) → taken b Other x ≡ unreadable
 unfolding taken
@@ -55,28 +54,30 @@ unfolding members
 members_length s i zero = refl
 members_length s i (suc n) = ap suc (members_length s (suc i) n)
 
-other_value : (v : List ℕ) (y : Value) → value_of v ≡ y → 100000 < coded y → y ≡ Other
-unfolding coded
-other_value v (Digits m) e h = absurd (omega (arith, digits_small v (value_of v) refl e))
-other_value v Dash e h = absurd (omega arith)
-other_value v Other e h = refl
+other_value : (y : Value) → has_form y ≡ false → y ≡ Other
+unfolding has_form
+other_value (Digits m) h = absurd (clash true refl h)
+other_value Dash h = absurd (clash true refl h)
+other_value Other h = refl
 
-code_word_small : (w : List ℕ) → 100000 < code_at 0 w → ⊥
-unfolding code_at
-code_word_small w h = go (same w (bytes "-")) h
+-- a word that is none of the words
+unknown_word : (w : List ℕ) → has_form (value_under 0 w) ≡ false → ltb (column w words) (length words) ≡ false
+unfolding value_under word_value has_form
+unknown_word w h = go (same w (bytes "-")) (ltb (column w words) (length words)) h
   where
-    go : (b : Bool) → 100000 < cond b 100000 (column w words) → ⊥
-    go true h = omega arith
-    go false h = omega (arith, column_most w words, words_length)
+    go : (b t : Bool) → has_form (cond b Dash (cond t (Digits (column w words)) Other)) ≡ false → t ≡ false
+    go true t h = absurd (clash true refl h)
+    go false true h = absurd (clash true refl h)
+    go false false h = refl
 
-pub line_none : (us : List (List ℕ)) (i : ℕ) → length us ≡ name_count → i < name_count → 100000 < code_at i (get_or us i []) → Bad ≡ line_of us
+pub line_none : (us : List (List ℕ)) (i : ℕ) → length us ≡ name_count → i < name_count → has_form (value_under i (get_or us i [])) ≡ false → Bad ≡ line_of us
 unfolding line_of asks
 line_none [] i t l h = absurd (no_values t)
-line_none (w ∷ ws) zero t l h = absurd (code_word_small w h)
+line_none (w ∷ ws) zero t l h = rw (unknown_word w h)
 line_none (w ∷ ws) (suc k) t l h = go (ltb (column w words) (length words)) refl
   where
     none : value_of (get_or ws k []) ≡ Other
-    none = other_value (get_or ws k []) (value_of (get_or ws k [])) refl (rw code_later at h)
+    none = other_value (value_of (get_or ws k [])) (rw under_later at h)
 
     go : (b : Bool) → ltb (column w words) (length words) ≡ b → Bad ≡ cond b (asks (column w words) (take_each (used (column w words)) ws)) Bad
     go true e =

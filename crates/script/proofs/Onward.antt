@@ -17,7 +17,10 @@ use Rattle.script.specs.Names.{is_names, Ordered}
 use Rattle.script.specs.Line.{read_line}
 use Rattle.script.specs.Report.{Bench, heading, line_text, last_line, first_bench}
 use Rattle.script.specs.Private.Slices.{before}
-use Rattle.script.specs.Run.{at_heading, at_names, at_lines, bench_of, told_first, from_line, from_names, rest, Fits, Onward, Goes}
+use Rattle.bitset.specs.Tests.Laws.{clash}
+use Rattle.script.specs.declared.runner.Phase.{Phase}
+use Rattle.script.specs.declared.runner.Phase.TheVariants.{Heading, Names, Lines, Over}
+use Rattle.script.specs.Run.{before_lines, bench_of, told_first, from_line, from_names, rest_in, rest, Fits, Onward, Goes}
 use Rattle.script.specs.Private.Steps.{after_line, text_of, with_names, over}
 use Rattle.script.specs.declared.line.Line.{Line}
 use Rattle.script.specs.declared.line.Line.TheVariants.{Bad}
@@ -28,20 +31,21 @@ use Rattle.script.proofs.Lines.{before_append, after_append, before_all, after_a
 use Rattle.script.proofs.LeftToTell.{line_on, refused, names_on, names_end, names_too_long, too_long}
 
 -- ---- the heading
-one_two : ◌≡◌ {A = ℕ} 1 2 → ⊥
-one_two h = omega arith
+over_lines : Over ≡ Lines → ⊥
+over_lines h = let z : ◌≡◌ {A = ℕ} 0 1 = cc in omega arith
 
-three_two : ◌≡◌ {A = ℕ} 3 2 → ⊥
-three_two h = omega arith
+-- lines of values have begun
+pub begun : {p : Phase} → p ≡ Lines → before_lines p ≡ true → ⊥
+begun e h = clash _ h (ap before_lines e)
 
 abbrev pub headed : Runner → Runner
-headed r = record { tables = r.tables; shut = r.shut; at = r.at; phase = at_names; done = r.done; skip = r.skip }
+headed r = record { tables = r.tables; shut = r.shut; at = r.at; phase = Names; done = r.done; skip = r.skip }
 
-pub goes_heading : (e : Bool) (r : Runner) (s : List ℕ) → r.phase ≡ at_heading → Goes e r s heading (headed r) s
+pub goes_heading : (e : Bool) (r : Runner) (s : List ℕ) → r.phase ≡ Heading → Goes e r s heading (headed r) s
 goes_heading e r s p header f =
     record {
       known = header;
-      fits = record { opens = λ h. f.opens (omega arith); knows = λ h. absurd (one_two h) };
+      fits = record { opens = λ h. f.opens (ap before_lines p); knows = λ h. absurd (begun h refl) };
       same = λ more h. rest_heading header r (s ++ more) p ∙ ap (told_first heading) (sym (rest_names header (headed r) (s ++ more) refl));
     }
 
@@ -51,54 +55,45 @@ NamesGo e s l s2 =
     (more : List ℕ) → (e ≡ true → more ≡ [])
     → from_names (s ++ more) ≡ cond (is_names (values l)) (from_line (values l) first_bench 1 (s2 ++ more)) refused
 
-module _ {e : Bool} {r : Runner} (l s s2 : List ℕ) (p : r.phase ≡ at_names) (g : NamesGo e s l s2) where
+module _ {e : Bool} {r : Runner} (l s s2 : List ℕ) (p : r.phase ≡ Names) (g : NamesGo e s l s2) where
   pub goes_good : (at : List ℕ) → Ordered (values l) at → Goes e r s [] (with_names r at) s2
   goes_good at o header f =
-      let b : bench_of r ≡ first_bench = f.opens (omega arith) in
+      let b : bench_of r ≡ first_bench = f.opens (ap before_lines p) in
       record {
         known = values l;
-        fits = record { opens = λ h. absurd (past h); knows = λ h. o };
+        fits = record { opens = λ h. absurd (begun refl h); knows = λ h. o };
         same = λ more h.
             rest_names header r (s ++ more) p ∙ g more h ∙ (rw o.good)
             ∙ ap (λ (b : Bench). from_line (values l) b 1 (s2 ++ more)) (sym b)
             ∙ sym (rest_lines (values l) (with_names r at) (s2 ++ more) refl);
       }
-    where
-      past : 2 < 2 → ⊥
-      past h = omega arith
 
   pub goes_bad : is_names (values l) ≡ false → Goes e r s (line_text 1 17) (over r) s2
   goes_bad n header f =
-      let b : bench_of r ≡ first_bench = f.opens (omega arith) in
+      let b : bench_of r ≡ first_bench = f.opens (ap before_lines p) in
       record {
         known = header;
-        fits = record { opens = λ h. absurd (past h); knows = λ h. absurd (three_two h) };
+        fits = record { opens = λ h. absurd (clash false h refl); knows = λ h. absurd (over_lines h) };
         same = λ more h.
-            rest_names header r (s ++ more) p ∙ g more h ∙ (rw (n, rest_over header (over r) (s2 ++ more) (omega arith), b, append-nil));
+            rest_names header r (s ++ more) p ∙ g more h ∙ (rw (n, rest_over header (over r) (s2 ++ more) refl, b, append-nil));
       }
-    where
-      past : 3 < 2 → ⊥
-      past h = omega arith
 
 -- ---- a line of values
-rest_line : (header : List (List ℕ)) (r : Runner) (s : List ℕ) → r.phase ≡ at_lines → r.skip ≡ false → r.done < last_line → 0 < length s
+rest_line : (header : List (List ℕ)) (r : Runner) (s : List ℕ) → r.phase ≡ Lines → r.skip ≡ false → r.done < last_line → 0 < length s
     → rest header r s ≡ told_first (text_of r (read_line header (before 10 s))) (rest header (after_line r (read_line header (before 10 s))) (after 10 s))
-unfolding rest text_of after_line
+unfolding rest_in text_of after_line
 rest_line header r s p t d n = rw (p, t) (line_on header (bench_of r) r.done s d n)
 
-line_fits : (header : List (List ℕ)) (r : Runner) (asked : Line) → r.phase ≡ at_lines → Fits header r → Fits header (after_line r asked)
+line_fits : (header : List (List ℕ)) (r : Runner) (asked : Line) → r.phase ≡ Lines → Fits header r → Fits header (after_line r asked)
 unfolding after_line
-line_fits header r asked p f = record { opens = λ h. absurd (past h); knows = λ h. f.knows p }
-  where
-    past : r.phase < 2 → ⊥
-    past h = omega arith
+line_fits header r asked p f = record { opens = λ h. absurd (begun p h); knows = λ h. f.knows p }
 
 abbrev pub skipping : Runner → Runner
 skipping r = record { tables = r.tables; shut = r.shut; at = r.at; phase = r.phase; done = r.done; skip = true }
 
-skip_on : (header : List (List ℕ)) (r : Runner) (asked : Line) (s : List ℕ) → r.phase ≡ at_lines → r.skip ≡ false
+skip_on : (header : List (List ℕ)) (r : Runner) (asked : Line) (s : List ℕ) → r.phase ≡ Lines → r.skip ≡ false
     → rest header (after_line r asked) (after 10 s) ≡ rest header (skipping (after_line r asked)) s
-unfolding rest after_line
+unfolding rest_in after_line
 skip_on header r asked s p t = rw (p, t)
 
 -- ---- a piece whose first line has k bytes
@@ -122,7 +117,7 @@ module _ (s : List ℕ) (e : Bool) (k : ℕ) (f : k ≡ length (before 10 s)) wh
 
 module _ (r : Runner) (s : List ℕ) (e : Bool) (k : ℕ) (f : k ≡ length (before 10 s)) where
   -- the rest of a line that has been answered
-  pub skip_found : r.phase ≡ at_lines → r.skip ≡ true → k < length s
+  pub skip_found : r.phase ≡ Lines → r.skip ≡ true → k < length s
       → Goes e r s [] (record { tables = r.tables; shut = r.shut; at = r.at; phase = r.phase; done = r.done; skip = false }) (drop (k + 1) s)
   skip_found p t l header fits =
       let m : length (before 10 s) < length s = rw f at l in
@@ -135,7 +130,7 @@ module _ (r : Runner) (s : List ℕ) (e : Bool) (k : ℕ) (f : k ≡ length (bef
             ∙ sym (rest_lines header _ (drop (k + 1) s ++ more) p);
       }
 
-  pub skip_none : r.phase ≡ at_lines → r.skip ≡ true → length s ≤ k → Goes e r s [] r (drop k s)
+  pub skip_none : r.phase ≡ Lines → r.skip ≡ true → length s ≤ k → Goes e r s [] r (drop k s)
   skip_none p t l header fits =
       let m : length s ≤ length (before 10 s) = rw f at l in
       record {
@@ -148,7 +143,7 @@ module _ (r : Runner) (s : List ℕ) (e : Bool) (k : ℕ) (f : k ≡ length (bef
       }
 
   -- a line of values
-  module _ (p : r.phase ≡ at_lines) (t : r.skip ≡ false) (d : r.done < last_line) (header : List (List ℕ)) (fits : Fits header r) where
+  module _ (p : r.phase ≡ Lines) (t : r.skip ≡ false) (d : r.done < last_line) (header : List (List ℕ)) (fits : Fits header r) where
     pub whole : k < length s
         → Onward e header r s (text_of r (read_line header (take k s))) (after_line r (read_line header (take k s))) (drop (k + 1) s)
     whole l =

@@ -21,7 +21,8 @@ use native.Mathlib.Omega.{arith}
 use borrow.Rule.Slice.PartMut.{put_mid}
 use Rattle.script.specs.Report.{heading}
 use Rattle.script.specs.Private.Slices.{Put}
-use Rattle.script.specs.Run.{at_heading, at_names, Goes, Worked, Stopped, Finished}
+use Rattle.script.specs.declared.runner.Phase.TheVariants.{Heading}
+use Rattle.script.specs.Run.{Goes, Worked, Stopped, Finished}
 use Rattle.script.specs.Private.Steps.{Stepped}
 use Rattle.script.specs.declared.runner.Runner.{Runner}
 use Rattle.script.specs.declared.runner.Ran.{Ran}
@@ -44,13 +45,13 @@ worked r r2 s e old new w u n p l h g =
     let f : Front old new w n = front p l in
     record { within = h; room = f.room; frame = f.frame; goes = rw f.text g }
 
-pub idled : (r : Runner) (s : List ℕ) (e : Bool) (old : List ℕ) → at_names ≤ r.phase → Stopped r s e (length old) → Stepped r s e old old (ran r 0 0)
+pub idled : (r : Runner) (s : List ℕ) (e : Bool) (old : List ℕ) → (r.phase ≡ Heading → ⊥) → Stopped r s e (length old) → Stepped r s e old old (ran r 0 0)
 idled r s e old b h = record { did = worked_none r r s e old 0 (omega arith) (goes_nowhere e r s); begun = b; stops = λ z o l. h o (omega arith) }
 
 none_used : (u : ℕ) → 0 < u → u ≡ 0 → ⊥
 none_used u h z = omega arith
 
-pub stepped : {r : Runner} {piece old new : List ℕ} {end : Bool} {x : Ran} → Worked r piece end old new x → at_names ≤ x.runner.phase → 0 < x.used
+pub stepped : {r : Runner} {piece old new : List ℕ} {end : Bool} {x : Ran} → Worked r piece end old new x → (x.runner.phase ≡ Heading → ⊥) → 0 < x.used
     → Stepped r piece end old new x
 stepped {x = x} k b h = record { did = k; begun = b; stops = λ z. absurd (none_used x.used h z) }
 
@@ -127,7 +128,7 @@ module _ {piece old out ys : List ℕ} {end : Bool} {r0 r : Runner} {x : Ran} {a
 pub heading_wrote : {old new : List ℕ} {n : ℕ} → Put old 0 heading new n → n ≡ 12
 heading_wrote p = omega (arith, p.next, heading_length)
 
-held_heading : (piece : List ℕ) (end : Bool) (old new : List ℕ) (r : Runner) (n : ℕ) → r.phase ≡ at_heading → 12 ≤ length old → length new ≡ length old
+held_heading : (piece : List ℕ) (end : Bool) (old new : List ℕ) (r : Runner) (n : ℕ) → r.phase ≡ Heading → 12 ≤ length old → length new ≡ length old
     → Put old 0 heading new n → Held piece end old r new (headed r) 0 n
 held_heading piece end old new r n z l m p =
     let f : Front old new heading n = front p (omega (arith, heading_length)) in
@@ -139,7 +140,7 @@ held_heading piece end old new r n z l m p =
       goes = rw f.text (goes_heading end r piece z);
     }
 
-module _ {piece old out ys : List ℕ} {end : Bool} {r : Runner} {x : Ran} {n : ℕ} (z : r.phase ≡ at_heading) (l : 12 ≤ length old)
+module _ {piece old out ys : List ℕ} {end : Bool} {r : Runner} {x : Ran} {n : ℕ} (z : r.phase ≡ Heading) (l : 12 ≤ length old)
     (o : length out ≡ length old) (p : Put old 0 heading out n) (m : length ys ≡ length (take (length out - n) (drop n out))) where
   pub headed_done : Finished (headed r) piece end (take (length out - n) (drop n out)) ys x
       → Finished r piece end old (put_mid n (length out - n) out ys) (ran x.runner x.used (n + x.wrote))

@@ -83,7 +83,7 @@ module _ (rows : List ℕ) (n : ℕ) (q : Request) (h : row_length * n + row_len
 
 pub requests_on : (rows : List ℕ) (n : ℕ) (l : Line) → row_length * n + row_length ≤ length rows
     → requests (n + one (is_request l)) (written rows (row_length * n) (numbers_of l)) ≡ requests n rows ++ requests_of l
-unfolding is_request numbers_of one written
+unfolding is_request numbers_of written
 requests_on rows n (Ask q) h = requests_more rows n q h
 requests_on rows n (SetUser user level cats ceiling) h = rw (add-zero n, append-nil)
 requests_on rows n Bad h = rw (add-zero n, append-nil)

@@ -1,7 +1,7 @@
 -- How far a loop over the values of a line is.
 --     Filled, filled_start                              the numbers so far stand under their names
 --     row_over, row_other                               too many values; a value of no form
---     code_here, end_most                               the value there
+--     value_here, end_most                              the value there
 --     inside, next_left                                 a space behind it: the next value
 --     line_end, count                                   none: the line's length, and how many values it has
 -- Assumes nothing.
@@ -12,20 +12,20 @@ use mathlib.Core.List.{List, [], ◌∷◌}
 use native.Mathlib.Decide.{dec_lt}
 use native.Mathlib.Nat.{add-zero}
 use native.Mathlib.Omega.{arith}
-use lib.Dec.{leb}
 use lib.ListN.{length, get_or, drop, length-drop}
 use lib.Seq.{get_or-drop, drop-drop}
-use borrow.Author.Tests.{eqb-true, eqb-false, lt-leb, le-ltb}
+use borrow.Author.Tests.{eqb-true, eqb-false, le-ltb}
+use Rattle.std.specs.Prelude.{None}
 use Rattle.script.specs.Text.{values, after}
 use Rattle.script.specs.Private.Slices.{before, leading}
-use Rattle.script.specs.Private.Rows.{code_at, IsFound, name_at, code_in, blank, gathered, marked, fine, fills, IsRow}
+use Rattle.script.specs.Private.Rows.{value_under, IsFound, name_at, value_in, blank, has_form, gathered, marked, fine, fills, is_full, IsRow}
+use Rattle.script.specs.declared.line.Value.TheVariants.{Other}
 use Rattle.script.specs.declared.row.Found.{Found}
 use Rattle.script.proofs.ValuesInTurn.{values_more, values_last, values_some, first_value, after_drop}
 use Rattle.script.proofs.FirstValue.{before_drop, before_rest, lead_most, lead_more, lead_last}
-use Rattle.script.proofs.CodeForms.{other_form}
 
 -- ---- a value of no form
-fine_not : (at : List ℕ) (vs : List (List ℕ)) (j n : ℕ) → j < n → 100000 < code_in at vs j → fine at vs n ≡ false
+fine_not : (at : List ℕ) (vs : List (List ℕ)) (j n : ℕ) → j < n → has_form (value_in at vs j) ≡ false → fine at vs n ≡ false
 unfolding fine
 fine_not at vs j zero l h = absurd (none l)
   where
@@ -33,9 +33,9 @@ fine_not at vs j zero l h = absurd (none l)
     none k = omega arith
 fine_not at vs j (suc n) l h = go (dec_lt j n) (λ k. fine_not at vs j n k h)
   where
-    go : Dec (j < n) → (j < n → fine at vs n ≡ false) → (fine at vs n && leb (code_in at vs n) 100000) ≡ false
+    go : Dec (j < n) → (j < n → fine at vs n ≡ false) → (fine at vs n && has_form (value_in at vs n)) ≡ false
     go (yes k) ih = rw (ih k)
-    go (no k) ih = let e : n ≡ j = omega arith in rw (e, lt-leb (code_in at vs j) 100000 h) (and-false (fine at vs j))
+    go (no k) ih = let e : n ≡ j = omega arith in rw (e, h) (and-false (fine at vs j))
 
 -- ---- more values than there are places
 fills_over : (at : List ℕ) (n : ℕ) → 16 ≤ n → fills at n ≡ false
@@ -87,31 +87,29 @@ module _ {s at vals : List ℕ} {given from j : ℕ} (p : Filled s at vals given
   some = omega (arith, ap length p.left, length-drop j vs, values_some (drop from l))
 
   -- too many values
-  pub row_over : {n g : ℕ} → 15 ≤ j → n ≡ from + length (before 10 (drop from s)) → IsRow at l vals (record { good = false; given = g; len = n })
-  row_over {n} {g} h e =
+  pub row_over : {n : ℕ} → 15 ≤ j → n ≡ from + length (before 10 (drop from s)) → IsRow at l vals (record { given = None; len = n })
+  unfolding is_full
+  row_over {n} h e =
       record {
         long = e ∙ before_rest 10 from s p.within;
         whole = rw (fills_over at (length vs) (omega (arith, some)));
-        holds = λ z. cc;
-        marks = λ z. cc;
       }
 
   module _ {f : Found} (q : IsFound (name_at at j) s from f) where
-    pub code_here : code_in at vs j ≡ f.code
-    unfolding code_in
-    code_here = ap (code_at (name_at at j)) here ∙ sym q.code
+    pub value_here : value_in at vs j ≡ f.value
+    unfolding value_in
+    value_here = ap (value_under (name_at at j)) here ∙ sym q.value
 
     pub end_most : f.end ≤ length l
     end_most = omega (arith, q.end, lead_most (drop from s), before_rest 10 from s p.within)
 
     -- a value of no form
-    pub row_other : {n g : ℕ} → f.form ≡ 2 → n ≡ f.end + length (before 10 (drop f.end s)) → IsRow at l vals (record { good = false; given = g; len = n })
-    row_other {n} {g} o e =
+    pub row_other : {n : ℕ} → f.value ≡ Other → n ≡ f.end + length (before 10 (drop f.end s)) → IsRow at l vals (record { given = None; len = n })
+    unfolding is_full has_form
+    row_other {n} o e =
         record {
           long = e ∙ before_rest 10 f.end s end_most;
-          whole = rw (fine_not at vs j (length vs) some (rw code_here (other_form f.code (sym q.form ∙ o)))) (sym (and-false (fills at (length vs))));
-          holds = λ z. cc;
-          marks = λ z. cc;
+          whole = rw (fine_not at vs j (length vs) some (rw (value_here, o))) (and-false (fills at (length vs)));
         }
 
     -- a space behind it

@@ -1,6 +1,6 @@
 -- Laws by which the functions of src/text and src/print meet their contracts: where a byte stands, digits, stores one behind
 -- the other, and decimal numbers.
--- find_stop, find_more, find_end: the loop that looks for a byte, by what is left of the slice.
+-- first_place, before_place: the place of the first byte that passes a test, and of a delimiter.
 -- none_other, long_other, one_dash, dash_other: the forms of a value. Read: the loop over its digits, with read_start, read_low,
 -- read_high, read_more, read_end.
 -- put_nil, put_cons, put_then: stores. place_hit, place_miss: one digit. numbered, line_of: a number with its digits.
@@ -8,7 +8,12 @@
 -- Assumes nothing.
 use Prim.Native.Nat.{ℕ, suc, ◌+◌, ◌-◌, ◌*◌, ◌/◌, ◌%◌, ◌^◌, ◌≤◌, ◌<◌}
 use mathlib.Core.Path.{◌≡◌, refl, ap, sym, ◌∙◌}
-use mathlib.Core.Bool.{Bool, true, false, cond, ◌&&◌}
+use mathlib.Core.Bool.{Bool, true, false, not, cond, ◌&&◌}
+use Rattle.std.specs.Prelude.{Option, Some, None, ltb}
+use Rattle.std.specs.Option.{unwrap_or}
+use Rattle.std.specs.List.{position_or_len}
+use Rattle.std.proofs.lemmas.List.Sums.{prefix_len-le-length}
+use Rattle.std.proofs.lemmas.List.Recursion.{is_position_or_len}
 use mathlib.Core.List.{List, [], ◌∷◌, ◌++◌}
 use native.Mathlib.Numerals.{add-one}
 use native.Mathlib.Nat.{add-zero, add-suc, suc-add, pow-suc, pow-le-pow_right}
@@ -16,7 +21,7 @@ use native.Mathlib.Omega.{arith}
 use lib.Dec.{leb, eqb}
 use lib.ListN.{length, get_or, set, drop, length-append, drop_of_length-le}
 use lib.Seq.{sets, drop-cons}
-use borrow.Author.Tests.{le-leb, lt-leb, eq-eqb, ne_eqb}
+use borrow.Author.Tests.{le-leb, lt-leb, ne_eqb, ltb-false}
 use Rattle.bitset.specs.Tests.{every}
 use Rattle.script.specs.declared.line.Value.TheVariants.{Digits, Dash, Other}
 use Rattle.script.specs.Text.{bytes, same, all_digits, number, place, decimal}
@@ -26,18 +31,22 @@ use Rattle.script.specs.Private.Slices.{before, written, Numbered, Put}
 use Rattle.script.specs.declared.print.Numeral.{Numeral}
 
 -- ---- where a byte stands
-module _ (d : ℕ) (s : List ℕ) (i : ℕ) (h : length (before d s) ≡ i + length (before d (drop i s))) where
-  pub find_stop : i < length s → get_or s i 0 ≡ d → i ≡ length (before d s)
-  unfolding before
-  find_stop l e = sym (h ∙ (rw (drop-cons s i 0 l, eq-eqb (get_or s i 0) d e, add-zero)))
+-- the place of the first that passes a test, or the length: what stands before it
+pub first_place : (F : List ℕ → ℕ) (p : ℕ → Bool) → F [] ≡ 0 → ((x : ℕ) (xs : List ℕ) → F (x ∷ xs) ≡ cond (p x) 0 (1 + F xs)) → (xs : List ℕ) {r : Option ℕ} {n : ℕ}
+    → r ≡ cond (ltb (position_or_len p xs) (length xs)) (Some (position_or_len p xs)) None → n ≡ unwrap_or r (length xs) → n ≡ F xs
+first_place F p a b xs {r} {n} e f = f ∙ (rw e (go (ltb (position_or_len p xs) (length xs)) refl)) ∙ sym (is_position_or_len F p a b xs)
+  where
+    go : (t : Bool) → ltb (position_or_len p xs) (length xs) ≡ t → unwrap_or (cond t (Some (position_or_len p xs)) None) (length xs) ≡ position_or_len p xs
+    go true t = refl
+    go false t = omega (arith, ltb-false _ _ t, prefix_len-le-length (λ x. not (p x)) xs)
 
-  pub find_more : i < length s → (get_or s i 0 ≡ d → ⊥) → length (before d s) ≡ (i + 1) + length (before d (drop (i + 1) s))
-  unfolding before
-  find_more l e = h ∙ (rw (drop-cons s i 0 l, ne_eqb (get_or s i 0) d e, add-one) (omega arith))
-
-  pub find_end : length s ≤ i → i ≡ length (before d s)
-  unfolding before
-  find_end l = sym (h ∙ (rw (drop_of_length-le s l, add-zero)))
+pub before_place : (d : ℕ) (x : ℕ) (xs : List ℕ) → length (before d (x ∷ xs)) ≡ cond (eqb x d) 0 (1 + length (before d xs))
+unfolding before
+before_place d x xs = go (eqb x d)
+  where
+    go : (t : Bool) → length (cond t [] (x ∷ before d xs)) ≡ cond t 0 (1 + length (before d xs))
+    go true = refl
+    go false = omega arith
 
 -- ---- values
 pub not_dash : (s : List ℕ) → (get_or s 0 0 ≡ 45 → ⊥) → same s (bytes "-") ≡ false

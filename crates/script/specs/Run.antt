@@ -1,24 +1,24 @@
 -- A run of the program from its middle: what a runner has yet to print for the input that is left. The contracts of the
 -- runner and the statements on whole runs (Theorem) are put in these words; `rest` of the runner that nothing has been done
 -- with is `report` (`rest_unbegun`, Proof/Sessions).
-use Rattle.std.specs.Prelude.{ℕ, ◌+◌, ◌-◌, ◌≤◌, ◌<◌, ◌≡◌, Bool, true, false, cond, List, [], ◌∷◌, ◌++◌, eqb, leb, ltb, length, take, drop, replicate}
+use Rattle.std.specs.Prelude.{ℕ, ◌+◌, ◌-◌, ◌≤◌, ◌<◌, ◌≡◌, ◌≢◌, Bool, true, false, cond, List, [], ◌∷◌, ◌++◌, leb, length, take, drop, replicate}
 use Rattle.guard.specs.declared.Tables.{Tables}
 use Rattle.script.specs.Text.{lines, values, after}
 use Rattle.script.specs.Names.{place_count, is_names, Ordered}
 use Rattle.script.specs.Line.{longest_line, read_line}
 use Rattle.script.specs.Report.{Bench, answer_line, heading, line_room, answered, last_line, first_bench, below}
+use Rattle.script.specs.declared.runner.Phase.{Phase}
+use Rattle.script.specs.declared.runner.Phase.TheVariants.{Heading, Names, Lines, Over}
 use Rattle.script.specs.declared.runner.Runner.{Runner}
 use Rattle.script.specs.declared.runner.Ran.{Ran}
 
--- ---- the phases of a runner: the heading is to come; the names are to come; lines of values; from 3 on the run is over
-abbrev pub at_heading : ℕ
-at_heading = 0
-
-abbrev pub at_names : ℕ
-at_names = 1
-
-abbrev pub at_lines : ℕ
-at_lines = 2
+-- ---- the phases of a runner: the heading is to come; the names are to come; lines of values; the run is over
+-- whether lines of values are still to begin
+abbrev pub before_lines : Phase → Bool
+before_lines Heading = true
+before_lines Names = true
+before_lines Lines = false
+before_lines Over = false
 
 abbrev pub bench : Tables → Bool → Bench
 bench t shut = record { tables = t; shut = shut }
@@ -59,23 +59,31 @@ from_names s = record { text = below (take last_line (lines s)); bench = closing
 
 -- what a runner that has read the names `header` has yet to tell. The line in which `skip` is set has been answered: what
 -- is left of it is passed over.
-unfoldable pub rest : List (List ℕ) → Runner → List ℕ → Told
-rest header r s =
-    cond (eqb r.phase at_heading) (told_first heading (from_names s))
-    (cond (eqb r.phase at_names) (from_names s)
-    (cond (eqb r.phase at_lines) (from_line header (bench_of r) r.done (cond r.skip (after 10 s) s))
-    (silent (bench_of r))))
+unfoldable pub rest_in : Phase → List (List ℕ) → Runner → List ℕ → Told
+rest_in Heading header r s = told_first heading (from_names s)
+rest_in Names header r s = from_names s
+rest_in Lines header r s = from_line header (bench_of r) r.done (cond r.skip (after 10 s) s)
+rest_in Over header r s = silent (bench_of r)
+
+abbrev pub rest : List (List ℕ) → Runner → List ℕ → Told
+rest header r s = rest_in r.phase header r s
 
 -- a runner that has done nothing but read the names `header`, if any: until then its bench is the opening one, and then
 -- it knows their order
 pub record Fits (header : List (List ℕ)) (r : Runner) : Type 0 where
-  pub opens : r.phase < at_lines → bench_of r ≡ first_bench
-  pub knows : r.phase ≡ at_lines → Ordered header r.at
+  pub opens : before_lines r.phase ≡ true → bench_of r ≡ first_bench
+  pub knows : r.phase ≡ Lines → Ordered header r.at
 
 -- the run is over, after a bad first line or with the last line that is read: nothing is left to tell, whatever input
 -- follows (`over_silent`, Proof/Silent)
-unfoldable pub is_over : Runner → Bool
-is_over r = cond (eqb r.phase at_lines) (leb last_line r.done) (ltb at_lines r.phase)
+unfoldable pub is_over_in : Phase → ℕ → Bool
+is_over_in Heading done = false
+is_over_in Names done = false
+is_over_in Lines done = leb last_line done
+is_over_in Over done = true
+
+abbrev pub is_over : Runner → Bool
+is_over r = is_over_in r.phase r.done
 
 -- ---- a call on a piece
 -- whatever input follows, what was left to tell is w and then what is left to tell now
@@ -96,12 +104,12 @@ pub record Worked (r : Runner) (piece : List ℕ) (end : Bool) (old new : List �
 
 -- something is left to be done: the heading or the names are to come, or there is input and lines are to be read
 pub data Open (r : Runner) (left : List ℕ) : Type 0 where
-  names_to_come : r.phase < at_lines → Open r left
-  line_to_come : r.phase ≡ at_lines → r.done < last_line → 0 < length left → Open r left
+  names_to_come : before_lines r.phase ≡ true → Open r left
+  line_to_come : r.phase ≡ Lines → r.done < last_line → 0 < length left → Open r left
 
 -- no more can be done: nothing is left to be done, or there is no room, or no whole line is left and more input is to come
 abbrev pub Stopped : Runner → List ℕ → Bool → ℕ → Type 0
-Stopped r left end room = Open r left → line_room ≤ room → (end ≡ false) × (length left ≤ longest_line) × (at_names ≤ r.phase)
+Stopped r left end room = Open r left → line_room ≤ room → (end ≡ false) × (length left ≤ longest_line) × (r.phase ≢ Heading)
 
 -- where a call on a piece ends
 pub record Finished (r : Runner) (piece : List ℕ) (end : Bool) (old new : List ℕ) (x : Ran) : Type 0 where
@@ -124,7 +132,7 @@ unbegun =
       tables = first_bench.tables;
       shut = false;
       at = replicate place_count 0;
-      phase = at_heading;
+      phase = Heading;
       done = 0;
       skip = false;
     }

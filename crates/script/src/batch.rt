@@ -5,7 +5,7 @@ ghost use Rattle.script.specs.Report.{line_room, last_line};
 ghost use Rattle.script.specs.Private.Slices.{written, Put};
 ghost use Rattle.guard.specs.Batch.{row_length};
 ghost use Rattle.guard.specs.Private.Inside.{row_of};
-ghost use Rattle.script.specs.Private.LineBatch.{one, said, texts, is_request, is_allowed, numbers_of, Most, Batched};
+ghost use Rattle.script.specs.Private.LineBatch.{said, texts, is_request, is_allowed, numbers_of, Most, Batched};
 
 use crate::line::Line;
 use crate::{limits, line, print};
@@ -21,29 +21,12 @@ pub struct Gathered {
     pub shut: bool,
 }
 
-fn least(a: usize, b: usize) -> usize
-    ensures { (result ≤ a) × (result ≤ b) }
-{
-    if a < b { a } else { b }
-}
-
-fn one_if(b: bool) -> usize
-    ensures { result ≡ one b }
-{
-    if b { 1 } else { 0 }
-}
-
 // How many lines fit: into the batch, into the room for output, and before the last line that is read.
 pub fn most(done: u32, room: usize) -> usize
     ensures { Most done room result }
 {
-    if limits::LAST_LINE <= done {
-        return 0;
-    }
-    least(
-        least(room / limits::LINE_ROOM, limits::BATCH),
-        (limits::LAST_LINE - done) as usize,
-    )
+    let left = limits::LAST_LINE.saturating_sub(done) as usize;
+    limits::BATCH.min(room / limits::LINE_ROOM).min(left)
 }
 
 // A request as a row of numbers from `at` on.
@@ -107,9 +90,8 @@ pub fn gather(
 {
     let mut shut = shut;
     let mut count = 0;
-    let mut lines = 0;
     let mut used = 0;
-    while lines < most {
+    for lines in 0..most {
         let rest = &s[used..];
         let x = line::next(rest, &at);
         let l = x.asked;
@@ -123,14 +105,13 @@ pub fn gather(
         }
         let asks = load(l, rows, count);
         marks[lines] = asks;
-        count = count + one_if(asks);
+        count += usize::from(asks);
         shut = shut | asks;
-        lines += 1;
         used = used + x.len + 1;
     }
     Gathered {
         count,
-        lines,
+        lines: most,
         used,
         shut,
     }
@@ -149,17 +130,13 @@ pub fn put_answers(marks: &[bool], answers: &[u8], lines: usize, n: u32, out: &m
     ensures { Put out.old 0 (texts n (take lines marks.now) answers.now) out.new result }
 {
     let mut wrote = 0;
-    let mut i = 0;
     let mut j = 0;
     let mut k = print::numeral_of(n);
-    while i < lines {
-        let asks = marks[i];
+    for &asks in &marks[..lines] {
         let a = answer_of(asks, answers[j]);
-        let more = print::put_line(k, a, &mut out[wrote..]);
-        wrote = wrote + more;
-        j = j + one_if(asks);
+        wrote += print::put_line(k, a, &mut out[wrote..]);
+        j += usize::from(asks);
         k = print::after(k);
-        i += 1;
     }
     wrote
 }

@@ -1,5 +1,5 @@
 // The fields of a row, taken apart in the order of the names.
-ghost use Rattle.std.specs.Prelude.{◌-◌, ◌<◌, ◌≡◌, []};
+ghost use Rattle.std.specs.Prelude.{◌-◌, ◌<◌, ◌≤◌, ◌≡◌, [], Some, MatchOption};
 ghost use Rattle.bitset.specs.Sets.{has};
 ghost use Rattle.script.specs.Line.{Numbers, these, used, asks};
 ghost use Rattle.script.specs.Private.Rows.{no_word, field_count, taken_as, take_from, ahead, members};
@@ -8,13 +8,6 @@ use crate::limits;
 use crate::line::Line;
 use bitset::Set;
 use guard::Request;
-
-// What a field is taken as.
-#[derive(Clone, Copy)]
-pub enum Taken {
-    Number(u32),
-    Fault,
-}
 
 // The first six fields behind `call`.
 #[derive(Clone, Copy)]
@@ -25,13 +18,6 @@ pub struct Six {
     pub entity: u32,
     pub parent: u32,
     pub kind: u32,
-}
-
-// The first six fields, or a fault in one of them.
-#[derive(Clone, Copy)]
-pub enum Half {
-    Numbers(Six),
-    Fault,
 }
 
 // For each word the fields that it uses: bit i is the i-th name, `call` being 0, so from the right none, seat, user, role,
@@ -59,51 +45,51 @@ const USES: [u16; limits::WORDS] = [
     0b10000000001010, // unjoin
 ];
 
-pub fn uses(word: u32) -> u16
-    requires { word < no_word }
-    ensures { members result 1 field_count ≡ used word }
+// The fields that a word uses, if it is a word.
+pub fn uses(word: u32) -> Option<u16>
+    ensures { MatchOption result (no_word ≤ word) (λ uses. (word < no_word) × (members uses 1 field_count ≡ used word)) }
 {
-    USES[word as usize]
+    USES.get(word as usize).copied()
 }
 
-// A field i that the word uses must be a number, and any other a dash, which stands as 0.
-fn field(n: u32, given: u16, uses: u16, i: u32) -> Taken
+// A field i that the word uses must be a number, and any other a dash, which stands as 0; else it has a fault.
+fn field(n: u32, given: u16, uses: u16, i: u32) -> Option<u32>
     ensures { result ≡ taken_as (has uses i) (has given i) n }
 {
     let used = uses.has(i);
     let number = given.has(i);
     if used & !number {
-        return Taken::Fault;
+        return None;
     }
     if number & !used {
-        return Taken::Fault;
+        return None;
     }
-    Taken::Number(n)
+    Some(n)
 }
 
-// The first six fields.
-pub fn first(vals: &[u32; limits::PLACES], given: u16, uses: u16) -> Half
+// The first six fields, unless one of them has a fault.
+pub fn first(vals: &[u32; limits::PLACES], given: u16, uses: u16) -> Option<Six>
     ensures { (rest : Numbers) → take_from uses given vals.now 1 6 rest ≡ ahead result rest }
 {
-    let Taken::Number(seat) = field(vals[1], given, uses, 1) else {
-        return Half::Fault;
+    let Some(seat) = field(vals[1], given, uses, 1) else {
+        return None;
     };
-    let Taken::Number(user) = field(vals[2], given, uses, 2) else {
-        return Half::Fault;
+    let Some(user) = field(vals[2], given, uses, 2) else {
+        return None;
     };
-    let Taken::Number(role) = field(vals[3], given, uses, 3) else {
-        return Half::Fault;
+    let Some(role) = field(vals[3], given, uses, 3) else {
+        return None;
     };
-    let Taken::Number(entity) = field(vals[4], given, uses, 4) else {
-        return Half::Fault;
+    let Some(entity) = field(vals[4], given, uses, 4) else {
+        return None;
     };
-    let Taken::Number(parent) = field(vals[5], given, uses, 5) else {
-        return Half::Fault;
+    let Some(parent) = field(vals[5], given, uses, 5) else {
+        return None;
     };
-    let Taken::Number(kind) = field(vals[6], given, uses, 6) else {
-        return Half::Fault;
+    let Some(kind) = field(vals[6], given, uses, 6) else {
+        return None;
     };
-    Half::Numbers(Six {
+    Some(Six {
         seat,
         user,
         role,
@@ -115,27 +101,27 @@ pub fn first(vals: &[u32; limits::PLACES], given: u16, uses: u16) -> Half
 
 // The others, and what the line asks.
 pub fn second(word: u32, six: Six, vals: &[u32; limits::PLACES], given: u16, uses: u16) -> Line
-    ensures { result ≡ asks word (ahead (Half.Numbers six) (take_from uses given vals.now 7 (field_count - 6) (these []))) }
+    ensures { result ≡ asks word (ahead (Some six) (take_from uses given vals.now 7 (field_count - 6) (these []))) }
 {
-    let Taken::Number(name) = field(vals[7], given, uses, 7) else {
+    let Some(name) = field(vals[7], given, uses, 7) else {
         return Line::Bad;
     };
-    let Taken::Number(level) = field(vals[8], given, uses, 8) else {
+    let Some(level) = field(vals[8], given, uses, 8) else {
         return Line::Bad;
     };
-    let Taken::Number(cats) = field(vals[9], given, uses, 9) else {
+    let Some(cats) = field(vals[9], given, uses, 9) else {
         return Line::Bad;
     };
-    let Taken::Number(rights) = field(vals[10], given, uses, 10) else {
+    let Some(rights) = field(vals[10], given, uses, 10) else {
         return Line::Bad;
     };
-    let Taken::Number(ceiling) = field(vals[11], given, uses, 11) else {
+    let Some(ceiling) = field(vals[11], given, uses, 11) else {
         return Line::Bad;
     };
-    let Taken::Number(shared) = field(vals[12], given, uses, 12) else {
+    let Some(shared) = field(vals[12], given, uses, 12) else {
         return Line::Bad;
     };
-    let Taken::Number(junior) = field(vals[13], given, uses, 13) else {
+    let Some(junior) = field(vals[13], given, uses, 13) else {
         return Line::Bad;
     };
     if word == limits::USER {

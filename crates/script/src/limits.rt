@@ -1,9 +1,10 @@
 // The numbers of the request program.
 use guard::{kinds, sizes};
 
-// What is none of the names: the first number behind theirs. The set of the twelve that every line of names has.
+// What is none of the names: the first number behind theirs.
 pub const NO_NAME: u8 = 14;
 
+// The set of the twelve that every line of names has.
 pub const FIXED_NAMES: u16 = 4095;
 
 // Places for what stands under each name, and for which name stands where; any byte has one by its remainder.
@@ -21,7 +22,7 @@ pub const WORDS: usize = 1 + KINDS;
 
 pub const USER: u32 = 0;
 
-// What is none of them.
+// What stands in a row of numbers where no word does.
 pub const NO_WORD: u32 = WORDS as u32;
 
 // The keys of texts of at most four bytes are below the first, those of at most five below the second.

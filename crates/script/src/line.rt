@@ -5,7 +5,6 @@ ghost use Rattle.script.specs.Private.Slices.{before};
 ghost use Rattle.script.specs.Names.{Ordered};
 ghost use Rattle.script.specs.Private.Rows.{blank, IsRow};
 
-use crate::fields::Half;
 use crate::row::Row;
 use crate::{fields, limits, row};
 use guard::Request;
@@ -46,18 +45,20 @@ fn empty() -> [u32; limits::PLACES]
 fn asked(row: Row, vals: &[u32; limits::PLACES]) -> Line
     ensures { (h : List (List ℕ)) (at l : List ℕ) → Ordered h at → IsRow at l vals.now row → result ≡ read_line h l }
 {
-    if !row.good | (limits::LONGEST < row.len) {
+    let Some(given) = row.given else {
+        return Line::Bad;
+    };
+    if limits::LONGEST < row.len {
         return Line::Bad;
     }
     let word = vals[0];
-    if limits::NO_WORD <= word {
-        return Line::Bad;
-    }
-    let uses = fields::uses(word);
-    let Half::Numbers(six) = fields::first(vals, row.given, uses) else {
+    let Some(uses) = fields::uses(word) else {
         return Line::Bad;
     };
-    fields::second(word, six, vals, row.given, uses)
+    let Some(six) = fields::first(vals, given, uses) else {
+        return Line::Bad;
+    };
+    fields::second(word, six, vals, given, uses)
 }
 
 // The line at the front of `s`, up to byte 10 or the end, under a good header.

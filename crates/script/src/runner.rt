@@ -1,24 +1,24 @@
 // The request program over input in pieces. A host hands over a piece of the input and room for output; the runner uses
 // whole lines only, and the host gives what was not used again, in front of the next piece. No line is kept here: one that
 // has passed 255 bytes without byte 10 is answered 17 at once, and passed over to its end.
-ghost use Rattle.std.specs.Prelude.{◌≤◌, ◌<◌, ◌≡◌, length};
+ghost use Rattle.std.specs.Prelude.{◌≤◌, ◌<◌, ◌≡◌, ◌≢◌, length};
 ghost use Rattle.script.specs.Report.{line_room, last_line};
 ghost use Rattle.script.specs.Private.Slices.{before};
-ghost use Rattle.script.specs.Private.LineBatch.{Lent};
-ghost use Rattle.script.specs.Run.{at_names, at_lines, unbegun, is_over, Finished};
+ghost use Rattle.script.specs.Run.{unbegun, is_over, Finished};
 ghost use Rattle.script.specs.Private.Steps.{Spoken, Named, Stepped};
+ghost use Rattle.script.specs.declared.runner.Phase.TheVariants.{Heading, Names, Lines};
 
 use crate::{batch, header, limits, line, print, reply, text};
 use guard::{Label, Tables, User, sizes};
 
 // The phases of a run: the heading is to come, the names are to come, lines of values, over.
-const AT_HEADING: u8 = 0;
-
-const AT_NAMES: u8 = 1;
-
-const AT_LINES: u8 = 2;
-
-const AT_END: u8 = 3;
+#[derive(Clone, Copy)]
+enum Phase {
+    Heading,
+    Names,
+    Lines,
+    Over,
+}
 
 // Where a run stands: the bench (its tables, and whether a readable line with a word other than `user` has come), the
 // order of the names, the phase, how many lines are done, the names line as 1, and whether the line that is begun has been
@@ -28,7 +28,7 @@ pub struct Runner {
     tables: Tables,
     shut: bool,
     at: [u8; limits::PLACES],
-    phase: u8,
+    phase: Phase,
     done: u32,
     skip: bool,
 }
@@ -72,21 +72,19 @@ fn take_names(mut r: Runner, s: &[u8], out: &mut [u8]) -> Said
     requires { line_room ≤ length out.old }
     ensures { Named r s.now out.old out.new result }
 {
-    let order = header::header(s);
-    if order.good {
-        let at = order.at;
-        r.at = at;
-        r.phase = AT_LINES;
-        r.done = 1;
-        r.skip = false;
-        return Said {
-            runner: r,
-            wrote: 0,
-        };
+    let Some(at) = header::header(s) else {
+        let wrote = print::put_line(print::numeral_of(1), limits::UNREAD, out);
+        r.phase = Phase::Over;
+        return Said { runner: r, wrote };
+    };
+    r.at = at;
+    r.phase = Phase::Lines;
+    r.done = 1;
+    r.skip = false;
+    Said {
+        runner: r,
+        wrote: 0,
     }
-    let wrote = print::put_line(print::numeral_of(1), limits::UNREAD, out);
-    r.phase = AT_END;
-    Said { runner: r, wrote }
 }
 
 impl Runner {
@@ -105,7 +103,7 @@ impl Runner {
             tables,
             shut: false,
             at: [0u8; limits::PLACES],
-            phase: AT_HEADING,
+            phase: Phase::Heading,
             done: 0,
             skip: false,
         }
@@ -115,10 +113,11 @@ impl Runner {
     pub fn is_over(self) -> bool
         ensures { result ≡ is_over self }
     {
-        if self.phase == AT_LINES {
-            return limits::LAST_LINE <= self.done;
+        match self.phase {
+            Phase::Heading | Phase::Names => false,
+            Phase::Lines => limits::LAST_LINE <= self.done,
+            Phase::Over => true,
         }
-        AT_LINES < self.phase
     }
 }
 
@@ -135,7 +134,7 @@ fn idle(runner: Runner) -> Ran
 
 // The names line, once it is there: with its byte 10, or past 255 bytes, or at the end of the input.
 fn names_step(r: Runner, piece: &[u8], end: bool, out: &mut [u8]) -> Ran
-    requires { r.phase ≡ at_names }
+    requires { r.phase ≡ Names }
     ensures { Stepped r piece.now end out.old out.new result }
 {
     if out.len() < limits::LINE_ROOM {
@@ -165,7 +164,7 @@ fn names_step(r: Runner, piece: &[u8], end: bool, out: &mut [u8]) -> Ran
 
 // One line of values, likewise; or the rest of a line that has been answered.
 fn values_step(mut r: Runner, piece: &[u8], end: bool, out: &mut [u8]) -> Ran
-    requires { r.phase ≡ at_lines }
+    requires { r.phase ≡ Lines }
     ensures { Stepped r piece.now end out.old out.new result }
 {
     if limits::LAST_LINE <= r.done {
@@ -221,41 +220,40 @@ fn values_step(mut r: Runner, piece: &[u8], end: bool, out: &mut [u8]) -> Ran
     idle(r)
 }
 
-// The names line; or whole lines of values, as many as a batch takes, and where there is none, the one line that is left. The
-// last four are room for a batch.
-fn one(
-    mut r: Runner,
-    piece: &[u8],
-    end: bool,
-    out: &mut [u8],
-    rows: &mut [u32],
-    marks: &mut [bool],
-    answers: &mut [u8],
-    roles: &mut [u8],
-) -> Ran
-    requires { (at_names ≤ r.phase) × Lent rows.old marks.old answers.old roles.old }
+// Room for a batch: its requests as rows, of each line whether it asks one, the answers, and the roles told, which are not
+// printed.
+#[derive(Drop)]
+struct Room {
+    rows: [u32; limits::BATCH_NUMBERS],
+    marks: [bool; limits::BATCH],
+    answers: [u8; limits::BATCH],
+    roles: [u8; limits::BATCH],
+}
+
+// The names line; or whole lines of values, as many as a batch takes, and where there is none, the one line that is left.
+fn one(mut r: Runner, piece: &[u8], end: bool, out: &mut [u8], room: &mut Room) -> Ran
+    requires { r.phase ≢ Heading }
     ensures { Stepped r piece.now end out.old out.new result }
 {
-    if r.phase == AT_NAMES {
-        return names_step(r, piece, end, out);
-    }
-    if AT_LINES < r.phase {
-        return idle(r);
+    match r.phase {
+        Phase::Names => return names_step(r, piece, end, out),
+        Phase::Lines => {}
+        Phase::Heading | Phase::Over => return idle(r),
     }
     if r.skip {
         return values_step(r, piece, end, out);
     }
     let at = r.at;
     let most = batch::most(r.done, out.len());
-    let g = batch::gather(piece, at, most, r.shut, rows, marks);
+    let g = batch::gather(piece, at, most, r.shut, &mut room.rows, &mut room.marks);
     let lines = g.lines;
     if lines == 0 {
         return values_step(r, piece, end, out);
     }
     let n = sizes::ROW * g.count;
     let t = r.tables;
-    let next = t.run(&rows[..n], answers, roles);
-    let wrote = batch::put_answers(marks, answers, lines, r.done + 1, out);
+    let next = t.run(&room.rows[..n], &mut room.answers, &mut room.roles);
+    let wrote = batch::put_answers(&room.marks, &room.answers, lines, r.done + 1, out);
     r.tables = next;
     r.shut = g.shut;
     r.done = r.done + lines as u32;
@@ -268,27 +266,20 @@ fn one(
 
 // A piece, the heading being written.
 fn work(r: Runner, piece: &[u8], end: bool, out: &mut [u8]) -> Ran
-    requires { at_names ≤ r.phase }
+    requires { r.phase ≢ Heading }
     ensures { Finished r piece.now end out.old out.new result }
 {
-    let mut rows = [0u32; limits::BATCH_NUMBERS];
-    let mut marks = [false; limits::BATCH];
-    let mut answers = [0u8; limits::BATCH];
-    let mut roles = [0u8; limits::BATCH];
+    let mut room = Room {
+        rows: [0; limits::BATCH_NUMBERS],
+        marks: [false; limits::BATCH],
+        answers: [0; limits::BATCH],
+        roles: [0; limits::BATCH],
+    };
     let mut held = r;
     let mut at = 0;
     let mut wrote = 0;
     loop {
-        let ran = one(
-            held,
-            &piece[at..],
-            end,
-            &mut out[wrote..],
-            &mut rows,
-            &mut marks,
-            &mut answers,
-            &mut roles,
-        );
+        let ran = one(held, &piece[at..], end, &mut out[wrote..], &mut room);
         let next = ran.runner;
         held = next;
         at = at + ran.used;
@@ -307,12 +298,12 @@ fn work(r: Runner, piece: &[u8], end: bool, out: &mut [u8]) -> Ran
 pub fn run(mut r: Runner, piece: &[u8], end: bool, out: &mut [u8]) -> Ran
     ensures { Finished r piece.now end out.old out.new result }
 {
-    if r.phase == AT_HEADING {
+    if let Phase::Heading = r.phase {
         if out.len() < limits::LINE_ROOM {
             return idle(r);
         }
         let heading = print::put_heading(out);
-        r.phase = AT_NAMES;
+        r.phase = Phase::Names;
         let ran = work(r, piece, end, &mut out[heading..]);
         let next = ran.runner;
         return Ran {

@@ -1,6 +1,7 @@
 -- Lines of values in a batch. The contracts of the batch's private functions are put in these words; the report does not
 -- cite them.
 use Rattle.std.specs.Prelude.{ℕ, ◌+◌, ◌-◌, ◌*◌, ◌≤◌, ◌<◌, ◌≡◌, Bool, true, false, not, List, [], ◌∷◌, ◌++◌, length, take, drop, get_or}
+use Rattle.std.specs.Int.{from_bool}
 use Rattle.guard.specs.Step.{run, answers}
 use Rattle.guard.specs.Batch.{row_length, requests}
 use Rattle.guard.specs.Private.Inside.{row_of}
@@ -35,9 +36,8 @@ is_allowed shut Bad = false
 
 -- ---- the output for lines
 -- `marks` tells of each line whether it asks a request; how many do
-unfoldable pub one : Bool → ℕ
-one true = 1
-one false = 0
+abbrev pub one : Bool → ℕ
+one m = from_bool m
 
 unfoldable pub asked : List Bool → ℕ
 asked [] = 0
@@ -53,13 +53,6 @@ texts n [] given = []
 texts n (m ∷ ms) given = line_text n (said m (get_or given 0 0)) ++ texts (n + 1) ms (drop (one m) given)
 
 -- ---- batches
--- room for a batch: its requests as rows, of each line whether it asks one, the answers, and the roles told, which are not printed
-pub record Lent (rows : List ℕ) (marks : List Bool) (answers roles : List ℕ) : Type 0 where
-  pub rows_room : length rows ≡ row_length * batch_lines
-  pub marks_room : length marks ≡ batch_lines
-  pub answers_room : length answers ≡ batch_lines
-  pub roles_room : length roles ≡ batch_lines
-
 -- how many lines a batch may take: with room for their answers, and none after the last line that is read
 pub record Most (done room m : ℕ) : Type 0 where
   pub fits : m ≤ batch_lines

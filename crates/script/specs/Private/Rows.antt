@@ -1,6 +1,6 @@
 -- The words in which the contracts of the row reader's private functions are put: a row of numbers, one under each name,
 -- and how it is taken apart. The report does not cite them, so a reader of the paper need not read them.
-use Rattle.std.specs.Prelude.{ℕ, zero, suc, ◌+◌, ◌%◌, ◌≡◌, Bool, true, false, not, cond, ◌&&◌, List, [], ◌∷◌, eqb, leb, ltb, length, get_or, set, drop, replicate}
+use Rattle.std.specs.Prelude.{ℕ, zero, suc, ◌+◌, ◌%◌, ◌≡◌, Bool, true, false, MatchOption, not, cond, ◌&&◌, List, [], ◌∷◌, Option, Some, None, eqb, ltb, length, get_or, set, drop, replicate}
 use Rattle.bitset.specs.Sets.{has, with}
 use Rattle.script.specs.Text.{bytes, same, values}
 use Rattle.script.specs.Names.{place_count, column}
@@ -8,42 +8,32 @@ use Rattle.script.specs.Line.{value_of, words, Numbers, unreadable, joined}
 use Rattle.script.specs.Private.Slices.{leading}
 use Rattle.script.specs.declared.line.Value.{Value}
 use Rattle.script.specs.declared.line.Value.TheVariants.{Digits, Dash, Other}
-use Rattle.script.specs.declared.fields.Taken.{Taken}
-use Rattle.script.specs.declared.fields.Taken.TheVariants.{Number, Fault}
-use Rattle.script.specs.declared.fields.Half.{Half}
-use Rattle.script.specs.declared.fields.Half.TheVariants.{Numbers as Whole, Fault as Broken}
+use Rattle.script.specs.declared.fields.Six.{Six}
 use Rattle.script.specs.declared.row.Found.{Found}
 use Rattle.script.specs.declared.row.Row.{Row}
 
--- ---- codes
--- a value as a number: digits as what they write, which is below 100,000
-unfoldable pub coded : Value → ℕ
-coded (Digits n) = n
-coded Dash = 100000
-coded Other = 100001
+-- ---- values
+-- a value under `call`: a word counts as digits, those of its place
+unfoldable pub word_value : List ℕ → Value
+word_value v = cond (same v (bytes "-")) Dash (cond (ltb (column v words) (length words)) (Digits (column v words)) Other)
 
--- the code of a value under the name i: under `call`, which is name 0, the word's number unless it is a dash
-unfoldable pub code_at : ℕ → List ℕ → ℕ
-code_at i v = cond (same v (bytes "-")) 100000 (cond (eqb i 0) (column v words) (coded (value_of v)))
-
--- a code's form: 0 a number, 1 a dash, 2 anything else
-unfoldable pub form_of : ℕ → ℕ
-form_of n = cond (ltb n 100000) 0 (cond (eqb n 100000) 1 2)
+-- a value under the name i: `call` is name 0
+unfoldable pub value_under : ℕ → List ℕ → Value
+value_under i v = cond (eqb i 0) (word_value v) (value_of v)
 
 -- the value at byte `from` of s, under the name i
 pub record IsFound (i : ℕ) (s : List ℕ) (from : ℕ) (r : Found) : Type 0 where
-  pub code : r.code ≡ code_at i (leading (drop from s))
-  pub form : r.form ≡ form_of r.code
+  pub value : r.value ≡ value_under i (leading (drop from s))
   pub end : r.end ≡ from + length (leading (drop from s))
   pub more : r.more ≡ eqb (get_or s r.end 0) 32
 
 -- ---- rows
--- the name of the place j, and the code there; `at` tells the name of each place
+-- the name of the place j, and the value there; `at` tells the name of each place
 abbrev pub name_at : List ℕ → ℕ → ℕ
 name_at at j = get_or at j 0 % 16
 
-unfoldable pub code_in : List ℕ → List (List ℕ) → ℕ → ℕ
-code_in at vs j = code_at (name_at at j) (get_or vs j [])
+unfoldable pub value_in : List ℕ → List (List ℕ) → ℕ → Value
+value_in at vs j = value_under (name_at at j) (get_or vs j [])
 
 -- what is no word has the place behind the last: how many words there are
 abbrev pub no_word : ℕ
@@ -53,18 +43,34 @@ no_word = 20
 unfoldable pub blank : List ℕ
 blank = set (replicate place_count 0) 0 no_word
 
--- of the first j values the numbers, each under its name; the set of their names; and whether each has a form
+-- a row, and the set of the names whose value is a number, with a value put under the name i; whether it has a form
+unfoldable pub put_under : List ℕ → ℕ → Value → List ℕ
+put_under row i (Digits n) = set row i n
+put_under row i Dash = row
+put_under row i Other = row
+
+unfoldable pub mark_under : ℕ → ℕ → Value → ℕ
+mark_under given i (Digits n) = with given i
+mark_under given i Dash = given
+mark_under given i Other = given
+
+unfoldable pub has_form : Value → Bool
+has_form (Digits n) = true
+has_form Dash = true
+has_form Other = false
+
+-- so with the first j values; and whether each has a form
 unfoldable pub gathered : List ℕ → List (List ℕ) → ℕ → List ℕ
 gathered at vs zero = blank
-gathered at vs (suc j) = cond (ltb (code_in at vs j) 100000) (set (gathered at vs j) (name_at at j) (code_in at vs j)) (gathered at vs j)
+gathered at vs (suc j) = put_under (gathered at vs j) (name_at at j) (value_in at vs j)
 
 unfoldable pub marked : List ℕ → List (List ℕ) → ℕ → ℕ
 marked at vs zero = 0
-marked at vs (suc j) = cond (ltb (code_in at vs j) 100000) (with (marked at vs j) (name_at at j)) (marked at vs j)
+marked at vs (suc j) = mark_under (marked at vs j) (name_at at j) (value_in at vs j)
 
 unfoldable pub fine : List ℕ → List (List ℕ) → ℕ → Bool
 fine at vs zero = true
-fine at vs (suc j) = fine at vs j && leb (code_in at vs j) 100000
+fine at vs (suc j) = fine at vs j && has_form (value_in at vs j)
 
 -- what is none of the names has the place behind the last: how many names there are, and how many behind `call`
 abbrev pub name_count : ℕ
@@ -78,24 +84,31 @@ unfoldable pub fills : List ℕ → ℕ → Bool
 fills at zero = false
 fills at (suc j) = ltb (suc j) place_count && (not (eqb (name_at at j) name_count) && eqb (name_at at (suc j)) name_count)
 
--- the row of a line l: good where it has as many values as there are names, each of a form
+-- a line has as many values as there are names, each of a form
+unfoldable pub is_full : List ℕ → List (List ℕ) → Bool
+is_full at vs = fills at (length vs) && fine at vs (length vs)
+
+-- the row of a line l: the numbers of a full one, each under its name, and the set of their names
+pub record IsFull (at l vals : List ℕ) (given : ℕ) : Type 0 where
+  pub full : is_full at (values l) ≡ true
+  pub holds : vals ≡ gathered at (values l) (length (values l))
+  pub marks : given ≡ marked at (values l) (length (values l))
+
 pub record IsRow (at l vals : List ℕ) (r : Row) : Type 0 where
   pub long : r.len ≡ length l
-  pub whole : r.good ≡ (fills at (length (values l)) && fine at (values l) (length (values l)))
-  pub holds : r.good ≡ true → vals ≡ gathered at (values l) (length (values l))
-  pub marks : r.good ≡ true → r.given ≡ marked at (values l) (length (values l))
+  pub whole : MatchOption r.given (is_full at (values l) ≡ false) (IsFull at l vals)
 
 -- ---- fields
--- what a field is taken as, by whether the word uses it and whether its value is a number
-unfoldable pub taken_as : Bool → Bool → ℕ → Taken
-taken_as true true n = Number n
-taken_as true false n = Fault
-taken_as false true n = Fault
-taken_as false false n = Number n
+-- what a field is taken as, by whether the word uses it and whether its value is a number; nothing where it has a fault
+unfoldable pub taken_as : Bool → Bool → ℕ → Option ℕ
+taken_as true true n = Some n
+taken_as true false n = None
+taken_as false true n = None
+taken_as false false n = Some n
 
-unfoldable pub joins : Taken → Numbers → Numbers
-joins (Number n) rest = joined n rest
-joins Fault rest = unreadable
+unfoldable pub joins : Option ℕ → Numbers → Numbers
+joins (Some n) rest = joined n rest
+joins None rest = unreadable
 
 -- n fields of a row from name i on, in front of the rest; `uses` is the set of the used ones, `given` that of the numbers
 unfoldable pub take_from : ℕ → ℕ → List ℕ → ℕ → ℕ → Numbers → Numbers
@@ -107,9 +120,9 @@ unfoldable pub front : List ℕ → Numbers → Numbers
 front [] rest = rest
 front (n ∷ ns) rest = joined n (front ns rest)
 
-unfoldable pub ahead : Half → Numbers → Numbers
-ahead (Whole x) rest = front (x.seat ∷ x.user ∷ x.role ∷ x.entity ∷ x.parent ∷ x.kind ∷ []) rest
-ahead Broken rest = unreadable
+unfoldable pub ahead : Option Six → Numbers → Numbers
+ahead (Some x) rest = front (x.seat ∷ x.user ∷ x.role ∷ x.entity ∷ x.parent ∷ x.kind ∷ []) rest
+ahead None rest = unreadable
 
 -- the members of a set from i on, n of them, as tests
 unfoldable pub members : ℕ → ℕ → ℕ → List Bool

@@ -1,5 +1,7 @@
 -- A short text as one number, in which the contracts of private functions are put. The report does not cite it.
-use Rattle.std.specs.Prelude.{ℕ, suc, ◌+◌, ◌*◌, ◌<◌, ◌≡◌, cond, List, [], ◌∷◌, map, leb, eqb, length, get_or, take}
+use Rattle.std.specs.Prelude.{ℕ, suc, ◌+◌, ◌*◌, ◌<◌, ◌≡◌, cond, List, [], ◌∷◌, Option, Some, map, leb, ltb, eqb, length, get_or, take}
+use Rattle.std.specs.Bool.{then_some}
+use Rattle.script.specs.Names.{column}
 use Rattle.script.specs.Line.{words}
 use Rattle.script.specs.Private.Rows.{no_word}
 
@@ -27,12 +29,20 @@ abbrev pub spot : ℕ → List ℕ → ℕ
 spot k [] = 0
 spot k (n ∷ ns) = cond (eqb k n) 0 (suc (spot k ns))
 
--- which of the words has the key k
-unfoldable pub word_of : ℕ → ℕ
-word_of k = spot k (map text_key words)
+-- a place, if it is one of the first n
+abbrev pub below : ℕ → ℕ → Option ℕ
+below n i = then_some (ltb i n) i
 
--- s begins with n bytes that are the word w, and a space behind them; where w is no word nothing is said of s
+-- which of the texts it is, if it is one
+unfoldable pub place_in : List ℕ → List (List ℕ) → Option ℕ
+place_in p ps = below (length ps) (column p ps)
+
+-- which of the words has the key k, if one has it
+unfoldable pub word_of : ℕ → Option ℕ
+word_of k = below no_word (spot k (map text_key words))
+
+-- s begins with n bytes that are the word w, and a space behind them
 pub record Begins (s : List ℕ) (w n : ℕ) : Type 0 where
   pub within : n < 7
-  pub word : w < no_word → w ≡ word_of (text_key (take n s))
-  pub space : w < no_word → get_or s n 0 ≡ 32
+  pub word : Some w ≡ word_of (text_key (take n s))
+  pub space : get_or s n 0 ≡ 32

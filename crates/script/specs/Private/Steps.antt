@@ -1,21 +1,18 @@
 -- A runner's steps, in the words in which the contracts of private functions are put: one line of values, the names line, and a
 -- step, which does at most one line.
-use Rattle.std.specs.Prelude.{ℕ, ◌+◌, ◌-◌, ◌≤◌, ◌≡◌, Bool, false, List, length, drop}
+use Rattle.std.specs.Prelude.{ℕ, ◌+◌, ◌-◌, ◌≡◌, ◌≢◌, Bool, false, List, length, drop}
 use Rattle.script.specs.Text.{values}
 use Rattle.script.specs.Names.{is_names, Ordered}
 use Rattle.script.specs.Line.{read_line}
 use Rattle.script.specs.Report.{Answered, unread_answer, answer_line, line_text}
-use Rattle.script.specs.Run.{at_names, at_lines, bench, bench_of, Worked, Stopped}
+use Rattle.script.specs.Run.{bench, bench_of, Worked, Stopped}
 use Rattle.script.specs.Private.Slices.{Put}
 use Rattle.script.specs.declared.line.Line.{Line}
+use Rattle.script.specs.declared.runner.Phase.TheVariants.{Heading, Lines, Over}
 use Rattle.script.specs.declared.runner.Runner.{Runner}
 use Rattle.script.specs.declared.reply.Reply.{Reply}
 use Rattle.script.specs.declared.runner.Said.{Said}
 use Rattle.script.specs.declared.runner.Ran.{Ran}
-
--- the phase of a run that is over
-abbrev pub at_end : ℕ
-at_end = 3
 
 abbrev pub said_by : Reply → Answered
 said_by a = record { bench = bench a.tables a.shut; answer = a.answer }
@@ -44,10 +41,10 @@ pub record Spoken (r : Runner) (l old new : List ℕ) (x : Said) : Type 0 where
 
 -- ---- the names line
 abbrev pub with_names : Runner → List ℕ → Runner
-with_names r at = record { tables = r.tables; shut = r.shut; at = at; phase = at_lines; done = 1; skip = false }
+with_names r at = record { tables = r.tables; shut = r.shut; at = at; phase = Lines; done = 1; skip = false }
 
 abbrev pub over : Runner → Runner
-over r = record { tables = r.tables; shut = r.shut; at = r.at; phase = at_end; done = r.done; skip = r.skip }
+over r = record { tables = r.tables; shut = r.shut; at = r.at; phase = Over; done = r.done; skip = r.skip }
 
 pub data Named (r : Runner) (l old : List ℕ) : List ℕ → Said → Type 0 where
   good : (at : List ℕ) → Ordered (values l) at → Named r l old old (record { runner = with_names r at; wrote = 0 })
@@ -56,5 +53,5 @@ pub data Named (r : Runner) (l old : List ℕ) : List ℕ → Said → Type 0 wh
 -- ---- where a step of a call on a piece ends
 pub record Stepped (r : Runner) (piece : List ℕ) (end : Bool) (old new : List ℕ) (x : Ran) : Type 0 where
   pub did : Worked r piece end old new x
-  pub begun : at_names ≤ x.runner.phase
+  pub begun : x.runner.phase ≢ Heading
   pub stops : x.used ≡ 0 → Stopped x.runner (drop x.used piece) end (length old - x.wrote)

@@ -5,37 +5,36 @@
 --     rest_none                    nothing is left to be done
 --     over_silent                  a run that is over, whatever input follows
 -- Assumes nothing.
-use Rattle.std.specs.Prelude.{ℕ, ◌-◌, ◌≤◌, ◌<◌, ◌≡◌, refl, Bool, true, false, cond, List, [], ◌∷◌, ◌++◌, eqb, leb, ltb, length}
-use Rattle.std.proofs.Common.{◌∙◌, append_assoc, arith, ne_eqb, eqb-true, leb-true, leb-false, ltb-true}
+use Rattle.std.specs.Prelude.{ℕ, ◌-◌, ◌≤◌, ◌<◌, ◌≡◌, refl, Bool, true, false, cond, List, [], ◌∷◌, ◌++◌, length}
+use Rattle.std.proofs.Common.{ap, sym, ◌∙◌, true≢false, append_assoc, arith, leb-true}
 use Rattle.std.proofs.Math.Seq.{take-nil}
-use Rattle.std.proofs.lemmas.Bool.{eqb-false}
 use Rattle.script.specs.Text.{lines, after}
 use Rattle.script.specs.Report.{Bench, heading, answered, last_line}
-use Rattle.script.specs.Run.{at_heading, at_names, at_lines, bench_of, Told, told_first, silent, finally, from_line, from_names, rest, is_over, Open, names_to_come, line_to_come}
-use Rattle.script.specs.Private.Steps.{at_end}
+use Rattle.script.specs.Run.{before_lines, bench_of, Told, told_first, silent, finally, from_line, from_names, rest_in, rest, is_over_in, is_over, Open, names_to_come, line_to_come}
+use Rattle.script.specs.declared.runner.Phase.{Phase}
+use Rattle.script.specs.declared.runner.Phase.TheVariants.{Heading, Names, Lines, Over}
 use Rattle.script.specs.declared.runner.Runner.{Runner}
 
 pub put_put : (w v : List ℕ) (p : Told) → told_first w (told_first v p) ≡ told_first (w ++ v) p
 put_put w v p = rw append_assoc
 
 -- ---- by phase
-pub rest_heading : (header : List (List ℕ)) (r : Runner) (s : List ℕ) → r.phase ≡ at_heading → rest header r s ≡ told_first heading (from_names s)
-unfolding rest
+pub rest_heading : (header : List (List ℕ)) (r : Runner) (s : List ℕ) → r.phase ≡ Heading → rest header r s ≡ told_first heading (from_names s)
+unfolding rest_in
 rest_heading header r s p = rw p
 
-pub rest_names : (header : List (List ℕ)) (r : Runner) (s : List ℕ) → r.phase ≡ at_names → rest header r s ≡ from_names s
-unfolding rest
+pub rest_names : (header : List (List ℕ)) (r : Runner) (s : List ℕ) → r.phase ≡ Names → rest header r s ≡ from_names s
+unfolding rest_in
 rest_names header r s p = rw p
 
-pub rest_lines : (header : List (List ℕ)) (r : Runner) (s : List ℕ) → r.phase ≡ at_lines
+pub rest_lines : (header : List (List ℕ)) (r : Runner) (s : List ℕ) → r.phase ≡ Lines
     → rest header r s ≡ from_line header (bench_of r) r.done (cond r.skip (after 10 s) s)
-unfolding rest
+unfolding rest_in
 rest_lines header r s p = rw p
 
-pub rest_over : (header : List (List ℕ)) (r : Runner) (s : List ℕ) → at_end ≤ r.phase → rest header r s ≡ silent (bench_of r)
-unfolding rest
-rest_over header r s p =
-    rw (ne_eqb r.phase 0 (λ e. omega arith), ne_eqb r.phase 1 (λ e. omega arith), ne_eqb r.phase 2 (λ e. omega arith))
+pub rest_over : (header : List (List ℕ)) (r : Runner) (s : List ℕ) → r.phase ≡ Over → rest header r s ≡ silent (bench_of r)
+unfolding rest_in
+rest_over header r s p = rw p
 
 -- ---- where nothing is left
 pub line_none : (header : List (List ℕ)) (b : Bench) (n : ℕ) (s : List ℕ) → (n < last_line → 0 < length s → ⊥) → from_line header b n s ≡ silent b
@@ -52,30 +51,30 @@ empty_rest true = refl
 empty_rest false = refl
 
 pub rest_none : (header : List (List ℕ)) (r : Runner) (s : List ℕ) → (Open r s → ⊥) → rest header r s ≡ silent (bench_of r)
-rest_none header r s h = go (leb 3 r.phase) refl (eqb r.phase 2) refl
+rest_none header r s h = go r.phase refl
   where
-    lines_none : r.phase ≡ 2 → (s2 : List ℕ) → s ≡ s2 → r.done < last_line → 0 < length (cond r.skip (after 10 s2) s2) → ⊥
+    lines_none : r.phase ≡ Lines → (s2 : List ℕ) → s ≡ s2 → r.done < last_line → 0 < length (cond r.skip (after 10 s2) s2) → ⊥
     lines_none p [] z d l = omega (arith, empty_rest r.skip)
     lines_none p (b ∷ s2) z d l = h (line_to_come p d (rw z (omega arith)))
 
-    go : (a : Bool) → leb 3 r.phase ≡ a → (b : Bool) → eqb r.phase 2 ≡ b → rest header r s ≡ silent (bench_of r)
-    go true a b e = rest_over header r s (leb-true _ _ a)
-    go false a true e = rest_lines header r s (eqb-true _ _ e) ∙ line_none header (bench_of r) r.done _ (lines_none (eqb-true _ _ e) s refl)
-    go false a false e = absurd (h (names_to_come (early (leb-false _ _ a) (eqb-false _ _ e))))
-      where
-        early : r.phase < 3 → (r.phase ≡ 2 → ⊥) → r.phase < 2
-        early l n = omega arith
+    go : (p : Phase) → r.phase ≡ p → rest header r s ≡ silent (bench_of r)
+    go Heading e = absurd (h (names_to_come (ap before_lines e)))
+    go Names e = absurd (h (names_to_come (ap before_lines e)))
+    go Lines e = rest_lines header r s e ∙ line_none header (bench_of r) r.done _ (lines_none e s refl)
+    go Over e = rest_over header r s e
 
-lines_over : (r : Runner) → r.phase ≡ at_lines → last_line ≤ r.done → (header : List (List ℕ)) (s : List ℕ) → rest header r s ≡ silent (bench_of r)
+lines_over : (r : Runner) → r.phase ≡ Lines → last_line ≤ r.done → (header : List (List ℕ)) (s : List ℕ) → rest header r s ≡ silent (bench_of r)
 lines_over r p h header s = rest_lines header r s p ∙ line_none header (bench_of r) r.done (cond r.skip (after 10 s) s) (λ d l. past d)
   where
     past : r.done < last_line → ⊥
     past d = omega arith
 
 pub over_silent : (r : Runner) → is_over r ≡ true → (header : List (List ℕ)) (s : List ℕ) → rest header r s ≡ silent (bench_of r)
-unfolding is_over
-over_silent r h header s = go (eqb r.phase at_lines) refl h
+unfolding is_over_in
+over_silent r h header s = go r.phase refl h
   where
-    go : (b : Bool) → eqb r.phase at_lines ≡ b → cond b (leb last_line r.done) (ltb at_lines r.phase) ≡ true → rest header r s ≡ silent (bench_of r)
-    go true e h = lines_over r (eqb-true _ _ e) (leb-true _ _ h) header s
-    go false e h = rest_over header r s (ltb-true _ _ h)
+    go : (p : Phase) → r.phase ≡ p → is_over_in p r.done ≡ true → rest header r s ≡ silent (bench_of r)
+    go Heading e h = absurd (true≢false (sym h))
+    go Names e h = absurd (true≢false (sym h))
+    go Lines e h = lines_over r e (leb-true _ _ h) header s
+    go Over e h = rest_over header r s e

@@ -1,12 +1,8 @@
 -- `gather`: the loop over lines keeps Taken (GatherLoop). Assumes nothing.
-use Prim.Native.Nat.{◌-◌, ◌≤◌}
 use mathlib.Core.Path.{◌≡◌}
 use lib.ListN.{length}
 use Rattle.script.proofs.GatherLoop.{Taken}
 use Rattle.script.proofs.batch.gather.Given as goal
 
 abbrev pub invariant-loop-lines : goal.invariant-loop-lines
-invariant-loop-lines l = (length l.rows ≡ length l.initial.rows) × (length l.marks ≡ length l.initial.marks) × (l.lines ≤ l.most) × Taken l.at l.s l.shut-2 l.rows l.marks l.count l.lines l.used l.shut
-
-abbrev pub decreases-loop-lines : goal.decreases-loop-lines
-decreases-loop-lines l = l.most - l.lines
+invariant-loop-lines l = (length l.rows ≡ length l.initial.rows) × (length l.marks ≡ length l.initial.marks) × Taken l.at l.s l.shut-2 l.rows l.marks l.count l.lines l.used l.shut

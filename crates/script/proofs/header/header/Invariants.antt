@@ -5,8 +5,8 @@ use lib.ListN.{length}
 use Rattle.script.proofs.HeaderLoop.{Seen}
 use Rattle.script.proofs.header.header.Given as goal
 
-abbrev pub invariant-loop-rest : goal.invariant-loop-rest
-invariant-loop-rest l = Seen l.s l.at l.seen l.from l.j
+abbrev pub invariant-loop-name : goal.invariant-loop-name
+invariant-loop-name l = Seen l.s l.at l.seen l.from l.j
 
-abbrev pub decreases-loop-rest : goal.decreases-loop-rest
-decreases-loop-rest l = length l.s - l.from
+abbrev pub decreases-loop-name : goal.decreases-loop-name
+decreases-loop-name l = length l.s - l.from

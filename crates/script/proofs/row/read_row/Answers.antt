@@ -1,12 +1,12 @@
 -- `script::row::read_row` meets its contract. The loop's invariant: the numbers so far stand under their names. The measure is
 -- what is left of the slice. Assumes nothing.
-use mathlib.Core.Path.{ap, ◌∙◌}
+use mathlib.Core.Path.{refl, ap, ◌∙◌}
 use native.Mathlib.Nat.{mod-eq_of_lt}
 use native.Mathlib.Omega.{arith}
-use borrow.Author.Tests.{not-true, not-false}
 use Rattle.bitset.specs.Sets.{with}
 use Rattle.script.proofs.RowLoop.{filled_start, row_other, row_over}
-use Rattle.script.proofs.RowStores.{filled_number, filled_dash, row_number, row_dash, filled_slice, found_slice, filled_skip}
+use Rattle.script.proofs.RowStores.{stored_number, stored_dash, filled_next, row_last, filled_slice, found_slice, filled_skip}
+use Rattle.script.proofs.row.read_row.Goals.{in-Digits+else-found, in-Dash+else-found-2}
 use Rattle.script.proofs.row.read_row.Goals as goal
 
 pub loop-from-init : goal.loop-from-init
@@ -24,29 +24,24 @@ end_of-requires c = omega (arith, filled_slice c.loop-from.invariant, c.loop-fro
 pub returns-then-j-ge-LAST_PLACE : goal.returns-then-j-ge-LAST_PLACE
 returns-then-j-ge-LAST_PLACE c = row_over c.loop-from.invariant c.if-j-ge-LAST_PLACE.true c.end_of.ensures
 
-pub code_at-f-requires : goal.code_at-f-requires
-code_at-f-requires c = omega (arith, filled_slice c.loop-from.invariant, c.loop-from.invariant.less)
+pub value_at-found-requires : goal.value_at-found-requires
+value_at-found-requires c = omega (arith, filled_slice c.loop-from.invariant, c.loop-from.invariant.less)
 
-pub returns-then-not-f : goal.returns-then-not-f
-returns-then-not-f c =
-    row_number c.loop-from.invariant c.code_at-f.ensures c.if-f-eq0.true (c.with-given.ensures ∙ ap (with _) (mod-eq_of_lt (omega arith))) (not-true _ c.if-not-f.true) (omega arith) c.is_last.ensures
+pub end_of-requires-in-Other : goal.end_of-requires-in-Other
+end_of-requires-in-Other c = omega (arith, found_slice c.loop-from.invariant c.value_at-found.ensures)
 
-pub loop-from-preserved-then-f-eq0 : goal.loop-from-preserved-then-f-eq0
-loop-from-preserved-then-f-eq0 c =
-    filled_number c.loop-from.invariant c.code_at-f.ensures c.if-f-eq0.true (c.with-given.ensures ∙ ap (with _) (mod-eq_of_lt (omega arith))) (not-false _ c.if-not-f.false) (omega arith)
+pub returns-in-Other : goal.returns-in-Other
+returns-in-Other c = row_other c.loop-from.invariant c.value_at-found.ensures c.in-Other.is c.end_of-in-Other.ensures
 
-pub end_of-requires-then-f-eq2 : goal.end_of-requires-then-f-eq2
-end_of-requires-then-f-eq2 c =
-    omega (arith, found_slice c.loop-from.invariant c.code_at-f.ensures)
-
-pub returns-then-f-eq2 : goal.returns-then-f-eq2
-returns-then-f-eq2 c =
-    row_other c.loop-from.invariant c.code_at-f.ensures c.if-f-eq2.true c.end_of-then-f-eq2.ensures
-
-pub returns-then-not-f-2 : goal.returns-then-not-f-2
-returns-then-not-f-2 c =
-    row_dash c.loop-from.invariant c.code_at-f.ensures c.if-f-eq0.false c.if-f-eq2.false (not-true _ c.if-not-f-2.true) (omega arith) c.is_last-then-not-f-2.ensures
+pub loop-from-preserved-then-found : goal.loop-from-preserved-then-found
+loop-from-preserved-then-found c =
+    filled_next c.loop-from.invariant c.value_at-found.ensures (stored_number c.in-Digits.is refl (c.with-given.ensures ∙ ap (with _) (mod-eq_of_lt (omega arith)))) c.if-found.true
 
 pub loop-from-preserved : goal.loop-from-preserved
-loop-from-preserved c =
-    filled_dash c.loop-from.invariant c.code_at-f.ensures c.if-f-eq0.false c.if-f-eq2.false (not-false _ c.if-not-f-2.false)
+loop-from-preserved c = filled_next c.loop-from.invariant c.value_at-found.ensures (stored_dash c.in-Dash.is refl refl) c.if-found-2.true
+
+pub returns-in-loop-from : goal.returns-in-loop-from
+returns-in-loop-from c = elim c.match-found.branch [
+  | in-Digits+else-found w ↦ row_last c.loop-from.invariant c.value_at-found.ensures (stored_number w.in-Digits.is w.vals-is (w.given-is ∙ w.with-given.ensures ∙ ap (with _) (mod-eq_of_lt (omega arith)))) w.if-found.false (omega arith) c.is_last.ensures c.then_some.ensures
+  | in-Dash+else-found-2 w ↦ row_last c.loop-from.invariant c.value_at-found.ensures (stored_dash w.in-Dash.is w.vals-is w.given-is) w.if-found-2.false (omega arith) c.is_last.ensures c.then_some.ensures
+]

@@ -9,6 +9,6 @@ slice_bounds-work-count c = let w = heading_wrote c.put_heading-heading.ensures 
 pub slice_bounds-work-start : goal.slice_bounds-work-start
 slice_bounds-work-start c = let w = heading_wrote c.put_heading-heading.ensures in search rules
 
-pub returns-then-r-eq-AT_HEADING : goal.returns-then-r-eq-AT_HEADING
-returns-then-r-eq-AT_HEADING c =
-    headed_done c.if-r-eq-AT_HEADING.true c.if-out-lt-LINE_ROOM.false c.put_heading-heading.auto.out c.put_heading-heading.ensures c.work-ran.auto.out c.work-ran.ensures
+pub returns-in-Heading : goal.returns-in-Heading
+returns-in-Heading c =
+    headed_done c.in-Heading.is c.if-out-lt-LINE_ROOM.false c.put_heading-heading.auto.out c.put_heading-heading.ensures c.work-ran.auto.out c.work-ran.ensures

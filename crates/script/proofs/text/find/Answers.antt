@@ -1,13 +1,15 @@
 -- `script::text::find` stands where what is before the first delimiter ends. Assumes nothing.
-use native.Mathlib.Omega.{arith}
-use Rattle.script.proofs.Texts.{find_stop, find_more, find_end}
+use mathlib.Core.Path.{refl}
+use Rattle.std.proofs.Common.{ℕ, List, length, eqb, rules, tests}
+use Rattle.std.proofs.lemmas.Iterator.{YieldsList-from_slice}
+use Rattle.std.proofs.lemmas.Iterator.Search.{position_from_yields_List}
+use Rattle.script.specs.Private.Slices.{before}
+use Rattle.script.proofs.Texts.{first_place, before_place}
 use Rattle.script.proofs.text.find.Goals as goal
 
-pub returns-then-s-i : goal.returns-then-s-i
-returns-then-s-i c = find_stop _ _ _ c.loop-i.invariant.1 (omega arith) c.if-s-i.true
-
-pub loop-i-preserved : goal.loop-i-preserved
-loop-i-preserved c = (omega arith, find_more _ _ _ c.loop-i.invariant.1 (omega arith) c.if-s-i.false)
-
 pub returns : goal.returns
-returns c = find_end _ _ _ c.loop-i.invariant.1 (omega arith)
+unfolding before
+returns c =
+    first_place (λ (s : List ℕ). length (before c.args.d s)) (λ b. eqb b c.args.d) refl (before_place c.args.d) c.args.s.now
+    (position_from_yields_List (λ b. eqb b c.args.d) _ _ _ c.position.ensures.ran (YieldsList-from_slice c.args.s.now cc) (λ x b q k. search (rules, tests)))
+    c.unwrap_or.ensures

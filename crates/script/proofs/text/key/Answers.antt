@@ -7,10 +7,10 @@ pub returns-then-s-gt7 : goal.returns-then-s-gt7
 returns-then-s-gt7 c = key_long _ (omega arith)
 
 pub overflow_mul-k : goal.overflow_mul-k
-overflow_mul-k c = omega (arith, packed_small c.loop-i.invariant (omega arith) (omega arith))
+overflow_mul-k c = omega (arith, packed_small c.loop-b.invariant (omega arith) (omega arith))
 
-pub loop-i-preserved : goal.loop-i-preserved
-loop-i-preserved c = packed_more c.loop-i.invariant (omega arith) (omega (arith, c.type_inv.s c.loop-i.i))
+pub loop-b-preserved : goal.loop-b-preserved
+loop-b-preserved c = rw c.from.ensures (packed_more c.loop-b.invariant (omega arith) (omega (arith, c.type_inv.s c.loop-b.b-index)))
 
 pub returns : goal.returns
-returns c = packed_end c.loop-i.invariant (omega arith) (omega arith)
+returns c = packed_end c.loop-b.invariant (omega arith) (omega arith)

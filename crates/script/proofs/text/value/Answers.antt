@@ -16,15 +16,15 @@ pub returns-then-s-eq45 : goal.returns-then-s-eq45
 returns-then-s-eq45 c = dash_other _ (omega arith) c.if-s-eq1.false (omega arith) c.if-s-eq45.true
 
 pub returns-then-b-lt48 : goal.returns-then-b-lt48
-returns-then-b-lt48 c = read_low c.loop-i.invariant (omega arith) (omega arith) c.if-s-eq45.false (omega arith) c.if-b-lt48.true
+returns-then-b-lt48 c = read_low c.loop-b.invariant (omega arith) (omega arith) c.if-s-eq45.false (omega arith) c.if-b-lt48.true
 
 pub returns-then-b-gt57 : goal.returns-then-b-gt57
 returns-then-b-gt57 c =
-    read_high c.loop-i.invariant (omega arith) (omega arith) c.if-s-eq45.false (omega arith) c.if-b-gt57.true
+    read_high c.loop-b.invariant (omega arith) (omega arith) c.if-s-eq45.false (omega arith) c.if-b-gt57.true
 
-pub loop-i-preserved : goal.loop-i-preserved
-loop-i-preserved c =
-    rw c.append-n.ensures (read_more c.loop-i.invariant (omega arith) c.if-b-lt48.false c.if-b-gt57.false)
+pub loop-b-preserved : goal.loop-b-preserved
+loop-b-preserved c =
+    rw (c.append-n.ensures, c.from.ensures) (read_more c.loop-b.invariant (omega arith) c.if-b-lt48.false c.if-b-gt57.false)
 
 pub returns : goal.returns
-returns c = read_end c.loop-i.invariant (omega arith) (omega arith) c.if-s-eq45.false (omega arith)
+returns c = read_end c.loop-b.invariant (omega arith) (omega arith) c.if-s-eq45.false (omega arith)

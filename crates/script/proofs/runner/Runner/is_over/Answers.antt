@@ -1,12 +1,16 @@
--- `is_over`. Assumes nothing.
-use borrow.Author.Tests.{eq-eqb, ne_eqb}
-use Rattle.script.specs.Run.{is_over}
+-- `is_over`, by the phase. Assumes nothing.
+use Rattle.std.proofs.Common.{inl, inr}
+use Rattle.script.specs.Run.{is_over_in}
 use Rattle.script.proofs.runner.Runner.is_over.Goals as goal
 
-pub returns-then-self-eq-AT_LINES : goal.returns-then-self-eq-AT_LINES
-unfolding is_over
-returns-then-self-eq-AT_LINES c = rw (eq-eqb _ _ c.if-self-eq-AT_LINES.true)
+pub returns-in-Heading : goal.returns-in-Heading
+unfolding is_over_in
+returns-in-Heading c = elim c.in-Heading.is [ inl e ↦ rw e | inr e ↦ rw e ]
 
-pub returns : goal.returns
-unfolding is_over
-returns c = rw (ne_eqb _ _ c.if-self-eq-AT_LINES.false)
+pub returns-in-Lines : goal.returns-in-Lines
+unfolding is_over_in
+returns-in-Lines c = rw c.in-Lines.is
+
+pub returns-in-Over : goal.returns-in-Over
+unfolding is_over_in
+returns-in-Over c = rw c.in-Over.is
