@@ -4,6 +4,7 @@ use Rattle.std.specs.Int.Bits.{bit_and, bit_or, bit_xor}
 pub mod Laws
 pub mod Shift
 pub mod Keeping
+pub mod Widths
 
 -- i is a member of s
 unfoldable pub has : ℕ → ℕ → Bool

@@ -1,91 +1,129 @@
 // Sets of small numbers, each held as one unsigned integer: member `i` is bit `i`.
 //
-// Each function equals the operation of the same name in specs/Sets, which is free of the width, for any arguments. A set of w
-// bits has no place for a member past it, so `with` takes a number past the width by its remainder. Assumes nothing.
+// Each method equals the operation of the same name in specs/Sets, which is free of the width, for any arguments, and stands once
+// for all widths. A set of w bits has no place for a member past it, so `with` takes a number past the width by its remainder.
+// Assumes nothing.
 #![tactic(auto)]
 
-ghost use Rattle.std.specs.Prelude.{◌≡◌, ◌%◌};
+ghost use Rattle.std.specs.Prelude.{ℕ, ◌≡◌, ◌≤◌, ◌<◌, ◌%◌, ◌^◌};
 ghost use Rattle.bitset.specs.Sets.{has, with, without, contains, minus};
+ghost use Rattle.bitset.specs.Sets.Widths.{bits_8, bits_16, bits_64};
 
-// Whether `i` is a member; no number past the width is.
-pub fn has16(s: u16, i: u32) -> bool
-    ensures { result ≡ has s i }
-{
-    if 16 <= i {
-        return false;
+// An unsigned integer of at most 64 bits, as a set.
+pub trait Set: Copy {
+    ghost WIDTH: { ℕ };
+
+    ghost number: { Self → ℕ };
+
+    const WIDTH: u32;
+
+    // The set in 64 bits, and back.
+    fn widened(self) -> u64
+        ensures same { result ≡ number self }
+        ensures fits { result < 2 ^ WIDTH };
+
+    fn narrowed(n: u64) -> Self
+        requires { n < 2 ^ WIDTH }
+        ensures { number result ≡ n };
+
+    // Whether `i` is a member; no number past the width is.
+    fn has(self, i: u32) -> bool
+        ensures { result ≡ has (number self) i }
+    {
+        let set = self.widened();
+        if u64::BITS <= i {
+            return false;
+        }
+        (set >> i) & 1 == 1
     }
-    (s >> i) & 1 == 1
-}
 
-pub fn has64(s: u64, i: u32) -> bool
-    ensures { result ≡ has s i }
-{
-    if 64 <= i {
-        return false;
+    // The set and the member `i`; a number past the width counts by its remainder.
+    fn with(self, i: u32) -> Self
+        ensures { number result ≡ with (number self) (i % WIDTH) }
+    {
+        Self::narrowed(self.widened() | (1 << (i % Self::WIDTH)))
     }
-    (s >> i) & 1 == 1
-}
 
-// `s` and the member `i`; a number past the width counts by its remainder.
-pub fn with16(s: u16, i: u32) -> u16
-    ensures { result ≡ with s (i % 16) }
-{
-    s | (1 << (i % 16))
-}
-
-pub fn with64(s: u64, i: u32) -> u64
-    ensures { result ≡ with s (i % 64) }
-{
-    s | (1 << (i % 64))
-}
-
-// `s` less the member `i`; a number past the width was none.
-pub fn without16(s: u16, i: u32) -> u16
-    ensures { result ≡ without s i }
-{
-    if 16 <= i {
-        return s;
+    // The set less the member `i`; a number past the width was none.
+    fn without(self, i: u32) -> Self
+        ensures { number result ≡ without (number self) i }
+    {
+        let set = self.widened();
+        if Self::WIDTH <= i {
+            return self;
+        }
+        Self::narrowed(set & !(1 << i))
     }
-    s & !(1 << i)
-}
 
-pub fn without64(s: u64, i: u32) -> u64
-    ensures { result ≡ without s i }
-{
-    if 64 <= i {
-        return s;
+    // Whether each member of the other set is one of this.
+    fn contains(self, other: Self) -> bool
+        ensures { result ≡ contains (number self) (number other) }
+    {
+        let part = other.widened();
+        self.widened() & part == part
     }
-    s & !(1 << i)
+
+    // The members of this set that are none of the other.
+    fn minus(self, other: Self) -> Self
+        ensures { number result ≡ minus (number self) (number other) }
+    {
+        Self::narrowed(self.widened() & !other.widened())
+    }
+
+    // A set has a place, and 64 are enough.
+    ghost bits: { (0 < WIDTH) × (WIDTH ≤ 64) };
 }
 
-// Whether each member of the second set is one of the first.
-pub fn contains8(s: u8, m: u8) -> bool
-    ensures { result ≡ contains s m }
-{
-    s & m == m
+impl Set for u8 {
+    ghost WIDTH = { 8 };
+
+    ghost number = { λ s. s };
+
+    ghost bits = { bits_8 };
+
+    const WIDTH: u32 = u8::BITS;
+
+    fn widened(self) -> u64 {
+        u64::from(self)
+    }
+
+    fn narrowed(n: u64) -> u8 {
+        n as u8
+    }
 }
 
-pub fn contains16(a: u16, b: u16) -> bool
-    ensures { result ≡ contains a b }
-{
-    a & b == b
+impl Set for u16 {
+    ghost WIDTH = { 16 };
+
+    ghost number = { λ s. s };
+
+    ghost bits = { bits_16 };
+
+    const WIDTH: u32 = u16::BITS;
+
+    fn widened(self) -> u64 {
+        u64::from(self)
+    }
+
+    fn narrowed(n: u64) -> u16 {
+        n as u16
+    }
 }
 
-pub fn contains64(s: u64, m: u64) -> bool
-    ensures { result ≡ contains s m }
-{
-    s & m == m
-}
+impl Set for u64 {
+    ghost WIDTH = { 64 };
 
-// The members of `s` that are none of `m`.
-pub fn minus16(s: u16, m: u16) -> u16
-    ensures { result ≡ minus s m }
-{
-    s & !m
-}
+    ghost number = { λ s. s };
 
-pub fn minus64(s: u64, m: u64) -> u64
-    ensures { result ≡ minus s m }
-{
-    s & !m
+    ghost bits = { bits_64 };
+
+    const WIDTH: u32 = u64::BITS;
+
+    fn widened(self) -> u64 {
+        self
+    }
+
+    fn narrowed(n: u64) -> u64 {
+        n
+    }
 }

@@ -1,8 +1,9 @@
 // Requests: read from a statement, and made both by the method of their name and by `step`.
-use crate::words::{self, Unread, Words};
-use crate::{record, show};
+use crate::failure::Unread;
+use crate::show::Changes;
+use crate::words::{self, Words};
 use guard::sizes::{NO_ROLE, ROW};
-use guard::{Outcome, Request, Tables, Told, kinds};
+use guard::{Outcome, Request, Tables, kinds};
 use std::io;
 
 // What the fields hold that a request does not use, and that are not looked at.
@@ -181,32 +182,18 @@ fn by_method(t: &Tables, q: Request) -> Outcome {
     }
 }
 
-// The role that an outcome tells.
-pub fn role(o: &Outcome) -> Option<u8> {
-    match o.role {
-        Told::By(role) => Some(role),
-        Told::None => None,
-    }
-}
-
 // What `step` hands back. Where the method of the same name hands back anything else, a line says so.
 pub fn made(rt: &impl Print, t: &Tables, q: Request) -> io::Result<Outcome> {
     let o = t.step(q);
     let m = by_method(t, q);
-    let same = o.answer == m.answer && role(&o) == role(&m);
-    if !(same && record::same_tables(&o.tables, &m.tables)) {
+    if !(o.answer == m.answer && o.role == m.role && o.tables == m.tables) {
         print!(rt;
             "by the method {}, role {}, ",
             m.answer,
-            role(&m).unwrap_or(NO_ROLE)
+            m.role.unwrap_or(NO_ROLE)
         )?;
-        print!(rt;
-            "by step {}, role {};",
-            o.answer,
-            role(&o).unwrap_or(NO_ROLE)
-        )?;
-        show::changes(rt, &o.tables, &m.tables)?;
-        println!(rt; "")?;
+        print!(rt; "by step {}, role {};", o.answer, o.role.unwrap_or(NO_ROLE))?;
+        println!(rt; "{}", Changes(&o.tables, &m.tables))?;
     }
     Ok(o)
 }

@@ -1,8 +1,10 @@
 // A batch: requests gathered as rows of numbers, in the order of a request's fields, and run.
 ghost use Rattle.std.specs.Prelude.{◌≤◌, ◌*◌};
 
-use crate::words::{Unread, Words};
-use crate::{ask, show};
+use crate::ask;
+use crate::failure::Unread;
+use crate::show::Changes;
+use crate::words::Words;
 use guard::sizes::{NO_ROLE, ROW};
 use guard::{Request, Tables};
 use std::io;
@@ -10,7 +12,7 @@ use std::io;
 // How many rows there is room for, and at most for how many answers and roles.
 pub const ROWS: usize = 256;
 
-// Rows, and how many of them are gathered. Those behind hold what they held, and may be run all the same.
+// Rows, and how many of them are gathered since `clear`. No Vec: `run` may go past these, into what stood there before.
 #[derive(Clone, Copy)]
 pub struct Batch {
     rows: [[u32; ROW]; ROWS],
@@ -71,8 +73,7 @@ impl Batch {
         let answers = &mut answers[..extent.answers];
         let roles = &mut roles[..extent.roles];
         let after = t.run(rows, answers, roles);
-        show::changes(rt, t, &after)?;
-        print!(rt; "; answers")?;
+        print!(rt; "{}; answers", Changes(t, &after))?;
         for answer in answers.iter() {
             print!(rt; " {answer}")?;
         }
@@ -83,7 +84,7 @@ impl Batch {
                 role => print!(rt; " {role}")?,
             }
         }
-        println!(rt; "")?;
+        println!(rt)?;
         Ok(after)
     }
 }

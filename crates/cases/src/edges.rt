@@ -15,10 +15,6 @@ fn past(field: Field) -> u32 {
     }
 }
 
-fn last(_: Field) -> u32 {
-    u32::MAX
-}
-
 // The answers with one field at the number that is given for it, for each field but the call.
 fn each<F: Fn(Field) -> u32 + Drop>(
     rt: &impl Print,
@@ -43,7 +39,7 @@ pub fn edge(rt: &impl Print, name: &[u8], t: &Tables, q: Request) -> io::Result<
     print!(rt; "; past")?;
     each(rt, t, q, past)?;
     print!(rt; "; most")?;
-    each(rt, t, q, last)?;
+    each(rt, t, q, |_| u32::MAX)?;
     let mut unsound = *t;
     unsound.users[3].ceiling = 4;
     let told = ask::made(rt, &unsound, q)?;

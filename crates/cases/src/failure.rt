@@ -1,6 +1,9 @@
 // Why a statement ends early.
-use crate::words::Unread;
 use std::io;
+
+// A word is missing, or is not what the statement needs there.
+#[derive(Clone, Copy, Debug)]
+pub struct Unread;
 
 #[derive(Debug, Drop)]
 pub enum Failure {

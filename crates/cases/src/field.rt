@@ -1,5 +1,6 @@
 // The fields of records: their words, and the numbers in them.
-use crate::words::{self, Unread};
+use crate::failure::Unread;
+use crate::words;
 use guard::{Entity, Role, Session, User};
 
 #[derive(Clone, Copy, Debug, PartialEq, Eq)]
@@ -92,57 +93,63 @@ impl Slot<'_> {
     }
 }
 
-pub fn of_seat(x: &mut Session, field: Field) -> Slot<'_> {
-    match field {
-        Field::Live => Slot::Mark(&mut x.live),
-        Field::User => Slot::Byte(&mut x.user),
-        Field::Grade => Slot::Byte(&mut x.label.grade),
-        Field::Cats => Slot::Pair(&mut x.label.cats),
-        Field::Roles => Slot::Pair(&mut x.roles),
-        Field::Reading => Slot::Set(&mut x.reading),
-        Field::Writing => Slot::Set(&mut x.writing),
-        _ => Slot::Zero,
+// A record, of which each field has a slot.
+pub trait Fields {
+    fn slot(&mut self, field: Field) -> Slot<'_>;
+}
+
+impl Fields for Session {
+    fn slot(&mut self, field: Field) -> Slot<'_> {
+        match field {
+            Field::Live => Slot::Mark(&mut self.live),
+            Field::User => Slot::Byte(&mut self.user),
+            Field::Grade => Slot::Byte(&mut self.label.grade),
+            Field::Cats => Slot::Pair(&mut self.label.cats),
+            Field::Roles => Slot::Pair(&mut self.roles),
+            Field::Reading => Slot::Set(&mut self.reading),
+            Field::Writing => Slot::Set(&mut self.writing),
+            _ => Slot::Zero,
+        }
     }
 }
 
-pub fn of_user(x: &mut User, field: Field) -> Slot<'_> {
-    match field {
-        Field::Ceiling => Slot::Byte(&mut x.ceiling),
-        Field::Grade => Slot::Byte(&mut x.clearance.grade),
-        Field::Cats => Slot::Pair(&mut x.clearance.cats),
-        _ => Slot::Zero,
+impl Fields for User {
+    fn slot(&mut self, field: Field) -> Slot<'_> {
+        match field {
+            Field::Ceiling => Slot::Byte(&mut self.ceiling),
+            Field::Grade => Slot::Byte(&mut self.clearance.grade),
+            Field::Cats => Slot::Pair(&mut self.clearance.cats),
+            _ => Slot::Zero,
+        }
     }
 }
 
-pub fn of_role(x: &mut Role, field: Field) -> Slot<'_> {
-    match field {
-        Field::Live => Slot::Mark(&mut x.live),
-        Field::Users => Slot::Pair(&mut x.users),
-        Field::Reads => Slot::Set(&mut x.reads),
-        Field::Writes => Slot::Set(&mut x.writes),
-        Field::Executes => Slot::Set(&mut x.executes),
-        Field::Owns => Slot::Set(&mut x.owns),
-        Field::Juniors => Slot::Pair(&mut x.juniors),
-        _ => Slot::Zero,
+impl Fields for Role {
+    fn slot(&mut self, field: Field) -> Slot<'_> {
+        match field {
+            Field::Live => Slot::Mark(&mut self.live),
+            Field::Users => Slot::Pair(&mut self.users),
+            Field::Reads => Slot::Set(&mut self.reads),
+            Field::Writes => Slot::Set(&mut self.writes),
+            Field::Executes => Slot::Set(&mut self.executes),
+            Field::Owns => Slot::Set(&mut self.owns),
+            Field::Juniors => Slot::Pair(&mut self.juniors),
+            _ => Slot::Zero,
+        }
     }
 }
 
-pub fn of_entity(x: &mut Entity, field: Field) -> Slot<'_> {
-    match field {
-        Field::Live => Slot::Mark(&mut x.live),
-        Field::Kind => Slot::Byte(&mut x.kind),
-        Field::Parent => Slot::Byte(&mut x.parent),
-        Field::Name => Slot::Pair(&mut x.name),
-        Field::Grade => Slot::Byte(&mut x.label.grade),
-        Field::Cats => Slot::Pair(&mut x.label.cats),
-        Field::Shared => Slot::Byte(&mut x.shared),
-        _ => Slot::Zero,
-    }
-}
-
-pub fn of_tables(edition: &mut u8, field: Field) -> Slot<'_> {
-    match field {
-        Field::Edition => Slot::Byte(edition),
-        _ => Slot::Zero,
+impl Fields for Entity {
+    fn slot(&mut self, field: Field) -> Slot<'_> {
+        match field {
+            Field::Live => Slot::Mark(&mut self.live),
+            Field::Kind => Slot::Byte(&mut self.kind),
+            Field::Parent => Slot::Byte(&mut self.parent),
+            Field::Name => Slot::Pair(&mut self.name),
+            Field::Grade => Slot::Byte(&mut self.label.grade),
+            Field::Cats => Slot::Pair(&mut self.label.cats),
+            Field::Shared => Slot::Byte(&mut self.shared),
+            _ => Slot::Zero,
+        }
     }
 }

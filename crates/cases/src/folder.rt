@@ -5,8 +5,8 @@ use std::fs::File;
 use std::io::Read;
 use std::rt::Files;
 
-// Reads until `room` is full, the file ends or a read fails, and says how many bytes came: `read_exact` tells it of no file that
-// is shorter.
+// Reads until `room` is full, the file ends or a read fails, and says how many bytes came. `read_exact` does not say that of a
+// file that is shorter.
 fn read_full(file: &mut impl Read, room: &mut [u8]) -> usize
     ensures { result ≤ length room.new }
 {
@@ -22,7 +22,9 @@ fn read_full(file: &mut impl Read, room: &mut [u8]) -> usize
 }
 
 // The file of that name, as much of it as there is room for. One that cannot be opened has no byte.
-pub fn read<'a>(rt: &impl Files, name: &[u8], room: &'a mut [u8]) -> &'a [u8] {
+pub fn read<'a>(rt: &impl Files, name: &[u8], room: &'a mut [u8]) -> &'a [u8]
+    ensures { length result.now ≤ length room.old }
+{
     let n = match File::open(rt, str::from_utf8(name).unwrap_or("")) {
         Ok(mut file) => read_full(&mut file, room),
         Err(_) => 0,

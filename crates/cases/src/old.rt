@@ -1,6 +1,6 @@
 // Tables in records of the old width, in which a set of categories has eight bits, a role no juniors, an entity no mark and the tables
 // no edition: of a larger set the lower eight are left.
-// Functions and no `From`: both records are the guard's.
+// No `From`: the records of both widths are the guard's.
 use guard::old::{OldEntity, OldLabel, OldRole, OldSession, OldTables, OldUser};
 use guard::{Entity, Label, Role, Session, Tables, User};
 

@@ -1,6 +1,7 @@
 // Records by kind and number. What the tables hold beside their records, the edition, is a record of its own.
-use crate::field::{self, Field, Slot};
-use crate::words::{self, Unread, Words};
+use crate::failure::Unread;
+use crate::field::{Field, Fields, Slot};
+use crate::words::{self, Words};
 use guard::{Entity, Role, Session, Tables, User};
 use std::array;
 
@@ -20,7 +21,7 @@ pub struct Place {
     pub number: usize,
 }
 
-#[derive(Clone, Copy)]
+#[derive(Clone, Copy, PartialEq, Eq)]
 pub enum Record {
     Seat(Session),
     User(User),
@@ -120,17 +121,22 @@ fn replace<T: Copy>(records: &mut [T], i: usize, x: T) {
     }
 }
 
-impl Record {
+impl Fields for Record {
     fn slot(&mut self, field: Field) -> Slot<'_> {
         match self {
-            Record::Seat(x) => field::of_seat(x, field),
-            Record::User(x) => field::of_user(x, field),
-            Record::Role(x) => field::of_role(x, field),
-            Record::Entity(x) => field::of_entity(x, field),
-            Record::Tables(edition) => field::of_tables(edition, field),
+            Record::Seat(x) => x.slot(field),
+            Record::User(x) => x.slot(field),
+            Record::Role(x) => x.slot(field),
+            Record::Entity(x) => x.slot(field),
+            Record::Tables(edition) => match field {
+                Field::Edition => Slot::Byte(edition),
+                _ => Slot::Zero,
+            },
         }
     }
+}
 
+impl Record {
     pub fn number(mut self, field: Field) -> u64 {
         self.slot(field).number()
     }
@@ -151,27 +157,14 @@ impl Record {
     }
 }
 
-// Whether every field is the same.
-fn same(a: Option<Record>, b: Option<Record>, kind: Kind) -> bool {
-    match (a, b) {
-        (Some(a), Some(b)) => kind.fields().iter().all(|f| a.number(*f) == b.number(*f)),
-        _ => true,
-    }
-}
-
 // The numbers of a kind's records that differ.
 pub fn changed(a: &Tables, b: &Tables, kind: Kind) -> u64 {
     let mut set = 0;
     for number in 0..64 {
         let place = Place { kind, number };
-        if !same(place.record(a), place.record(b), kind) {
+        if place.record(a) != place.record(b) {
             set |= 1 << number;
         }
     }
     set
-}
-
-// Whether every field of every record is the same.
-pub fn same_tables(a: &Tables, b: &Tables) -> bool {
-    Kind::ALL.iter().all(|kind| changed(a, b, *kind) == 0)
 }

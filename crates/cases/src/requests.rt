@@ -1,7 +1,7 @@
 // The statements that ask something of the guard: fresh tables, tables taken over, requests and batches.
 use crate::batch::{Extent, ROWS};
 use crate::failure::Failure;
-use crate::show::Differing;
+use crate::show::{Changes, Differing};
 use crate::state::State;
 use crate::statement::Statement;
 use crate::{ask, edges, old, show};
@@ -26,17 +26,14 @@ impl State {
             return done(&o);
         }
         show::answer(rt, s.name, &o)?;
-        show::changes(rt, &self.kept, &self.now)?;
-        println!(rt; "")?;
+        println!(rt; "{}", Changes(&self.kept, &self.now))?;
         Ok(())
     }
 
     // What is not as in some tables.
     fn compare_with(&self, rt: &impl Print, name: &[u8], before: &Tables) -> io::Result<()> {
         rt.write_all(name)?;
-        print!(rt; ":")?;
-        show::changes(rt, before, &self.now)?;
-        println!(rt; "")
+        println!(rt; ":{}", Changes(before, &self.now))
     }
 
     // `old`: the tables, in records of the old width, are taken over; and what changed.
@@ -59,7 +56,7 @@ impl State {
             return done(&o);
         }
         show::answer(rt, s.name, &o)?;
-        println!(rt; "")?;
+        println!(rt)?;
         Ok(())
     }
 
@@ -67,21 +64,21 @@ impl State {
     fn told(&self, rt: &impl Print, s: Statement) -> Result<Tables, Failure> {
         let o = ask::made(rt, &self.now, ask::read(s.words)?)?;
         show::answer(rt, s.name, &o)?;
-        show::changes(rt, &self.now, &o.tables)?;
+        print!(rt; "{}", Changes(&self.now, &o.tables))?;
         Ok(o.tables)
     }
 
     // `do REQUEST`
     pub(crate) fn perform(&mut self, rt: &impl Print, s: Statement) -> Result<(), Failure> {
         self.now = self.told(rt, s)?;
-        println!(rt; "")?;
+        println!(rt)?;
         Ok(())
     }
 
     // `ask REQUEST`: the tables stay as they were.
     pub(crate) fn ask(&self, rt: &impl Print, s: Statement) -> Result<(), Failure> {
         self.told(rt, s)?;
-        println!(rt; "")?;
+        println!(rt)?;
         Ok(())
     }
 

@@ -1,5 +1,4 @@
 // What is printed.
-use crate::ask;
 use crate::record::{self, Kind, Place, Record};
 use guard::{Label, Outcome, Tables};
 use std::{fmt, io};
@@ -107,8 +106,9 @@ pub struct Differing<'a>(pub &'a Tables, pub &'a Tables);
 
 impl fmt::Display for Differing<'_> {
     fn fmt<W: fmt::Write>(&self, f: &mut fmt::Formatter<W>) -> fmt::Result {
+        let Differing(old, new) = *self;
         for kind in Kind::ALL {
-            let numbers = record::changed(self.0, self.1, kind);
+            let numbers = record::changed(old, new, kind);
             if numbers != 0 {
                 let set = Set(numbers);
                 match kind {
@@ -125,11 +125,17 @@ impl fmt::Display for Differing<'_> {
 }
 
 // Whether tables came back as they went in, and if not, the records that differ.
-pub fn changes(rt: &impl Print, old: &Tables, new: &Tables) -> io::Result<()> {
-    if record::same_tables(old, new) {
-        print!(rt; " kept")
-    } else {
-        print!(rt; " changed{}", Differing(old, new))
+#[derive(Clone, Copy)]
+pub struct Changes<'a>(pub &'a Tables, pub &'a Tables);
+
+impl fmt::Display for Changes<'_> {
+    fn fmt<W: fmt::Write>(&self, f: &mut fmt::Formatter<W>) -> fmt::Result {
+        let Changes(old, new) = *self;
+        if old == new {
+            write!(f, " kept")
+        } else {
+            write!(f, " changed{}", Differing(old, new))
+        }
     }
 }
 
@@ -137,8 +143,8 @@ pub fn changes(rt: &impl Print, old: &Tables, new: &Tables) -> io::Result<()> {
 pub fn answer(rt: &impl Print, name: &[u8], o: &Outcome) -> io::Result<()> {
     rt.write_all(name)?;
     print!(rt; ": {}", o.answer)?;
-    match ask::role(o) {
-        Some(role) => print!(rt; " by role {role}"),
-        None => Ok(()),
+    if let Some(role) = o.role {
+        print!(rt; " by role {role}")?;
     }
+    Ok(())
 }

@@ -1,11 +1,12 @@
 // What a run of cases works on, and the statements that edit or show it.
 use crate::batch::Batch;
-use crate::failure::Failure;
+use crate::failure::{Failure, Unread};
 use crate::field::Field;
 use crate::record::Place;
 use crate::statement::{Statement, Verb};
-use crate::words::{self, Unread};
-use guard::{Label, Tables, User};
+use crate::words;
+use guard::sizes::{EDITION_1, USERS};
+use guard::{Tables, User};
 
 // The tables, and those kept to go back to; and the batch.
 #[derive(Clone, Copy)]
@@ -17,11 +18,7 @@ pub struct State {
 
 // Fresh tables of edition 1 over sixteen users of ceiling 0 and clearance 0/0.
 fn nobody() -> Tables {
-    let none = User {
-        ceiling: 0,
-        clearance: Label { cats: 0, grade: 0 },
-    };
-    Tables::fresh([none; 16], 1).tables
+    Tables::fresh([User::default(); USERS], EDITION_1).tables
 }
 
 impl State {

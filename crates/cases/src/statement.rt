@@ -47,7 +47,7 @@ impl Statement<'_> {
     // `say`: the text.
     pub fn say(&self, rt: &impl Print) -> io::Result<()> {
         rt.write_all(self.name)?;
-        println!(rt; "")
+        println!(rt)
     }
 
     // The verb that it begins with. A request begins with its own word; an empty line tells as little as a comment.

@@ -2,11 +2,8 @@
 ghost use Rattle.std.specs.Prelude.{◌≤◌, length, IfOk};
 ghost use Rattle.std.specs.Iterator.{at_most};
 
+use crate::failure::Unread;
 use std::str::FromStr;
-
-// A word that is not what the statement needs there, or is missing.
-#[derive(Clone, Copy, Debug)]
-pub struct Unread;
 
 // The words that are left. They end with the text, or where two spaces follow each other.
 #[derive(Clone, Copy)]

@@ -6,6 +6,7 @@
 --     way_of                                the climb by keys is "reaches"
 --     name_of, child_of_lem                     a name among the children, a child
 -- Assumes nothing.
+use Rattle.std.specs.Prelude.{Option, Some, None}
 use Prim.Native.Nat.{ℕ, ◌+◌, ◌*◌, ◌/◌, ◌%◌, ◌≤◌, ◌<◌}
 use mathlib.Core.Path.{◌≡◌, refl, sym, ap, ◌∙◌}
 use mathlib.Core.Bool.{Bool, true, false, not}
@@ -34,8 +35,6 @@ use Rattle.guard.specs.declared.Role.{Role}
 use Rattle.guard.specs.declared.Entity.{Entity}
 use Rattle.guard.specs.declared.Tables.{Tables}
 use Rattle.guard.specs.declared.Request.{Request}
-use Rattle.guard.specs.declared.Told.{Told}
-use Rattle.guard.specs.declared.Told.TheVariants.{By, None}
 use Rattle.guard.proofs.Laws.Told.{lowest_at, lowest_none, lowest_cong}
 use Rattle.guard.proofs.Laws.Sound.{parent_level}
 use Rattle.guard.proofs.Soundness.Climb.{climbs_cong}
@@ -241,11 +240,11 @@ module _ (roles : List Role) where
 
 -- the lowest role of those left that gives the right: it is found, or the search goes on without it, or there is none
 module _ (grants : List ℕ) (k e : ℕ) where
-  abbrev pub Giver : ℕ → Told
+  abbrev pub Giver : ℕ → Option ℕ
   Giver left = lowest 16 (gives grants left k e)
 
   pub giver_found : (left r : ℕ) → r < 16 → has left r ≡ true → ((i : ℕ) → i < r → has left i ≡ false) → has_by grants k e r ≡ true
-      → Giver left ≡ By r
+      → Giver left ≡ Some r
   unfolding every
   giver_found left r l on none met =
       lowest_at 16 (gives grants left k e) r l (every_i (has left r ∷ has_by grants k e r ∷ []) (on, (met, tt))) (λ i m. rw (none i m))

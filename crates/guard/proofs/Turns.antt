@@ -6,6 +6,7 @@
 --     no_batch, unsound_batch       of no request; on unsound tables
 --     one_request                   a batch of one request is its step
 -- Assumes nothing.
+use Rattle.std.specs.Prelude.{Option, None}
 use Prim.Native.Nat.{ℕ, ◌+◌, ◌≤◌, ◌<◌}
 use mathlib.Core.Path.{◌≡◌, refl, sym, ap, ◌∙◌}
 use mathlib.Core.Bool.{Bool, true, false, cond}
@@ -32,8 +33,6 @@ use Rattle.guard.specs.declared.Tables.{Tables}
 use Rattle.guard.specs.declared.Request.{Request}
 use Rattle.guard.specs.declared.Outcome.{Outcome}
 use Rattle.guard.specs.declared.look.Places.{Places}
-use Rattle.guard.specs.declared.Told.{Told}
-use Rattle.guard.specs.declared.Told.TheVariants.{None}
 use Rattle.guard.proofs.Laws.Sound.{formed_e}
 use Rattle.guard.proofs.Laws.Told.{byte_read, opening_same}
 use Rattle.guard.proofs.Ranges.{in_openr, in_openw}
@@ -167,7 +166,7 @@ role_back t q = go (eqb (answer t q) 0) (eqb q.call kind.openr) (eqb q.call kind
     go true false false = refl
     go false r w = refl
 
-pub one_request : (t u : Tables) (q : Request) (rows old new old_roles new_roles : List ℕ) (o : ℕ) (r : Told) → rows ≡ row_of q → old ≡ 0 ∷ [] → old_roles ≡ 0 ∷ []
+pub one_request : (t u : Tables) (q : Request) (rows old new old_roles new_roles : List ℕ) (o : ℕ) (r : Option ℕ) → rows ≡ row_of q → old ≡ 0 ∷ [] → old_roles ≡ 0 ∷ []
     → RunsBatch t rows old new old_roles new_roles u → o ≡ get_or new 0 0 → r ≡ read_byte (get_or new_roles 0 0)
     → ◌≡◌ {A = Outcome} (record { tables = u; answer = o; role = r }) (step t q)
 unfolding shorter batch_length tabulate request_at run_in each_in step

@@ -1,4 +1,5 @@
 -- Fresh tables, and the answer of the build.
+use Rattle.std.specs.Prelude.{None}
 use Rattle.std.specs.Prelude.{ℕ, zero, suc, true, cond, List, [], ◌∷◌, ◌++◌, replicate}
 use Rattle.bitset.specs.Tests.{every}
 use Rattle.bitset.specs.Sets.{with}
@@ -12,7 +13,6 @@ use Rattle.guard.specs.declared.Role.{Role}
 use Rattle.guard.specs.declared.Entity.{Entity}
 use Rattle.guard.specs.declared.Tables.{Tables}
 use Rattle.guard.specs.declared.Outcome.{Outcome}
-use Rattle.guard.specs.declared.Told.TheVariants.{None}
 
 -- f at each number below n, in order
 unfoldable pub tabulate : {A : Type 0} → ℕ → (ℕ → A) → List A

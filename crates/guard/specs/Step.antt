@@ -1,4 +1,5 @@
 -- What a request answers, which role it tells and what it leaves behind, and a log of requests.
+use Rattle.std.specs.Prelude.{Option, None}
 use Rattle.std.specs.Prelude.{ℕ, Bool, not, cond, List, [], ◌∷◌, map, eqb}
 use Rattle.bitset.specs.Tests.{every}
 use Rattle.guard.specs.Label.{all_categories}
@@ -10,8 +11,6 @@ use Rattle.guard.specs.Kind as kind
 use Rattle.guard.specs.declared.Tables.{Tables}
 use Rattle.guard.specs.declared.Request.{Request}
 use Rattle.guard.specs.declared.Outcome.{Outcome}
-use Rattle.guard.specs.declared.Told.{Told}
-use Rattle.guard.specs.declared.Told.TheVariants.{None}
 
 -- Fields that a request does not use are not looked at.
 unfoldable pub in_ranges_in : ℕ → Request → Bool
@@ -26,12 +25,12 @@ unfoldable pub next_in : ℕ → Tables → Request → Tables
 next_in width t q = cond (eqb (answer_in width t q) 0) ((rule_of q).effect q t) t
 
 -- Accepted openr and openw hand back, beside the 0, the role for read or write on the entity; all else hands back none.
-unfoldable pub role_opening : Tables → Request → Told
+unfoldable pub role_opening : Tables → Request → Option ℕ
 role_opening t q =
     cond (eqb q.call kind.openr) (role_for t q.seat read q.entity)
     (cond (eqb q.call kind.openw) (role_for t q.seat write q.entity) None)
 
-unfoldable pub role_told_in : ℕ → Tables → Request → Told
+unfoldable pub role_told_in : ℕ → Tables → Request → Option ℕ
 role_told_in width t q = cond (eqb (answer_in width t q) 0) (role_opening t q) None
 
 -- A log is a list of requests, of any kind and any length, none at all included, done or refused. The first gets the
@@ -48,7 +47,7 @@ each_in width f t (q ∷ log) = f t q ∷ each_in width f (next_in width t q) lo
 abbrev pub answers_in : ℕ → Tables → List Request → List ℕ
 answers_in width = each_in width (answer_in width)
 
-abbrev pub roles_told_in : ℕ → Tables → List Request → List Told
+abbrev pub roles_told_in : ℕ → Tables → List Request → List (Option ℕ)
 roles_told_in width = each_in width (role_told_in width)
 
 -- ---- the rules in force: the width is `all_categories`
@@ -64,10 +63,10 @@ run = run_in all_categories
 abbrev pub answers : Tables → List Request → List ℕ
 answers = answers_in all_categories
 
-abbrev pub role_told : Tables → Request → Told
+abbrev pub role_told : Tables → Request → Option ℕ
 role_told = role_told_in all_categories
 
-abbrev pub roles_told : Tables → List Request → List Told
+abbrev pub roles_told : Tables → List Request → List (Option ℕ)
 roles_told = roles_told_in all_categories
 
 -- Each request takes the tables and hands back the tables with an answer.

@@ -1,17 +1,17 @@
 -- The tables: their records, what the paper says by "has a right", and which role gives it.
+use Rattle.std.specs.Prelude.{Option, is_some}
 use Rattle.std.specs.Prelude.{ℕ, ◌+◌, Bool, false, not, cond, [], ◌∷◌, leb, eqb, get_or}
 use Rattle.bitset.specs.Tests.{every}
 use Rattle.bitset.specs.Sets.{has, contains}
 use Rattle.guard.specs.Level.{role_count, role_level, entity_level, is_root}
 use Rattle.guard.specs.Label.{no_label}
-use Rattle.guard.specs.Told.{is_told, lowest}
+use Rattle.guard.specs.Told.{lowest}
 use Rattle.guard.specs.Below.{below, or_below}
 use Rattle.guard.specs.declared.User.{User}
 use Rattle.guard.specs.declared.Session.{Session}
 use Rattle.guard.specs.declared.Role.{Role}
 use Rattle.guard.specs.declared.Entity.{Entity}
 use Rattle.guard.specs.declared.Tables.{Tables}
-use Rattle.guard.specs.declared.Told.{Told}
 
 -- ---- the records with every field zero or empty
 abbrev pub no_user : User
@@ -122,12 +122,12 @@ role_has t r right e = or_below (is_junior t) (λ j. contains (rights_on t j e) 
 
 -- The check of a right tells the lowest-numbered role held by x, of at least e's level, that gives it, or that none does. The role is
 -- the held one.
-unfoldable pub role_for : Tables → ℕ → ℕ → ℕ → Told
+unfoldable pub role_for : Tables → ℕ → ℕ → ℕ → Option ℕ
 role_for t x right e = lowest role_count (λ r. every (leb (entity_level e) (role_level r) ∷ holds t x r ∷ role_has t r right e ∷ []))
 
 -- "x has a right on e" means that a role held by x, of at least e's level, has it, itself or through a role below it: that one is told.
 unfoldable pub has_right : Tables → ℕ → ℕ → ℕ → Bool
-has_right t x right e = is_told (role_for t x right e)
+has_right t x right e = is_some (role_for t x right e)
 
 -- f is a child of p. A root is nobody's child.
 unfoldable pub is_child : Tables → ℕ → ℕ → Bool

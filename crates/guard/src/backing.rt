@@ -5,12 +5,13 @@ ghost use Rattle.guard.specs.Private.Scan.{Gathered, opens_given, backed_by, Los
 use crate::scan::{GRANTS, Rights};
 use crate::sizes::SESSIONS;
 use crate::{Role, Session, scan, sessions};
+use bitset::Set;
 
 // Whether each open of `s` is backed; `rights` are those of its roles.
 pub fn is_backed(rights: Rights, s: Session) -> bool
     ensures { (grants : List ℕ) → Gathered grants s.roles rights → result ≡ opens_given grants s }
 {
-    bitset::contains64(rights.reads, s.reading) & bitset::contains64(rights.writes, s.writing)
+    rights.reads.contains(s.reading) & rights.writes.contains(s.writing)
 }
 
 // Session `s` with those of its opens that are backed.
@@ -30,8 +31,8 @@ pub fn lost(grants: &[u64; GRANTS], old: Role, new: Role) -> u64
 {
     let before = scan::gather(grants, old.juniors);
     let after = scan::gather(grants, new.juniors);
-    bitset::minus64(old.reads | before.reads, new.reads | after.reads)
-        | bitset::minus64(old.writes | before.writes, new.writes | after.writes)
+    (old.reads | before.reads).minus(new.reads | after.reads)
+        | (old.writes | before.writes).minus(new.writes | after.writes)
 }
 
 // Session `s` after a role lost rights on the entities of a set: nothing of it changes unless it has one of them open.

@@ -16,6 +16,7 @@ ghost use Rattle.guard.specs.Private.InForce.{in_ranges};
 
 use crate::view::View;
 use crate::{Entity, Label, Request, kinds, labels, sizes};
+use bitset::Set;
 
 // The refusals of create up to 9: what has to be there, and what not.
 fn create_refusal_to_9(v: View) -> u8
@@ -50,12 +51,10 @@ fn create_refusal_from_10(q: Request, v: View) -> u8
     if !labels::dominates(label, v.parent.label) {
         return 11;
     }
-    if !bitset::has16(v.session.roles, q.role) {
+    if !v.session.roles.has(q.role) {
         return 12;
     }
-    if !bitset::has64(v.session.writing, q.parent)
-        | !bitset::has64(v.found.rights.executes, q.parent)
-    {
+    if !v.session.writing.has(q.parent) | !v.found.rights.executes.has(q.parent) {
         return 13;
     }
     if v.found.kin {
@@ -79,7 +78,7 @@ pub fn create_refusal(q: Request, v: View) -> u8
 fn lacks_own(parent: Entity, owns: u64, e: u32) -> bool
     ensures { result ≡ every (eqb parent.shared shared_mark ∷ not (has owns e) ∷ []) }
 {
-    (parent.shared == sizes::SHARED) & !bitset::has64(owns, e)
+    (parent.shared == sizes::SHARED) & !owns.has(e)
 }
 
 // The refusals of delete and of rename, which differ in the last number: 15, the entity has a child, or 14, a child of
@@ -97,7 +96,7 @@ pub fn change_refusal(q: Request, v: View, last: u8) -> u8
     if !v.entity.live {
         return 7;
     }
-    if (!bitset::has64(v.session.writing, o) | !bitset::has64(v.found.rights.executes, o))
+    if (!v.session.writing.has(o) | !v.found.rights.executes.has(o))
         | lacks_own(v.parent, v.found.rights.owns, q.entity)
     {
         return 13;
@@ -130,7 +129,7 @@ pub fn share_refusal(q: Request, v: View) -> u8
     if q.seat / sizes::LEVEL_SEATS < q.entity / sizes::LEVEL_ENTITIES {
         return 10;
     }
-    if !bitset::has64(v.found.rights.owns, q.entity) {
+    if !v.found.rights.owns.has(q.entity) {
         return 13;
     }
     if is_marked(v.entity, q.shared) {

@@ -5,7 +5,8 @@ ghost use Rattle.guard.specs.Fresh.{fresh_role, fresh_entity, tabulate, fresh, b
 
 use crate::sizes::{BLOCK, CONTAINER, EDITION_1, ENTITIES, LEVEL_ROLES, ROLES, SESSIONS, USERS};
 use crate::sound::record;
-use crate::{Entity, Label, Outcome, Role, Tables, Told, User, entities, roles, sessions};
+use crate::{Entity, Label, Outcome, Role, Tables, User, entities, roles, sessions};
+use bitset::Set;
 
 // How many roles a level has, as an index.
 const LEVEL: usize = LEVEL_ROLES as usize;
@@ -15,7 +16,7 @@ fn fresh_role(r: usize) -> Role
     ensures { result ≡ fresh_role r }
 {
     if r % LEVEL == 0 {
-        let root = bitset::with64(0, (r / LEVEL * BLOCK) as u32);
+        let root = 0u64.with((r / LEVEL * BLOCK) as u32);
         return Role {
             live: true,
             users: 1,
@@ -102,7 +103,7 @@ impl Tables {
             return Outcome {
                 tables,
                 answer: 0,
-                role: Told::None,
+                role: None,
             };
         }
         let none = Label { cats: 0, grade: 0 };
@@ -114,7 +115,7 @@ impl Tables {
         Outcome {
             tables,
             answer: 2,
-            role: Told::None,
+            role: None,
         }
     }
 }

@@ -6,7 +6,8 @@ ghost use Rattle.guard.specs.Private.Scan.{First, side_of, has_by, gives, opened
 
 use crate::scan::{GRANTS, Rights, SETS, TIES};
 use crate::sizes::NO_ROLE;
-use crate::{Told, kinds, scan};
+use crate::{kinds, scan};
+use bitset::Set;
 
 // Of the four sets of a role, those of read and of write.
 const READS: usize = 0;
@@ -45,7 +46,7 @@ fn gives(grants: &[u64; GRANTS], r: u32, k: usize, e: usize) -> bool
     if grants[TIES + r as usize] == 0 {
         return false;
     }
-    let rights = scan::gather(grants, bitset::with16(0, r));
+    let rights = scan::gather(grants, 0u16.with(r));
     scan::is_in(side(rights, k), e)
 }
 
@@ -60,7 +61,7 @@ fn lowest(grants: &[u64; GRANTS], held: u16, k: usize, e: usize) -> u8
         if gives(grants, r, k, e) {
             return r as u8;
         }
-        left = bitset::without16(left, r);
+        left = left.without(r);
     }
     NO_ROLE
 }
@@ -78,11 +79,11 @@ pub fn role_told(grants: &[u64; GRANTS], call: u32, held: u16, e: usize) -> u8
 }
 
 // The role that a byte of `run` tells.
-pub fn read(byte: u8) -> Told
+pub fn read(byte: u8) -> Option<u8>
     ensures { result ≡ read_byte byte }
 {
     if byte == NO_ROLE {
-        return Told::None;
+        return None;
     }
-    Told::By(byte)
+    Some(byte)
 }

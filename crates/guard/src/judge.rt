@@ -7,6 +7,7 @@ ghost use Rattle.guard.specs.declared.Tables.{Tables as TablesOf};
 
 use crate::view::View;
 use crate::{Request, entities, kinds, opens, roles, sessions};
+use bitset::Set;
 
 // A number that is none of the nineteen is out of range.
 pub fn judge(q: Request, v: View) -> u8
@@ -30,8 +31,8 @@ pub fn judge(q: Request, v: View) -> u8
         kinds::RENAME => entities::change_refusal(q, v, 14),
         kinds::GRANT => roles::rights_refusal(q, v),
         kinds::REVOKE => roles::rights_refusal(q, v),
-        kinds::LIST => roles::list_refusal(q, v, bitset::has16(v.users, q.user)),
-        kinds::UNLIST => roles::list_refusal(q, v, !bitset::has16(v.users, q.user)),
+        kinds::LIST => roles::list_refusal(q, v, v.users.has(q.user)),
+        kinds::UNLIST => roles::list_refusal(q, v, !v.users.has(q.user)),
         kinds::MAKE => roles::make_refusal(q, v),
         kinds::UNMAKE => roles::unmake_refusal(q, v),
         kinds::SHARE => entities::share_refusal(q, v),

@@ -4,12 +4,13 @@ ghost use Rattle.guard.specs.Label.{label_in_range, dominates as dominates_of, s
 
 use crate::Label;
 use crate::sizes::TOP_GRADE;
+use bitset::Set;
 
 // Whether `a`'s grade is at least `b`'s and `a`'s set contains `b`'s.
 pub fn dominates(a: Label, b: Label) -> bool
     ensures { result ≡ dominates_of a b }
 {
-    (b.grade <= a.grade) & bitset::contains16(a.cats, b.cats)
+    (b.grade <= a.grade) & a.cats.contains(b.cats)
 }
 
 // Whether the two have one grade and one set.

@@ -32,14 +32,14 @@ mod view;
 use sizes::{ENTITIES, ROLES, SESSIONS, USERS};
 
 // Label: a confidentiality grade, 0 to 3, and a set of sixteen categories.
-#[derive(Clone, Copy)]
+#[derive(Clone, Copy, PartialEq, Eq, Default)]
 pub struct Label {
     pub cats: u16,
     pub grade: u8,
 }
 
 // User: the highest level that its sessions may have, 0 to 3, and its clearance.
-#[derive(Clone, Copy)]
+#[derive(Clone, Copy, PartialEq, Eq, Default)]
 pub struct User {
     pub ceiling: u8,
     pub clearance: Label,
@@ -47,7 +47,7 @@ pub struct User {
 
 // Session (the paper's seat): whose it is, the roles that it holds, the entities that it has open for reading and for
 // writing.
-#[derive(Clone, Copy)]
+#[derive(Clone, Copy, PartialEq, Eq, Default)]
 pub struct Session {
     pub live: bool,
     pub user: u8,
@@ -59,7 +59,7 @@ pub struct Session {
 
 // Role: the users that it lists, its direct juniors, and for each right, read, write, execute and own, the entities on which its
 // record has it. Records are laid out in the order of their fields: in front of the sets of entities the juniors take no room.
-#[derive(Clone, Copy)]
+#[derive(Clone, Copy, PartialEq, Eq, Default)]
 pub struct Role {
     pub live: bool,
     pub users: u16,
@@ -72,7 +72,7 @@ pub struct Role {
 
 // Entity: an object (kind 0) or a container (kind 1), with the number of its parent, its mark (1 for a shared container, else 0),
 // its name and its label. Records are laid out in the order of their fields: in front of the name the mark takes no room.
-#[derive(Clone, Copy)]
+#[derive(Clone, Copy, PartialEq, Eq, Default)]
 pub struct Entity {
     pub live: bool,
     pub kind: u8,
@@ -83,7 +83,7 @@ pub struct Entity {
 }
 
 // The tables, and their edition: 1, or 2, in which a session may read what is below its level. No request changes it.
-#[derive(Clone, Copy)]
+#[derive(Clone, Copy, PartialEq, Eq)]
 pub struct Tables {
     pub users: [User; USERS],
     pub sessions: [Session; SESSIONS],
@@ -96,7 +96,7 @@ pub struct Tables {
 // the order in which the papers list the nineteen. `grade` and `cats` are the label asked for, `shared` is the mark; join and unjoin
 // have the senior in `role`.
 // A field that the request does not use may hold anything.
-#[derive(Clone, Copy)]
+#[derive(Clone, Copy, PartialEq, Eq, Default)]
 pub struct Request {
     pub call: u32,
     pub seat: u32,
@@ -113,18 +113,11 @@ pub struct Request {
     pub junior: u32,
 }
 
-// Which role let a session in: the role of that number, or none is told.
-#[derive(Clone, Copy)]
-pub enum Told {
-    By(u8),
-    None,
-}
-
 // What a request hands back: the tables after it; its answer, 0 done, or the number of the refusal; and beside the 0 of openr and
 // openw the lowest-numbered role held that gives the right on the entity. All else tells none.
 #[derive(Clone, Copy)]
 pub struct Outcome {
     pub tables: Tables,
     pub answer: u8,
-    pub role: Told,
+    pub role: Option<u8>,
 }

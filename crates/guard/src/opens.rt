@@ -9,6 +9,7 @@ ghost use Rattle.guard.specs.Refusals.{first, ◌when◌};
 
 use crate::view::View;
 use crate::{Request, labels, sizes};
+use bitset::Set;
 
 // Condition 10 of openr: in edition 1, the entity is below the session. In edition 2 there is none.
 fn too_low(edition: u8, e: u32, x: u32) -> bool
@@ -32,10 +33,10 @@ pub fn openr_refusal(q: Request, v: View) -> u8
     if !labels::dominates(v.session.label, v.entity.label) {
         return 11;
     }
-    if !bitset::has64(v.found.rights.reads, q.entity) | !v.found.reached {
+    if !v.found.rights.reads.has(q.entity) | !v.found.reached {
         return 13;
     }
-    if bitset::has64(v.session.reading, q.entity) {
+    if v.session.reading.has(q.entity) {
         return 16;
     }
     0
@@ -56,10 +57,10 @@ pub fn openw_refusal(q: Request, v: View) -> u8
     if !labels::same(v.session.label, v.entity.label) {
         return 11;
     }
-    if !bitset::has64(v.found.rights.writes, q.entity) | !v.found.reached {
+    if !v.found.rights.writes.has(q.entity) | !v.found.reached {
         return 13;
     }
-    if bitset::has64(v.session.writing, q.entity) {
+    if v.session.writing.has(q.entity) {
         return 16;
     }
     0
@@ -74,7 +75,7 @@ pub fn close_refusal(q: Request, v: View) -> u8
     if !v.entity.live {
         return 7;
     }
-    if !(bitset::has64(v.session.reading, q.entity) | bitset::has64(v.session.writing, q.entity)) {
+    if !(v.session.reading.has(q.entity) | v.session.writing.has(q.entity)) {
         return 16;
     }
     0

@@ -13,6 +13,7 @@ ghost use Rattle.guard.specs.Private.InForce.{in_ranges};
 use crate::sizes::ROLES;
 use crate::view::View;
 use crate::{Request, Role, kinds, sizes};
+use bitset::Set;
 
 // grant and revoke are refused alike.
 pub fn rights_refusal(q: Request, v: View) -> u8
@@ -29,7 +30,7 @@ pub fn rights_refusal(q: Request, v: View) -> u8
     {
         return 10;
     }
-    if !bitset::has64(v.found.rights.owns, q.entity) {
+    if !v.found.rights.owns.has(q.entity) {
         return 13;
     }
     0
@@ -42,7 +43,7 @@ fn keeper_refusal(roles: u16, seat: u32, role: u32) -> u8
     if seat / sizes::LEVEL_SEATS < role / sizes::LEVEL_ROLES {
         return 10;
     }
-    if !bitset::has16(roles, sizes::LEVEL_ROLES * (role / sizes::LEVEL_ROLES)) {
+    if !roles.has(sizes::LEVEL_ROLES * (role / sizes::LEVEL_ROLES)) {
         return 12;
     }
     0
@@ -129,7 +130,7 @@ pub fn tie_refusal(q: Request, v: View) -> u8
     if v.found.kin {
         return 22;
     }
-    if is_so(q.call, bitset::has16(v.juniors, q.junior)) {
+    if is_so(q.call, v.juniors.has(q.junior)) {
         return 16;
     }
     0
@@ -141,10 +142,10 @@ fn users_after(q: Request, users: u16) -> u16
     ensures { result ≡ users_after q users }
 {
     if q.call == kinds::LIST {
-        return bitset::with16(users, q.user);
+        return users.with(q.user);
     }
     if q.call == kinds::UNLIST {
-        return bitset::without16(users, q.user);
+        return users.without(q.user);
     }
     users
 }
@@ -155,10 +156,10 @@ fn juniors_after(q: Request, juniors: u16) -> u16
     ensures { result ≡ juniors_after q juniors }
 {
     if q.call == kinds::JOIN {
-        return bitset::with16(juniors, q.junior);
+        return juniors.with(q.junior);
     }
     if q.call == kinds::UNJOIN {
-        return bitset::without16(juniors, q.junior);
+        return juniors.without(q.junior);
     }
     juniors
 }
@@ -172,9 +173,9 @@ fn set_after(given: bool, named: bool, e: u32, set: u64) -> u64
         return set;
     }
     if given {
-        return bitset::with64(set, e);
+        return set.with(e);
     }
-    bitset::without64(set, e)
+    set.without(e)
 }
 
 // Role `p` after a grant or a revoke of the rights named.
@@ -184,15 +185,10 @@ fn granted(given: bool, rights: u32, e: u32, p: Role) -> Role
 {
     let named = rights as u8;
     let mut n = p;
-    n.reads = set_after(given, bitset::contains8(named, sizes::READ), e, p.reads);
-    n.writes = set_after(given, bitset::contains8(named, sizes::WRITE), e, p.writes);
-    n.executes = set_after(
-        given,
-        bitset::contains8(named, sizes::EXECUTE),
-        e,
-        p.executes,
-    );
-    n.owns = set_after(given, bitset::contains8(named, sizes::OWN), e, p.owns);
+    n.reads = set_after(given, named.contains(sizes::READ), e, p.reads);
+    n.writes = set_after(given, named.contains(sizes::WRITE), e, p.writes);
+    n.executes = set_after(given, named.contains(sizes::EXECUTE), e, p.executes);
+    n.owns = set_after(given, named.contains(sizes::OWN), e, p.owns);
     n
 }
 
@@ -238,7 +234,7 @@ pub fn owning(e: u32, p: Role) -> Role
     ensures { result ≡ owning_of e p }
 {
     let mut n = p;
-    n.owns = bitset::with64(p.owns, e);
+    n.owns = p.owns.with(e);
     n
 }
 
@@ -247,10 +243,10 @@ fn cleared(e: u32, p: Role) -> Role
     ensures { result ≡ clear_rights e p }
 {
     let mut n = p;
-    n.reads = bitset::without64(p.reads, e);
-    n.writes = bitset::without64(p.writes, e);
-    n.executes = bitset::without64(p.executes, e);
-    n.owns = bitset::without64(p.owns, e);
+    n.reads = p.reads.without(e);
+    n.writes = p.writes.without(e);
+    n.executes = p.executes.without(e);
+    n.owns = p.owns.without(e);
     n
 }
 

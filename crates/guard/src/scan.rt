@@ -9,6 +9,7 @@ ghost use Rattle.guard.specs.Private.Scan.{Grants, Granted, Cleared, Gathered, j
 use crate::sizes::{BLOCK, ENTITIES, ENTITY_END, LEVEL_ENTITIES, ROLES};
 use crate::sound::tree::NAMES;
 use crate::{Request, Role, Tables, kinds, look};
+use bitset::Set;
 
 // A role has four sets of entities, one for each right. Behind those of all roles stand the juniors of each; how many numbers the
 // column of the roles has.
@@ -85,7 +86,7 @@ pub fn clear(grants: &mut [u64; GRANTS], e: usize) -> usize
 {
     let mut j = 0usize;
     while j < TIES {
-        grants[j] = bitset::without64(grants[j], e as u32);
+        grants[j] = grants[j].without(e as u32);
         j += 1;
     }
     j
@@ -116,8 +117,8 @@ pub fn gather(grants: &[u64; GRANTS], held: u16) -> Rights
         writes = writes | grants[b + 1];
         executes = executes | grants[b + 2];
         owns = owns | grants[b + 3];
-        roles = bitset::with16(roles, r);
-        left = bitset::minus16(left | juniors(grants, r as usize), roles);
+        roles = roles.with(r);
+        left = (left | juniors(grants, r as usize)).minus(roles);
     }
     Rights {
         reads,
@@ -219,7 +220,7 @@ fn has_senior(grants: &[u64; GRANTS], r: u32) -> bool
         all = all | grants[TIES + k];
         k += 1;
     }
-    bitset::has64(all, r)
+    all.has(r)
 }
 
 // What 15 and 22 ask of the ties: unmake whether `r` has a junior or a senior, join whether it is `j` or below it.
@@ -231,8 +232,8 @@ fn tied(grants: &[u64; GRANTS], call: u32, r: usize, j: usize) -> bool
         return (juniors(grants, r) != 0) | has_senior(grants, r as u32);
     }
     if call == kinds::JOIN {
-        let below = gather(grants, bitset::with16(0, j as u32));
-        return bitset::has16(below.roles, r as u32);
+        let below = gather(grants, 0u16.with(j as u32));
+        return below.roles.has(r as u32);
     }
     false
 }

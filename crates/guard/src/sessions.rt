@@ -18,6 +18,7 @@ use crate::scan::GRANTS;
 use crate::sizes::SESSIONS;
 use crate::view::View;
 use crate::{Label, Request, Session, backing, kinds, labels, sizes};
+use bitset::Set;
 
 pub fn login_refusal(q: Request, v: View) -> u8
     requires { (q.grade ≤ top_grade) × (q.cats ≤ all_categories) }
@@ -53,10 +54,10 @@ pub fn take_refusal(q: Request, v: View) -> u8
     if !v.live {
         return 7;
     }
-    if !bitset::has16(v.users, v.session.user as u32) {
+    if !v.users.has(v.session.user as u32) {
         return 12;
     }
-    if bitset::has16(v.session.roles, q.role) {
+    if v.session.roles.has(q.role) {
         return 16;
     }
     0
@@ -71,7 +72,7 @@ pub fn drop_refusal(q: Request, v: View) -> u8
     if !v.live {
         return 7;
     }
-    if !bitset::has16(v.session.roles, q.role) {
+    if !v.session.roles.has(q.role) {
         return 16;
     }
     0
@@ -112,7 +113,7 @@ pub fn dropped(r: u32, s: Session) -> Session
     ensures { result ≡ drop_role r s }
 {
     let mut n = s;
-    n.roles = bitset::without16(s.roles, r);
+    n.roles = s.roles.without(r);
     n
 }
 
@@ -120,8 +121,8 @@ fn closed(e: u32, s: Session) -> Session
     ensures { result ≡ close_both e s }
 {
     let mut n = s;
-    n.reading = bitset::without64(s.reading, e);
-    n.writing = bitset::without64(s.writing, e);
+    n.reading = s.reading.without(e);
+    n.writing = s.writing.without(e);
     n
 }
 
@@ -135,10 +136,10 @@ pub fn after(grants: &[u64; GRANTS], q: Request, s: Session) -> Session
     match call {
         kinds::LOGIN => return entered(q),
         kinds::LOGOUT => return empty(),
-        kinds::TAKE => n.roles = bitset::with16(s.roles, q.role),
+        kinds::TAKE => n.roles = s.roles.with(q.role),
         kinds::DROP => return backing::backed(grants, dropped(q.role, s)),
-        kinds::OPENR => n.reading = bitset::with64(s.reading, q.entity),
-        kinds::OPENW => n.writing = bitset::with64(s.writing, q.entity),
+        kinds::OPENR => n.reading = s.reading.with(q.entity),
+        kinds::OPENW => n.writing = s.writing.with(q.entity),
         _ => return closed(q.entity, s),
     }
     n

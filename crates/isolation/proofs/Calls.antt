@@ -1,6 +1,7 @@
 -- The isolation rule over the code: for what the guard hands back to a host in any number of calls, in the words of specs/Calls.
 --     calls_isolate       the isolation rule, for any two such sequences of calls
 -- Assumes nothing.
+use Rattle.std.specs.Prelude.{Option}
 use Rattle.std.specs.Prelude.{ℕ, ◌≤◌, ◌≡◌, refl, Bool, true, false, cond, List, [], ◌∷◌, ◌++◌, map, length}
 use Rattle.std.proofs.Common.{sym, ap, ◌∙◌, take_at}
 use Rattle.std.proofs.lemmas.List.{map-append, length-map}
@@ -14,7 +15,6 @@ use Rattle.guard.specs.Batch.{batch}
 use Rattle.guard.specs.declared.Tables.{Tables}
 use Rattle.guard.specs.declared.Request.{Request}
 use Rattle.guard.specs.declared.Outcome.{Outcome}
-use Rattle.guard.specs.declared.Told.{Told}
 use Rattle.guard.proofs.Logs.{each, run_append, each_append, length_each}
 use Rattle.isolation.proofs.Theorem.{isolation}
 use Rattle.isolation.specs.Calls.{Call, Calls, compared, stepped, ran, none, more}
@@ -49,20 +49,20 @@ logged (more call calls) =
     (v_is ∙ rw (u_is, run_append), rw (p_is, q_is, u_is, each_append), rw (r_is, s_is, u_is, bytes_append))
 
 -- what a log is handed back and the rule compares
-compared_each : (L : ℕ) (f : ℕ × Told → ℕ) (t : Tables) (log : List Request)
+compared_each : (L : ℕ) (f : ℕ × Option ℕ → ℕ) (t : Tables) (log : List Request)
     → compared L log (each (λ v q. f (answered v q)) t log) ≡ map f (upper_answers L t log)
 unfolding compared each_in upper_answers
 compared_each L f t [] = refl
 compared_each L f t (q ∷ log) = go (every (is_upper L q ∷ names_upper L q ∷ [])) _ _ (compared_each L f (next t q) log)
   where
-    go : (c : Bool) (l : List ℕ) (m : List (ℕ × Told)) → l ≡ map f m → cond c (f (answered t q) ∷ l) l ≡ map f (cond c (answered t q ∷ m) m)
+    go : (c : Bool) (l : List ℕ) (m : List (ℕ × Option ℕ)) → l ≡ map f m → cond c (f (answered t q) ∷ l) l ≡ map f (cond c (answered t q ∷ m) m)
     go true l m e = rw e
     go false l m e = e
 
-abbrev number : ℕ × Told → ℕ
+abbrev number : ℕ × Option ℕ → ℕ
 number (n, role) = n
 
-abbrev byte : ℕ × Told → ℕ
+abbrev byte : ℕ × Option ℕ → ℕ
 byte (n, role) = role_byte role
 
 bytes_are : (t : Tables) (log : List Request) → bytes t log ≡ each (λ v q. byte (answered v q)) t log
@@ -82,7 +82,7 @@ calls_isolate L low high t u st su e a b p q r s t2 u2 left right same =
     let (parts, told) = isolation L low high t u st su e a b same in
     let (t2_is, p_is, r_is) = logged left in
     let (u2_is, q_is, s_is) = logged right in
-    let alike : (f : ℕ × Told → ℕ) → compared L a (each (λ v q. f (answered v q)) t a) ≡ compared L b (each (λ v q. f (answered v q)) u b) =
+    let alike : (f : ℕ × Option ℕ → ℕ) → compared L a (each (λ v q. f (answered v q)) t a) ≡ compared L b (each (λ v q. f (answered v q)) u b) =
     λ f. compared_each L f t a ∙ ap (map f) told ∙ sym (compared_each L f u b) in (
       ap (upper L) t2_is ∙ parts ∙ sym (ap (upper L) u2_is),
       ap (compared L a) p_is ∙ alike number ∙ sym (ap (compared L b) q_is),

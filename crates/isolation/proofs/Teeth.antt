@@ -9,6 +9,7 @@
 --     guard_isolates                             the rule for the step by any rules: guard's isolate ..
 --     openw_fails .. join_fails                  .. and five misreadings do not
 -- Assumes nothing.
+use Rattle.std.specs.Prelude.{Some, None}
 use Rattle.std.specs.Prelude.{◌≡◌, refl, Bool, true, false, List, [], ◌∷◌, eqb, get_or}
 use Rattle.std.proofs.Common.{sym, ap, true≢false, lit≤}
 use Rattle.bitset.specs.Sets.{has, from}
@@ -23,7 +24,6 @@ use Rattle.guard.specs.SameRequest.{same_field, same_request}
 use Rattle.isolation.specs.Upper.{upper_session, upper_role, upper, is_upper, field_upper, names_upper, upper_requests, upper_answers}
 use Rattle.guard.specs.declared.Tables.{Tables}
 use Rattle.guard.specs.declared.Request.{Request}
-use Rattle.guard.specs.declared.Told.TheVariants.{By, None}
 use Rattle.guard.proofs.Compute.{computing}
 use Rattle.isolation.specs.Log.{run_log}
 use Rattle.isolation.proofs.OneRequest.Rule.{isolated}
@@ -74,18 +74,18 @@ unfolding computing morning_users start_in run_in upper upper_session upper_role
 lower_opens_differ e = true≢false (ap (λ (v : Tables). has (get_or v.sessions 4 no_session).reading 0) e)
 
 pub lower_roles_differ : (upper_requests 1 log_f ≡ upper_requests 1 log_g) × (upper 1 (run start_2 log_f) ≡ upper 1 (run start_2 log_g))
-    × (roles_told start_2 log_f ≡ None ∷ None ∷ None ∷ By 0 ∷ []) × (roles_told start_2 log_g ≡ None ∷ None ∷ None ∷ None ∷ None ∷ By 4 ∷ [])
+    × (roles_told start_2 log_f ≡ None ∷ None ∷ None ∷ Some 0 ∷ []) × (roles_told start_2 log_g ≡ None ∷ None ∷ None ∷ None ∷ None ∷ Some 4 ∷ [])
     × (names_upper 1 openr_0 ≡ false)
 unfolding computing morning_users start_in run_in upper upper_session upper_role from is_upper upper_requests field_upper names_upper
 lower_roles_differ = (refl, refl, refl, refl, refl)
 
 pub edition_counts : (with_edition 0 (upper 1 start) ≡ with_edition 0 (upper 1 start_2))
-    × (upper_answers 1 start log_e ≡ (0, None) ∷ (0, None) ∷ (10, None) ∷ []) × (upper_answers 1 start_2 log_e ≡ (0, None) ∷ (0, None) ∷ (0, By 4) ∷ [])
+    × (upper_answers 1 start log_e ≡ (0, None) ∷ (0, None) ∷ (10, None) ∷ []) × (upper_answers 1 start_2 log_e ≡ (0, None) ∷ (0, None) ∷ (0, Some 4) ∷ [])
 unfolding computing morning_users start_in upper upper_session upper_role from is_upper field_upper names_upper upper_answers
 edition_counts = (refl, refl, refl)
 
 pub ties_count : (each_role (tying 0) (upper 1 start_tied) ≡ each_role (tying 0) (upper 1 start))
-    × (upper_answers 1 start_tied log_h ≡ (0, None) ∷ (0, None) ∷ (0, By 5) ∷ []) × (upper_answers 1 start log_h ≡ (0, None) ∷ (0, None) ∷ (13, None) ∷ [])
+    × (upper_answers 1 start_tied log_h ≡ (0, None) ∷ (0, None) ∷ (0, Some 5) ∷ []) × (upper_answers 1 start log_h ≡ (0, None) ∷ (0, None) ∷ (13, None) ∷ [])
 unfolding computing morning_users start_in start_tied upper upper_session upper_role from is_upper field_upper names_upper upper_answers
 ties_count = (refl, refl, refl)
 

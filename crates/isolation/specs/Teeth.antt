@@ -3,6 +3,7 @@
 --     log_a .. log_h                  the logs
 --     Isolates                        the rule for the step by any rules
 --     misread                         a misreading: the rule of one call, with another condition at one number
+use Rattle.std.specs.Prelude.{Option, None}
 use Rattle.std.specs.Prelude.{ℕ, ◌≤◌, ◌≡◌, Bool, true, false, not, cond, List, [], ◌∷◌, map, eqb}
 use Rattle.bitset.specs.Tests.{every}
 use Rattle.guard.specs.Level.{role_level}
@@ -20,8 +21,6 @@ use Rattle.guard.specs.Methods.{share_request, tie_request}
 use Rattle.isolation.specs.Upper.{upper, is_upper, names_upper, upper_requests}
 use Rattle.guard.specs.declared.Tables.{Tables}
 use Rattle.guard.specs.declared.Request.{Request}
-use Rattle.guard.specs.declared.Told.{Told}
-use Rattle.guard.specs.declared.Told.TheVariants.{None}
 use Rattle.isolation.specs.Log.{run_log, answers_of}
 
 -- ---- where all logs of this file start: fresh tables with object 17 in root 16 (level 1), with role 5 (level 1), which lists user 0,
@@ -137,7 +136,7 @@ module _ (rule : Request → Rule) where
   unfoldable pub number_by : Tables → Request → ℕ
   number_by t q = first (1 when not (sound t) ∷ 2 when not (every (map (field_in_range_in all_categories q) (rule q).uses)) ∷ (rule q).refusals t q)
 
-  unfoldable pub answer_by : Tables → Request → ℕ × Told
+  unfoldable pub answer_by : Tables → Request → ℕ × Option ℕ
   answer_by t q = (number_by t q, cond (eqb (number_by t q) 0) (role_opening t q) None)
 
   unfoldable pub next_by : Tables → Request → Tables

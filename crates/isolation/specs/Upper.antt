@@ -1,4 +1,5 @@
 -- The upper part for a level L, and which requests are upper.
+use Rattle.std.specs.Prelude.{Option}
 use Rattle.std.specs.Prelude.{ℕ, ◌*◌, Bool, true, cond, List, [], ◌∷◌, map, leb, ltb, drop}
 use Rattle.bitset.specs.Tests.{every}
 use Rattle.bitset.specs.Sets.{from}
@@ -9,7 +10,6 @@ use Rattle.guard.specs.declared.Session.{Session}
 use Rattle.guard.specs.declared.Role.{Role}
 use Rattle.guard.specs.declared.Tables.{Tables}
 use Rattle.guard.specs.declared.Request.{Request}
-use Rattle.guard.specs.declared.Told.{Told}
 
 -- Upper means of level L or above, lower of a level below L. Levels are blocks of numbers, so the upper sessions and
 -- roles are those from first_session L on, and the upper entities those from first_entity L on.
@@ -91,12 +91,12 @@ upper_requests L [] = []
 upper_requests L (q ∷ log) = cond (is_upper L q) (q ∷ upper_requests L log) (upper_requests L log)
 
 -- "The isolation rule's equal answers include the role": an answer is its number and the role that is told.
-abbrev pub answered : Tables → Request → ℕ × Told
+abbrev pub answered : Tables → Request → ℕ × Option ℕ
 answered t q = (answer t q, role_told t q)
 
 -- Answers are compared in order: the first upper request of one log with the first of the other, and so on. Of the
 -- upper requests, those that name only upper seats, roles and entities.
-unfoldable pub upper_answers : ℕ → Tables → List Request → List (ℕ × Told)
+unfoldable pub upper_answers : ℕ → Tables → List Request → List (ℕ × Option ℕ)
 upper_answers L t [] = []
 upper_answers L t (q ∷ log) =
     cond (every (is_upper L q ∷ names_upper L q ∷ []))

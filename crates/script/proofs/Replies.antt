@@ -6,6 +6,7 @@
 --     nobody_built               the tables that a run opens with
 --     said_next, said_text     the runner and the text after an answer
 -- Assumes nothing.
+use Rattle.std.specs.Prelude.{None}
 use Prim.Native.Nat.{ℕ, ◌+◌, ◌≤◌, ◌<◌}
 use mathlib.Core.Path.{◌≡◌, refl}
 use mathlib.Core.Bool.{Bool, true, false, cond, ◌||◌, true≢false}
@@ -24,7 +25,6 @@ use Rattle.guard.specs.Step.{step}
 use Rattle.guard.specs.declared.Tables.{Tables}
 use Rattle.guard.specs.declared.Request.{Request}
 use Rattle.guard.specs.declared.Outcome.{Outcome}
-use Rattle.guard.specs.declared.Told.TheVariants.{None}
 use Rattle.script.specs.Report.{Answered, unread, with_user, user_in_ranges, answer_line, line_text}
 use Rattle.script.specs.Private.Slices.{Put}
 use Rattle.script.specs.Run.{bench, bench_of}

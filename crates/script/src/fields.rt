@@ -6,6 +6,7 @@ ghost use Rattle.script.specs.Private.Rows.{no_word, field_count, taken_as, take
 
 use crate::limits;
 use crate::line::Line;
+use bitset::Set;
 use guard::Request;
 
 // What a field is taken as.
@@ -69,8 +70,8 @@ pub fn uses(word: u32) -> u16
 fn field(n: u32, given: u16, uses: u16, i: u32) -> Taken
     ensures { result ≡ taken_as (has uses i) (has given i) n }
 {
-    let used = bitset::has16(uses, i);
-    let number = bitset::has16(given, i);
+    let used = uses.has(i);
+    let number = given.has(i);
     if used & !number {
         return Taken::Fault;
     }

@@ -4,6 +4,7 @@ ghost use Rattle.script.specs.Text.{values};
 ghost use Rattle.script.specs.Names.{is_names, Ordered};
 
 use crate::{limits, text};
+use bitset::Set;
 
 // The order of columns that a line of names gives: `at` has for each place which name stands there, and behind the last that
 // none does.
@@ -18,21 +19,21 @@ pub fn header(s: &[u8]) -> Order
     ensures { (result.good ≡ is_names (values s.now)) × (result.good ≡ true → Ordered (values s.now) result.at) }
 {
     let mut at = [limits::NO_NAME; limits::PLACES];
-    let mut seen = bitset::with16(0, limits::NO_NAME as u32);
+    let mut seen = 0u16.with(limits::NO_NAME as u32);
     let mut from = 0;
     let mut j = 0;
     loop {
         let rest = &s[from..];
         let e = text::find(rest, 32);
         let name = text::name_at(&rest[..e]);
-        if bitset::has16(seen, name as u32) {
+        if seen.has(name as u32) {
             return Order { good: false, at };
         }
         at[j] = name;
-        seen = bitset::with16(seen, name as u32);
+        seen = seen.with(name as u32);
         j += 1;
         if rest.len() <= e {
-            let good = bitset::contains16(seen, limits::FIXED_NAMES);
+            let good = seen.contains(limits::FIXED_NAMES);
             return Order { good, at };
         }
         from = from + e + 1;

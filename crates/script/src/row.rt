@@ -7,6 +7,7 @@ ghost use Rattle.script.specs.Private.Rows.{blank, IsFound, fills, IsRow};
 
 use crate::line::Value;
 use crate::{digit, limits, text};
+use bitset::Set;
 
 // A value found: its code, its form (0 a number, or a word under `call`; 1 a dash; 2 anything else), where it ends, and
 // whether a space stands there.
@@ -206,7 +207,7 @@ pub fn read_row(s: &[u8], at: &[u8; limits::PLACES], vals: &mut [u32; limits::PL
         let end = f.end;
         if f.form == 0 {
             vals[i as usize] = f.code;
-            given = bitset::with16(given, i);
+            given = given.with(i);
             if !f.more {
                 return Row {
                     good: is_last(at, j),

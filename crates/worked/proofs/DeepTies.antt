@@ -4,6 +4,7 @@
 --     chain_cut               untied in the middle, the first keeps nothing of them, and the opens that rested on them end
 --     diamond_kept, diamond_cut       by two ways: with one of them untied nothing is lost, with both everything
 -- Assumes nothing.
+use Rattle.std.specs.Prelude.{Some, None}
 use Prim.Native.Nat.{ℕ}
 use mathlib.Core.Path.{◌≡◌, refl}
 use mathlib.Core.Bool.{Bool, true, false}
@@ -16,7 +17,6 @@ use Rattle.guard.specs.Requests.{unjoin, logged_in}
 use Rattle.guard.specs.Methods.{login_request, tie_request}
 use Rattle.guard.specs.Kind as kind
 use Rattle.guard.specs.declared.Tables.{Tables}
-use Rattle.guard.specs.declared.Told.TheVariants.{By, None}
 use Rattle.guard.proofs.Compute.{computing}
 use Rattle.worked.proofs.Morning.{morning_users}
 
@@ -39,7 +39,7 @@ chain = tables (with 0 13) (with 0 14) (with 0 15) 12
 unfoldable pub diamond : Tables
 diamond = tables (with (with 0 13) 14) (with 0 15) (with 0 15) 12
 
-pub chain_rights : (is_below chain 12 15 ≡ true) × (role_for chain 12 read 48 ≡ By 12) × (role_for chain 12 write 48 ≡ By 12) × (role_for chain 12 own 48 ≡ None)
+pub chain_rights : (is_below chain 12 15 ≡ true) × (role_for chain 12 read 48 ≡ Some 12) × (role_for chain 12 write 48 ≡ Some 12) × (role_for chain 12 own 48 ≡ None)
 unfolding computing tables chain
 chain_rights = (refl, refl, refl, refl)
 

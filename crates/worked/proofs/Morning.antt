@@ -1,5 +1,6 @@
 -- One morning's requests: the definitions give the paper's answers to K1 to K14, and the role that one of them tells, by computing.
 -- Assumes nothing.
+use Rattle.std.specs.Prelude.{Some, None}
 use Prim.Native.Nat.{ℕ}
 use mathlib.Core.Path.{◌≡◌, refl}
 use mathlib.Core.List.{List, [], ◌∷◌, ◌++◌, map}
@@ -12,7 +13,6 @@ use Rattle.guard.specs.Kind.{login, take, openr, openw, create, delete, rename}
 use Rattle.guard.specs.Methods.{request}
 use Rattle.guard.specs.declared.User.{User}
 use Rattle.guard.specs.declared.Request.{Request}
-use Rattle.guard.specs.declared.Told.TheVariants.{By, None}
 use Rattle.guard.proofs.Compute.{computing}
 
 -- user 0 has ceiling 3, clearance 3/255; user 1 ceiling 1, clearance 1/0; the rest 0.
@@ -56,6 +56,6 @@ unfolding computing morning_users morning
 morning_answers = refl
 
 -- Of these K6 alone is an openw or openr that is done: it tells the keeper of level 3.
-pub morning_roles : roles_told (fresh morning_users edition1) (map (λ (r : Row). r.request) morning) ≡ replicate 5 None ++ (By 12 ∷ replicate 8 None)
+pub morning_roles : roles_told (fresh morning_users edition1) (map (λ (r : Row). r.request) morning) ≡ replicate 5 None ++ (Some 12 ∷ replicate 8 None)
 unfolding computing morning_users morning
 morning_roles = refl

@@ -1,5 +1,6 @@
 -- Fresh tables over users in range are sound in either edition, and so are those that every build hands back.
 -- Assumes nothing.
+use Rattle.std.specs.Prelude.{None}
 use Prim.Native.Nat.{ℕ}
 use mathlib.Core.Path.{◌≡◌, refl}
 use mathlib.Core.Bool.{Bool, true, false, cond}
@@ -17,7 +18,6 @@ use Rattle.guard.specs.Private.InForce.{session_in_range, entity_in_range, field
 use Rattle.guard.specs.declared.User.{User}
 use Rattle.guard.specs.declared.Tables.{Tables}
 use Rattle.guard.specs.declared.Outcome.{Outcome}
-use Rattle.guard.specs.declared.Told.TheVariants.{None}
 
 abbrev outcome : Tables → ℕ → Outcome
 outcome t n = record { tables = t; answer = n; role = None }

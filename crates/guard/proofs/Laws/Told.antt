@@ -10,6 +10,8 @@
 --     openr_tells, openw_tells              accepted, both tell the role for the right, and one is told
 --     refused_tells, others_tell            all else tells none
 -- Assumes nothing.
+use Rattle.std.specs.Option.{option_or}
+use Rattle.std.specs.Prelude.{Option, Some, None, is_some}
 use Prim.Native.Nat.{ℕ, zero, suc, ◌≤◌, ◌<◌}
 use mathlib.Core.Path.{◌≡◌, refl, sym, ap, ◌∙◌}
 use mathlib.Core.Bool.{Bool, true, false, ◌||◌, cond, true≢false}
@@ -22,7 +24,7 @@ use borrow.Author.Tests.{eqb-true, ne_eqb}
 use Rattle.bitset.specs.Tests.{every, some}
 use Rattle.bitset.specs.Tests.Laws.{none_below, some_no_e, either_no_l, of_not_false}
 use Rattle.guard.specs.Level.{role_count, role_level, entity_level}
-use Rattle.guard.specs.Told.{is_told, or_else, lowest, role_byte}
+use Rattle.guard.specs.Told.{lowest, role_byte}
 use Rattle.guard.specs.Tables.{read, write, holds, role_has, role_for, has_right}
 use Rattle.guard.specs.Conditions.{cannot_open}
 use Rattle.guard.specs.Requests.{openr, openw, unknown, rules, rule_of}
@@ -31,51 +33,48 @@ use Rattle.guard.specs.Kind as kind
 use Rattle.guard.specs.Private.Scan.{read_byte}
 use Rattle.guard.specs.declared.Tables.{Tables}
 use Rattle.guard.specs.declared.Request.{Request}
-use Rattle.guard.specs.declared.Told.{Told}
-use Rattle.guard.specs.declared.Told.TheVariants.{By, None}
 use Rattle.guard.proofs.Laws.Requests.{answer_none, numbered}
 use Rattle.guard.proofs.Laws.Juniors.{has_in}
 
 -- ---- the lowest number
 pub lowest_none : (n : ℕ) (p : ℕ → Bool) → ((k : ℕ) → k < n → p k ≡ false) → lowest n p ≡ None
-unfolding lowest or_else
+unfolding lowest
 lowest_none zero p f = refl
 lowest_none (suc n) p f = rw (lowest_none n p (λ k l. f k (omega arith)), f n (omega arith))
 
-pub lowest_at : (n : ℕ) (p : ℕ → Bool) (r : ℕ) → r < n → p r ≡ true → ((k : ℕ) → k < r → p k ≡ false) → lowest n p ≡ By r
-unfolding lowest or_else
+pub lowest_at : (n : ℕ) (p : ℕ → Bool) (r : ℕ) → r < n → p r ≡ true → ((k : ℕ) → k < r → p k ≡ false) → lowest n p ≡ Some r
+unfolding lowest
 lowest_at zero p r l h low = absurd (none_below r l)
 lowest_at (suc n) p r l h low = go (dec_lt r n) (λ m. lowest_at n p r m h low)
   where
-    go : Dec (r < n) → (r < n → lowest n p ≡ By r) → or_else (lowest n p) (cond (p n) (By n) None) ≡ By r
+    go : Dec (r < n) → (r < n → lowest n p ≡ Some r) → option_or (lowest n p) (cond (p n) (Some n) None) ≡ Some r
     go (yes m) before = rw (before m)
     go (no m) before = let same : r ≡ n = omega arith in rw (lowest_none n p (λ k l. low k (omega arith)), ← same, h)
 
-pub told_some : (n : ℕ) (p : ℕ → Bool) → is_told (lowest n p) ≡ some n p
-unfolding lowest or_else is_told some
+pub told_some : (n : ℕ) (p : ℕ → Bool) → is_some (lowest n p) ≡ some n p
+unfolding lowest some
 told_some zero p = refl
 told_some (suc n) p = go (lowest n p) (told_some n p) (p n)
   where
-    go : (a : Told) → is_told a ≡ some n p → (b : Bool) → is_told (or_else a (cond b (By n) None)) ≡ (some n p || b)
-    go (By r) e b = rw (← e)
+    go : (a : Option ℕ) → is_some a ≡ some n p → (b : Bool) → is_some (option_or a (cond b (Some n) None)) ≡ (some n p || b)
+    go (Some r) e b = rw (← e)
     go None e true = rw (← e)
     go None e false = rw (← e)
 
 none_told : (n : ℕ) (p : ℕ → Bool) → lowest n p ≡ None → (k : ℕ) → k < n → p k ≡ false
-unfolding is_told
-none_told n p h = some_no_e n p (sym (told_some n p) ∙ ap is_told h)
+none_told n p h = some_no_e n p (sym (told_some n p) ∙ ap is_some h)
 
-pub lowest_e : (n : ℕ) (p : ℕ → Bool) (r : ℕ) → lowest n p ≡ By r → (r < n) × (p r ≡ true) × ((k : ℕ) → k < r → p k ≡ false)
-unfolding lowest or_else role_byte is_told
-lowest_e zero p r h = absurd (true≢false (ap is_told (sym h)))
+pub lowest_e : (n : ℕ) (p : ℕ → Bool) (r : ℕ) → lowest n p ≡ Some r → (r < n) × (p r ≡ true) × ((k : ℕ) → k < r → p k ≡ false)
+unfolding lowest role_byte
+lowest_e zero p r h = absurd (true≢false (ap is_some (sym h)))
 lowest_e (suc n) p r h = go (lowest n p) refl (p n) refl h (lowest_e n p r)
   where
-    go : (a : Told) → lowest n p ≡ a → (b : Bool) → p n ≡ b → or_else a (cond b (By n) None) ≡ By r
-        → (lowest n p ≡ By r → (r < n) × (p r ≡ true) × ((k : ℕ) → k < r → p k ≡ false))
+    go : (a : Option ℕ) → lowest n p ≡ a → (b : Bool) → p n ≡ b → option_or a (cond b (Some n) None) ≡ Some r
+        → (lowest n p ≡ Some r → (r < n) × (p r ≡ true) × ((k : ℕ) → k < r → p k ≡ false))
         → (r < suc n) × (p r ≡ true) × ((k : ℕ) → k < r → p k ≡ false)
-    go (By s) e b m h before = let (l, met, low) = before (e ∙ h) in (omega arith, met, low)
+    go (Some s) e b m h before = let (l, met, low) = before (e ∙ h) in (omega arith, met, low)
     go None e true m h before = let same : n ≡ r = ap role_byte h in (omega arith, rw (← same) m, λ k l. none_told n p e k (omega arith))
-    go None e false m h before = absurd (true≢false (ap is_told (sym h)))
+    go None e false m h before = absurd (true≢false (ap is_some (sym h)))
 
 pub lowest_cong : (n : ℕ) (p q : ℕ → Bool) → ((k : ℕ) → k < n → p k ≡ q k) → lowest n p ≡ lowest n q
 unfolding lowest
@@ -87,8 +86,8 @@ pub byte_read : (n : ℕ) (p : ℕ → Bool) → n ≤ 255 → read_byte (role_b
 unfolding read_byte role_byte
 byte_read n p small = go (lowest n p) refl
   where
-    go : (a : Told) → lowest n p ≡ a → read_byte (role_byte a) ≡ a
-    go (By r) e = let (l, met, low) = lowest_e n p r e in rw (ne_eqb r 255 (λ h. omega arith))
+    go : (a : Option ℕ) → lowest n p ≡ a → read_byte (role_byte a) ≡ a
+    go (Some r) e = let (l, met, low) = lowest_e n p r e in rw (ne_eqb r 255 (λ h. omega arith))
     go None e = refl
 
 -- ---- the check of a right
@@ -108,7 +107,7 @@ module _ (t : Tables) (x right e : ℕ) where
   right_by_lem = right_some
 
   -- The check of a right tells the lowest-numbered held role that gives it, or that none does.
-  pub role_for_lem : (r : ℕ) → role_for t x right e ≡ By r → (r < role_count) × (Gives r ≡ true) × ((k : ℕ) → k < r → Gives k ≡ false)
+  pub role_for_lem : (r : ℕ) → role_for t x right e ≡ Some r → (r < role_count) × (Gives r ≡ true) × ((k : ℕ) → k < r → Gives k ≡ false)
   unfolding role_for
   role_for_lem r = lowest_e role_count Gives r
 
@@ -118,7 +117,7 @@ module _ (t : Tables) (x right e : ℕ) where
 
 -- ---- what a request tells
 -- of kind `call`, by x, on e: the two kinds that tell something
-abbrev pub Opening : Tables → ℕ → ℕ → ℕ → Told
+abbrev pub Opening : Tables → ℕ → ℕ → ℕ → Option ℕ
 Opening t call x e = cond (eqb call kind.openr) (role_for t x read e) (cond (eqb call kind.openw) (role_for t x write e) None)
 
 pub opening_same : (t u : Tables) (call x y e f : ℕ) → (call ≡ kind.openr → role_for t x read e ≡ role_for u y read f)
@@ -137,13 +136,13 @@ module _ (t : Tables) (q : Request) where
   can_open right h = of_not_false _ (either_no_l _ _ h)
 
   -- Accepted openr and openw hand back, beside the 0, the role for read or write on the entity;
-  pub openr_tells : q.call ≡ kind.openr → answer t q ≡ 0 → (role_told t q ≡ role_for t q.seat read q.entity) × (is_told (role_told t q) ≡ true)
+  pub openr_tells : q.call ≡ kind.openr → answer t q ≡ 0 → (role_told t q ≡ role_for t q.seat read q.entity) × (is_some (role_told t q) ≡ true)
   unfolding role_told_in role_opening rule_of openr has_right
   openr_tells is done =
       let rule : rule_of q ≡ openr = ap (λ n. get_or rules n unknown) is ∙ numbered.4 in
       (rw (done, is), rw (done, is) (can_open read (rw rule at ((answer_none t q).0 done 13))))
 
-  pub openw_tells : q.call ≡ kind.openw → answer t q ≡ 0 → (role_told t q ≡ role_for t q.seat write q.entity) × (is_told (role_told t q) ≡ true)
+  pub openw_tells : q.call ≡ kind.openw → answer t q ≡ 0 → (role_told t q ≡ role_for t q.seat write q.entity) × (is_some (role_told t q) ≡ true)
   unfolding role_told_in role_opening rule_of openw has_right
   openw_tells is done =
       let rule : rule_of q ≡ openw = ap (λ n. get_or rules n unknown) is ∙ numbered.5 in
@@ -158,6 +157,6 @@ module _ (t : Tables) (q : Request) where
   unfolding role_told_in role_opening
   others_tell r w = rw (ne_eqb q.call kind.openr r, ne_eqb q.call kind.openw w) (go (eqb (answer t q) 0))
     where
-      go : (b : Bool) → cond b None None ≡ None
+      go : (b : Bool) → ◌≡◌ {A = Option ℕ} (cond b None None) None
       go true = refl
       go false = refl

@@ -2,6 +2,7 @@
 -- level, over two columns of the tables. No public entry's contract cites them, so a buyer need not read them.
 --   keys      for each entity its parent and its name in one number (Tested.key_of)
 --   grants    for each role four sets of entities, one for each right: those of role r stand from 4 r on; its juniors at 64 + r
+use Rattle.std.specs.Prelude.{Option, Some, None}
 use Rattle.std.specs.Prelude.{ℕ, ◌+◌, ◌*◌, ◌/◌, ◌%◌, ◌≤◌, ◌<◌, ◌≡◌, Bool, true, false, not, cond, List, [], ◌∷◌, eqb, length, get_or}
 use Rattle.std.specs.Int.Bits.{bit_and}
 use Rattle.bitset.specs.Tests.{every, either, implies, all, some}
@@ -19,8 +20,6 @@ use Rattle.guard.specs.declared.Session.{Session}
 use Rattle.guard.specs.declared.Role.{Role}
 use Rattle.guard.specs.declared.Entity.{Entity}
 use Rattle.guard.specs.declared.Request.{Request}
-use Rattle.guard.specs.declared.Told.{Told}
-use Rattle.guard.specs.declared.Told.TheVariants.{By, None}
 use Rattle.guard.specs.declared.scan.Rights.{Rights}
 use Rattle.guard.specs.declared.scan.Found.{Found}
 
@@ -104,14 +103,14 @@ pub record First (set r : ℕ) : Type 0 where
   pub small : r < role_count
 
 -- which one an accepted request of that kind tells
-unfoldable pub opened_by : List ℕ → ℕ → ℕ → ℕ → Told
+unfoldable pub opened_by : List ℕ → ℕ → ℕ → ℕ → Option ℕ
 opened_by grants call held e =
     cond (eqb call kind.openr) (lowest role_count (gives grants held 0 e))
     (cond (eqb call kind.openw) (lowest role_count (gives grants held 1 e)) None)
 
 -- what a byte of a batch tells
-unfoldable pub read_byte : ℕ → Told
-read_byte b = cond (eqb b (role_byte None)) None (By b)
+unfoldable pub read_byte : ℕ → Option ℕ
+read_byte b = cond (eqb b (role_byte None)) None (Some b)
 
 pub record Gathered (grants : List ℕ) (held : ℕ) (g : Rights) : Type 0 where
   pub reads : (e : ℕ) → has g.reads e ≡ given grants held 0 e

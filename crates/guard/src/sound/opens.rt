@@ -11,6 +11,7 @@ use super::record::{is_empty_session, session_in_range};
 use crate::scan::{GRANTS, Rights};
 use crate::sizes::{EDITION_1, ENTITIES, LEVEL_SEATS, SEAT_END, SESSIONS};
 use crate::{Entity, Label, Session, backing, scan};
+use bitset::Set;
 
 // How many sets of categories there are, and the last of them; and what stands for the label of what is not live, above all
 // labels.
@@ -60,10 +61,10 @@ fn dominates_each(labels: &[u32; ENTITIES], label: Label, set: u64) -> bool
         if top < l {
             return false;
         }
-        if bitset::minus16((l % SETS) as u16, label.cats) != 0 {
+        if ((l % SETS) as u16).minus(label.cats) != 0 {
             return false;
         }
-        m = bitset::without64(m, e);
+        m = m.without(e);
     }
     true
 }
@@ -78,7 +79,7 @@ fn equals_each(labels: &[u32; ENTITIES], label: u32, set: u64) -> bool
         if labels[e as usize] != label {
             return false;
         }
-        m = bitset::without64(m, e);
+        m = m.without(e);
     }
     true
 }
@@ -122,8 +123,8 @@ fn levels_allowed(edition: u8, level: u32, s: Session) -> bool
     requires { level < 4 }
     ensures { result ≡ open_levels edition level s }
 {
-    ((edition != EDITION_1) | bitset::contains64(from_level(level), s.reading))
-        & bitset::contains64(to_level(level), s.writing)
+    ((edition != EDITION_1) | from_level(level).contains(s.reading))
+        & to_level(level).contains(s.writing)
 }
 
 // Whether it has the labels that `s` may have open.
@@ -144,7 +145,7 @@ fn session_ok(labels: &[u32; ENTITIES], roles: u16, edition: u8, level: u32, s: 
     if !s.live {
         return is_empty_session(s);
     }
-    if !(session_in_range(s) & bitset::contains16(roles, s.roles)) {
+    if !(session_in_range(s) & roles.contains(s.roles)) {
         return false;
     }
     if !levels_allowed(edition, level, s) {

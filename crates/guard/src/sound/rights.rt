@@ -11,6 +11,7 @@ use super::opens::to_level;
 use crate::scan::GRANTS;
 use crate::sizes::{LEVEL_ROLES, ROLE_END, ROLES};
 use crate::{Role, scan};
+use bitset::Set;
 
 // The count as the loop has it that hands a number on, and how many roles a level has.
 const ROLE_COUNT: u8 = ROLES as u8;
@@ -38,7 +39,7 @@ fn role_ok(set: u64, r: u8, p: Role) -> bool
     if !p.live & ((r % LEVEL == 0) | (p.users != 0) | (p.juniors != 0)) {
         return false;
     }
-    bitset::contains64(bound(p.live, set), p.reads | p.writes | p.executes | p.owns)
+    bound(p.live, set).contains(p.reads | p.writes | p.executes | p.owns)
 }
 
 // `set`, and `r` where it is live.
@@ -49,7 +50,7 @@ fn listed(set: u16, r: u8, live: bool) -> u16
     if !live {
         return set;
     }
-    bitset::with16(set, r as u32)
+    set.with(r as u32)
 }
 
 // The roles, where `live` are the live entities.
@@ -100,11 +101,11 @@ fn tie_ok(grants: &[u64; GRANTS], live: u16, r: u32) -> bool
     if juniors == 0 {
         return true;
     }
-    if !bitset::contains16(live & of_level(r / LEVEL_ROLES), juniors) {
+    if !(live & of_level(r / LEVEL_ROLES)).contains(juniors) {
         return false;
     }
     let below = scan::gather(grants, juniors);
-    !bitset::has16(below.roles, r)
+    !below.roles.has(r)
 }
 
 // Every role so.

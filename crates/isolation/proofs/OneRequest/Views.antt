@@ -8,6 +8,7 @@
 --     none_below, child_same            the children of an upper entity
 --     reaches_same                      the way to it
 -- Assumes nothing.
+use Rattle.std.specs.Prelude.{is_some}
 use Prim.Native.Nat.{ℕ, zero, suc, ◌-◌, ◌≤◌, ◌<◌}
 use Rattle.std.specs.Prelude.{◌≡◌, Bool, not, [], ◌∷◌, map, ◌⊎◌, eqb, drop}
 use Rattle.std.proofs.Math.Path.{refl, sym, ap, ap₂}
@@ -21,7 +22,6 @@ use Rattle.bitset.specs.Tests.Laws.{every_e, every_at, some_cong, both, is_false
 use Rattle.bitset.specs.Sets.{contains}
 use Rattle.bitset.specs.Sets.Shift.{has_from, from_has}
 use Rattle.guard.specs.Level.{role_count, entity_count, session_level, role_level, entity_level, entities_per_level, is_root}
-use Rattle.guard.specs.Told.{is_told}
 use Rattle.guard.specs.Tables.{no_session, no_role, no_entity, session_at, role_at, entity_at, holds, is_reading, is_writing, is_junior, is_below, rights_of, rights_on, role_has, role_for, has_right, is_child, execute}
 use Rattle.guard.specs.Chain.{climbs, parent_of, reaches}
 use Rattle.guard.specs.Sound.{sound}
@@ -214,7 +214,7 @@ module _ (L : ℕ) (t u : Tables) (same : Same L t u) (ties : TiesOk t.roles) (t
 
   pub has_right_same : (x right e : ℕ) → first_session L ≤ x → first_entity L ≤ e → has_right t x right e ≡ has_right u x right e
   unfolding has_right
-  has_right_same x right e hx he = ap is_told (role_for_same x right e hx he)
+  has_right_same x right e hx he = ap is_some (role_for_same x right e hx he)
 
 -- ---- of sound tables: parents stay in their level
 -- no lower entity is the child of an upper one

@@ -6,6 +6,7 @@
 --     same_log                      a log
 --     given_back, old_ones           tables without marks and ties, of edition 1, as old ones, every number the same
 -- Assumes nothing.
+use Rattle.std.specs.Prelude.{Option}
 use Rattle.std.specs.Prelude.{ℕ, suc, ◌≤◌, ◌<◌, ◌≡◌, refl, true, ◌&&◌, List, [], ◌∷◌, map, length, get_or}
 use Rattle.std.proofs.Common.{sym, ap, ap₂, arith, leb-true, le-leb}
 use Rattle.bitset.specs.Tests.{every}
@@ -25,7 +26,6 @@ use Rattle.guard.specs.declared.Role.{Role}
 use Rattle.guard.specs.declared.Entity.{Entity}
 use Rattle.guard.specs.declared.Tables.{Tables}
 use Rattle.guard.specs.declared.Request.{Request}
-use Rattle.guard.specs.declared.Told.{Told}
 use Rattle.guard.specs.declared.old.OldLabel.{OldLabel}
 use Rattle.guard.specs.declared.old.OldUser.{OldUser}
 use Rattle.guard.specs.declared.old.OldSession.{OldSession}
@@ -179,7 +179,7 @@ same_log t ok (q ∷ log) within =
     let answer_is = same_answer t ok q here in
     let role_is = same_role t ok q here in (
       rw (sym answer_is, sym next_is) (ap (λ (l : List ℕ). answer_in old_width t q ∷ l) told),
-      rw (sym role_is, sym next_is) (ap (λ (l : List Told). role_told_in old_width t q ∷ l) roles),
+      rw (sym role_is, sym next_is) (ap (λ (l : List (Option ℕ)). role_told_in old_width t q ∷ l) roles),
       rw (sym next_is) left,
       rw (sym next_is) sound,
     )

@@ -4,4 +4,4 @@ use Rattle.guard.proofs.BackedOpens.{opens_given_lem}
 use Rattle.guard.proofs.backing.is_backed.Goals as goal
 
 pub returns : goal.returns
-returns c grants G = opens_given_lem grants _ _ (omega arith) (omega arith) G _ _ c.contains64.ensures c.contains64-2.ensures
+returns c grants G = opens_given_lem grants _ _ (omega arith) (omega arith) G _ _ c.contains.ensures c.contains-2.ensures

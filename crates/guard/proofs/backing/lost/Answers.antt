@@ -6,4 +6,4 @@ use Rattle.guard.proofs.backing.lost.Goals as goal
 pub returns : goal.returns
 unfolding join
 returns c =
-    lost_as _ _ _ _ _ c.gather-before.ensures c.gather-after.ensures _ _ c.minus64.ensures c.minus64-2.ensures
+    lost_as _ _ _ _ _ c.gather-before.ensures c.gather-after.ensures _ _ c.minus.ensures c.minus-2.ensures

@@ -12,14 +12,14 @@ returns-then-q-eq0 c = search refusing depth 14 fits 4000
 pub returns-then-not-v-2 : goal.returns-then-not-v-2
 returns-then-not-v-2 c = search refusing depth 14 fits 4000
 
-pub returns-then-has64-lacks_own : goal.returns-then-has64-lacks_own
+pub returns-then-has-lacks_own : goal.returns-then-has-lacks_own
 unfolding either
-returns-then-has64-lacks_own c = rw (← c.has64.ensures, ← c.has64-2.ensures, ← c.lacks_own.ensures) (search refusing depth 14 fits 4000)
+returns-then-has-lacks_own c = rw (← c.has.ensures, ← c.has-2.ensures, ← c.lacks_own.ensures) (search refusing depth 14 fits 4000)
 
 pub returns-then-v : goal.returns-then-v
 unfolding either
-returns-then-v c = rw (← c.has64.ensures, ← c.has64-2.ensures, ← c.lacks_own.ensures) (search refusing depth 14 fits 4000)
+returns-then-v c = rw (← c.has.ensures, ← c.has-2.ensures, ← c.lacks_own.ensures) (search refusing depth 14 fits 4000)
 
 pub returns : goal.returns
 unfolding either
-returns c = rw (← c.has64.ensures, ← c.has64-2.ensures, ← c.lacks_own.ensures) (search refusing depth 14 fits 4000)
+returns c = rw (← c.has.ensures, ← c.has-2.ensures, ← c.lacks_own.ensures) (search refusing depth 14 fits 4000)

@@ -11,18 +11,18 @@ pub returns-then-not-dominates : goal.returns-then-not-dominates
 unfolding either
 returns-then-not-dominates c = rw (← c.made-label.ensures) (search refusing depth 14 fits 4000)
 
-pub returns-then-not-has16 : goal.returns-then-not-has16
+pub returns-then-not-has : goal.returns-then-not-has
 unfolding either
-returns-then-not-has16 c = rw (← c.made-label.ensures) (search refusing depth 14 fits 4000)
+returns-then-not-has c = rw (← c.made-label.ensures) (search refusing depth 14 fits 4000)
 
-pub returns-then-has64 : goal.returns-then-has64
+pub returns-then-has : goal.returns-then-has
 unfolding either
-returns-then-has64 c = rw (← c.made-label.ensures, ← c.has64.ensures, ← c.has64-2.ensures) (search refusing depth 14 fits 4000)
+returns-then-has c = rw (← c.made-label.ensures, ← c.has.ensures, ← c.has-2.ensures, ← c.has-3.ensures) (search refusing depth 14 fits 4000)
 
 pub returns-then-v : goal.returns-then-v
 unfolding either
-returns-then-v c = rw (← c.made-label.ensures, ← c.has64.ensures, ← c.has64-2.ensures) (search refusing depth 14 fits 4000)
+returns-then-v c = rw (← c.made-label.ensures, ← c.has.ensures, ← c.has-2.ensures, ← c.has-3.ensures) (search refusing depth 14 fits 4000)
 
 pub returns : goal.returns
 unfolding either
-returns c = rw (← c.made-label.ensures, ← c.has64.ensures, ← c.has64-2.ensures) (search refusing depth 14 fits 4000)
+returns c = rw (← c.made-label.ensures, ← c.has.ensures, ← c.has-2.ensures, ← c.has-3.ensures) (search refusing depth 14 fits 4000)

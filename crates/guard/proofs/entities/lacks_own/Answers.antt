@@ -5,4 +5,4 @@ use Rattle.guard.proofs.entities.lacks_own.Goals as goal
 
 pub returns : goal.returns
 unfolding every
-returns c = simp (c.has64.ensures, and-true)
+returns c = simp (c.has.ensures, and-true)

@@ -14,8 +14,8 @@ returns-then-v-eq-OBJECT c = search refusing depth 14 fits 4000
 pub returns-then-q : goal.returns-then-q
 returns-then-q c = search refusing depth 14 fits 4000
 
-pub returns-then-not-has64 : goal.returns-then-not-has64
-returns-then-not-has64 c = search refusing depth 14 fits 4000
+pub returns-then-not-has : goal.returns-then-not-has
+returns-then-not-has c = search refusing depth 14 fits 4000
 
 pub returns-then-is_marked : goal.returns-then-is_marked
 returns-then-is_marked c = search refusing depth 14 fits 4000

@@ -12,7 +12,7 @@ pub returns-then-r-eq0 : goal.returns-then-r-eq0
 unfolding fresh_role put_in contains with join
 returns-then-r-eq0 c =
     let e : c.args.r / 4 * 16 % 64 ≡ 16 * (c.args.r / 4) = omega arith in
-    rw (eq-eqb _ _ c.if-r-eq0.true, c.with64-root.ensures, e)
+    rw (eq-eqb _ _ c.if-r-eq0.true, c.with-root.ensures, e)
 
 pub returns : goal.returns
 unfolding fresh_role

@@ -21,4 +21,4 @@ returns c =
     c.is_in-2.ensures
     ∙ rw c.side.ensures
     (side_given _ _ _ c.gather-rights.ensures c.args.k c.args.e c.requires.1
-    ∙ rw (c.with16.ensures, mod-eq_of_lt c.requires.0) one)
+    ∙ rw (c.with.ensures, mod-eq_of_lt c.requires.0) one)

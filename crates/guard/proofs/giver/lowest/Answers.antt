@@ -14,11 +14,11 @@ returns-then-gives c =
     rw (← c.loop-left.invariant.1, giver_found _ _ _ _ _ is.small is.member is.none (sym c.gives.ensures ∙ c.if-gives.true))
 
 pub loop-left-smaller : goal.loop-left-smaller
-loop-left-smaller c = rw c.without16-left.ensures (without_less _ _ c.first-r.ensures.member)
+loop-left-smaller c = rw c.without-left.ensures (without_less _ _ c.first-r.ensures.member)
 
 pub loop-left-preserved : goal.loop-left-preserved
 loop-left-preserved c =
-    rw c.without16-left.ensures (
+    rw c.without-left.ensures (
       omega (arith, without_le c.loop-left.left c.first-r.result, c.loop-left.invariant.0),
       giver_next c.args.grants.now c.args.k c.args.e c.loop-left.left c.first-r.result (sym c.gives.ensures ∙ c.if-gives.false)
           ∙ c.loop-left.invariant.1,

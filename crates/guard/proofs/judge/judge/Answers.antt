@@ -139,13 +139,13 @@ pub returns-in-12 : goal.returns-in-12
 unfolding rules list
 returns-in-12 c = λ t seen.
     let r = in_list _ (sym c.requires ∙ not-false _ c.if-not-v.false) c.in-12.is in
-    by_rule t _ _ 12 c.in-12.is (sym c.requires ∙ not-false _ c.if-not-v.false) (c.list_refusal.ensures ∙ rw (seen.session r.0, seen.live r.1, c.has16.ensures, seen.users r.1))
+    by_rule t _ _ 12 c.in-12.is (sym c.requires ∙ not-false _ c.if-not-v.false) (c.list_refusal.ensures ∙ rw (seen.session r.0, seen.live r.1, c.has.ensures, seen.users r.1))
 
 pub returns-in-13 : goal.returns-in-13
 unfolding rules unlist
 returns-in-13 c = λ t seen.
     let r = in_unlist _ (sym c.requires ∙ not-false _ c.if-not-v.false) c.in-13.is in
-    by_rule t _ _ 13 c.in-13.is (sym c.requires ∙ not-false _ c.if-not-v.false) (c.list_refusal-in-13.ensures ∙ rw (seen.session r.0, seen.live r.1, c.has16-in-13.ensures, seen.users r.1))
+    by_rule t _ _ 13 c.in-13.is (sym c.requires ∙ not-false _ c.if-not-v.false) (c.list_refusal-in-13.ensures ∙ rw (seen.session r.0, seen.live r.1, c.has-in-13.ensures, seen.users r.1))
 
 pub returns-in-14 : goal.returns-in-14
 unfolding rules make

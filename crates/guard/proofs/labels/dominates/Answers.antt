@@ -6,4 +6,4 @@ use Rattle.guard.proofs.labels.dominates.Goals as goal
 
 pub returns : goal.returns
 unfolding dominates every
-returns c = rw (c.contains16.ensures, and-true)
+returns c = rw (c.contains.ensures, and-true)

@@ -9,10 +9,10 @@ returns-then-not-v c = search refusing depth 14 fits 4000
 pub returns-then-not-v-2 : goal.returns-then-not-v-2
 returns-then-not-v-2 c = search refusing depth 14 fits 4000
 
-pub returns-then-not-has64 : goal.returns-then-not-has64
+pub returns-then-not-has : goal.returns-then-not-has
 unfolding either
-returns-then-not-has64 c = rw (← c.has64.ensures, ← c.has64-2.ensures) (search refusing depth 14 fits 4000)
+returns-then-not-has c = rw (← c.has.ensures, ← c.has-2.ensures) (search refusing depth 14 fits 4000)
 
 pub returns : goal.returns
 unfolding either
-returns c = rw (← c.has64.ensures, ← c.has64-2.ensures) (search refusing depth 14 fits 4000)
+returns c = rw (← c.has.ensures, ← c.has-2.ensures) (search refusing depth 14 fits 4000)

@@ -15,14 +15,14 @@ returns-then-too_low c = search refusing depth 14 fits 4000
 pub returns-then-not-dominates : goal.returns-then-not-dominates
 returns-then-not-dominates c = search refusing depth 14 fits 4000
 
-pub returns-then-has64-v : goal.returns-then-has64-v
+pub returns-then-has-v : goal.returns-then-has-v
 unfolding either
-returns-then-has64-v c = rw (← c.has64.ensures) (search refusing depth 14 fits 4000)
+returns-then-has-v c = rw (← c.has.ensures) (search refusing depth 14 fits 4000)
 
-pub returns-then-has64 : goal.returns-then-has64
+pub returns-then-has : goal.returns-then-has
 unfolding either
-returns-then-has64 c = rw (← c.has64.ensures, ← c.has64-2.ensures) (search refusing depth 14 fits 4000)
+returns-then-has c = rw (← c.has.ensures, ← c.has-2.ensures) (search refusing depth 14 fits 4000)
 
 pub returns : goal.returns
 unfolding either
-returns c = rw (← c.has64.ensures, ← c.has64-2.ensures) (search refusing depth 14 fits 4000)
+returns c = rw (← c.has.ensures, ← c.has-2.ensures) (search refusing depth 14 fits 4000)

@@ -5,4 +5,4 @@ use Rattle.guard.proofs.roles.cleared.Goals as goal
 
 pub returns : goal.returns
 unfolding clear_rights set_rights put_in contains
-returns c = rw (c.without64.ensures, c.without64-2.ensures, c.without64-3.ensures, c.without64-4.ensures)
+returns c = rw (c.without.ensures, c.without-2.ensures, c.without-3.ensures, c.without-4.ensures)

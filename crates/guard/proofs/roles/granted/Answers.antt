@@ -7,11 +7,11 @@ unfolding granted_after
 returns c =
     rw (
       c.set_after.ensures,
-      c.contains8.ensures,
+      c.contains.ensures,
       c.set_after-2.ensures,
-      c.contains8-2.ensures,
+      c.contains-2.ensures,
       c.set_after-3.ensures,
-      c.contains8-3.ensures,
+      c.contains-3.ensures,
       c.set_after-4.ensures,
-      c.contains8-4.ensures,
+      c.contains-4.ensures,
     )

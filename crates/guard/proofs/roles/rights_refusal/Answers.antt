@@ -15,9 +15,9 @@ pub returns-then-q : goal.returns-then-q
 unfolding either
 returns-then-q c = search refusing depth 14 fits 4000
 
-pub returns-then-not-has64 : goal.returns-then-not-has64
+pub returns-then-not-has : goal.returns-then-not-has
 unfolding either
-returns-then-not-has64 c = search refusing depth 14 fits 4000
+returns-then-not-has c = search refusing depth 14 fits 4000
 
 pub returns : goal.returns
 unfolding either

@@ -10,8 +10,8 @@ returns-then-not-named c = rw (c.if-not-named.true)
 
 pub returns-then-given : goal.returns-then-given
 unfolding set_after put_in
-returns-then-given c = rw (c.if-not-named.false, c.if-given.true, c.with64.ensures, mod-eq_of_lt c.requires)
+returns-then-given c = rw (c.if-not-named.false, c.if-given.true, c.with.ensures, mod-eq_of_lt c.requires)
 
 pub returns : goal.returns
 unfolding set_after put_in
-returns c = rw (c.if-not-named.false, c.if-given.false, c.without64.ensures)
+returns c = rw (c.if-not-named.false, c.if-given.false, c.without.ensures)

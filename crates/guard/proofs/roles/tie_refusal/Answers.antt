@@ -56,9 +56,9 @@ returns-then-v-2 c =
 pub returns-then-is_so : goal.returns-then-is_so
 returns-then-is_so c =
     unmet _ _ _ _ _ _ _ c.if-not-v.false c.if-v.false (not_of_true _ (eq-eqb _ _ c.if-q.false)) _ 16 c.keeper_refusal-n.ensures c.if-n-ne0.false
-    (miss 22 16 _ _ c.if-v-2.false (hit 16 _ _ (rw c.has16.ensures at (sym c.is_so.ensures ∙ c.if-is_so.true))))
+    (miss 22 16 _ _ c.if-v-2.false (hit 16 _ _ (rw c.has.ensures at (sym c.is_so.ensures ∙ c.if-is_so.true))))
 
 pub returns : goal.returns
 returns c =
     unmet _ _ _ _ _ _ _ c.if-not-v.false c.if-v.false (not_of_true _ (eq-eqb _ _ c.if-q.false)) _ 0 c.keeper_refusal-n.ensures c.if-n-ne0.false
-    (miss 22 0 _ _ c.if-v-2.false (miss 16 0 _ _ (rw c.has16.ensures at (sym c.is_so.ensures ∙ c.if-is_so.false)) none))
+    (miss 22 0 _ _ c.if-v-2.false (miss 16 0 _ _ (rw c.has.ensures at (sym c.is_so.ensures ∙ c.if-is_so.false)) none))

@@ -8,11 +8,11 @@ use Rattle.guard.proofs.roles.users_after.Goals as goal
 pub returns-then-q-eq-LIST : goal.returns-then-q-eq-LIST
 unfolding users_after
 returns-then-q-eq-LIST c =
-    rw (eq-eqb _ _ c.if-q-eq-LIST.true, c.with16.ensures, mod-eq_of_lt (in_list _ c.requires c.if-q-eq-LIST.true).2)
+    rw (eq-eqb _ _ c.if-q-eq-LIST.true, c.with.ensures, mod-eq_of_lt (in_list _ c.requires c.if-q-eq-LIST.true).2)
 
 pub returns-then-q-eq-UNLIST : goal.returns-then-q-eq-UNLIST
 unfolding users_after
-returns-then-q-eq-UNLIST c = rw (ne_eqb _ _ c.if-q-eq-LIST.false, eq-eqb _ _ c.if-q-eq-UNLIST.true, c.without16.ensures)
+returns-then-q-eq-UNLIST c = rw (ne_eqb _ _ c.if-q-eq-LIST.false, eq-eqb _ _ c.if-q-eq-UNLIST.true, c.without.ensures)
 
 pub returns : goal.returns
 unfolding users_after

@@ -18,7 +18,7 @@ pub loop-left-smaller : goal.loop-left-smaller
 loop-left-smaller c =
     let (l, on) = lowest 16 c.loop-left.left (omega arith) c.loop-left.invariant.0.small in
     let at = c.loop-left in
-    rw (c.with16-roles.ensures, mod-eq_of_lt l)
+    rw (c.with-roles.ensures, mod-eq_of_lt l)
     (omega (arith, walk_less c.args.grants.now _ at.roles at.left _ at.invariant.0 l on, at.invariant.0.little, with_lt 16 at.roles _ at.invariant.0.little l))
 
 pub loop-left-preserved : goal.loop-left-preserved
@@ -28,7 +28,7 @@ loop-left-preserved c =
     let at = c.loop-left in
     let inv = at.invariant in
     let grants = c.args.grants.now in
-    rw (c.minus16-left.ensures, c.juniors.ensures, c.with16-roles.ensures, mod-eq_of_lt l) (
+    rw (c.minus-left.ensures, c.juniors.ensures, c.with-roles.ensures, mod-eq_of_lt l) (
       walk_step grants _ at.roles at.left _ inv.0 l on,
       rw (add-zero (4 * count_trailing_zeros 16 at.left)) at (union_more grants 0 at.roles at.reads (count_trailing_zeros 16 at.left) l inv.1),
       union_more grants 1 at.roles at.writes _ l inv.2,

@@ -31,4 +31,4 @@ unfolding senior_by
 returns c =
     let at = c.loop-k in
     let end : at.k ≡ 16 = omega arith in
-    c.has64.ensures ∙ at.invariant.1 _ ∙ ap (λ (n : ℕ). some n (λ m. has (get_or c.args.grants.now (64 + m) 0) c.args.r)) end
+    c.has.ensures ∙ at.invariant.1 _ ∙ ap (λ (n : ℕ). some n (λ m. has (get_or c.args.grants.now (64 + m) 0) c.args.r)) end

@@ -15,9 +15,9 @@ pub returns-then-call-eq-JOIN : goal.returns-then-call-eq-JOIN
 unfolding tied_by
 returns-then-call-eq-JOIN c =
     rw (ne_eqb _ _ c.if-call-eq-UNMAKE.false, eq-eqb _ _ c.if-call-eq-JOIN.true)
-    (c.has16.ensures
+    (c.has.ensures
     ∙ c.gather-below.ensures.roles _ c.requires.0
-    ∙ rw (c.with16.ensures, mod-eq_of_lt c.requires.1) (met_one c.args.grants.now c.args.j c.requires.1 c.args.r))
+    ∙ rw (c.with.ensures, mod-eq_of_lt c.requires.1) (met_one c.args.grants.now c.args.j c.requires.1 c.args.r))
 
 pub returns : goal.returns
 unfolding tied_by

@@ -29,12 +29,12 @@ returns-in_default c = rw (get_or-eq_default _ (close_both _ _) (past_five c.arg
 
 pub returns-in-2 : goal.returns-in-2
 unfolding session_after take_role
-returns-in-2 c = rw (c.in-2.is, c.with16.ensures, mod-eq_of_lt (in_take _ c.requires c.in-2.is).1)
+returns-in-2 c = rw (c.in-2.is, c.with.ensures, mod-eq_of_lt (in_take _ c.requires c.in-2.is).1)
 
 pub returns-in-4 : goal.returns-in-4
 unfolding session_after open_reading
-returns-in-4 c = rw (c.in-4.is, c.with64.ensures, mod-eq_of_lt (in_openr _ c.requires c.in-4.is).1)
+returns-in-4 c = rw (c.in-4.is, c.with-in-4.ensures, mod-eq_of_lt (in_openr _ c.requires c.in-4.is).1)
 
 pub returns-in-5 : goal.returns-in-5
 unfolding session_after open_writing
-returns-in-5 c = rw (c.in-5.is, c.with64-in-5.ensures, mod-eq_of_lt (in_openw _ c.requires c.in-5.is).1)
+returns-in-5 c = rw (c.in-5.is, c.with-in-5.ensures, mod-eq_of_lt (in_openw _ c.requires c.in-5.is).1)

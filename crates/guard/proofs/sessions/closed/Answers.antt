@@ -4,4 +4,4 @@ use Rattle.guard.proofs.sessions.closed.Goals as goal
 
 pub returns : goal.returns
 unfolding close_both
-returns c = rw (c.without64.ensures, c.without64-2.ensures)
+returns c = rw (c.without.ensures, c.without-2.ensures)

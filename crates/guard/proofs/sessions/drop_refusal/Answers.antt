@@ -8,8 +8,8 @@ returns-then-not-v c = search refusing depth 14 fits 4000
 pub returns-then-not-v-2 : goal.returns-then-not-v-2
 returns-then-not-v-2 c = search refusing depth 14 fits 4000
 
-pub returns-then-not-has16 : goal.returns-then-not-has16
-returns-then-not-has16 c = search refusing depth 14 fits 4000
+pub returns-then-not-has : goal.returns-then-not-has
+returns-then-not-has c = search refusing depth 14 fits 4000
 
 pub returns : goal.returns
 returns c = search refusing depth 14 fits 4000

@@ -4,4 +4,4 @@ use Rattle.guard.proofs.sessions.dropped.Goals as goal
 
 pub returns : goal.returns
 unfolding drop_role
-returns c = rw c.without16.ensures
+returns c = rw c.without.ensures

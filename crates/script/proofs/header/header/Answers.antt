@@ -12,13 +12,13 @@ use Rattle.script.proofs.HeaderLoop.{seen_start, seen_few, seen_more, seen_end, 
 use Rattle.script.proofs.header.header.Goals as goal
 
 pub loop-rest-init : goal.loop-rest-init
-loop-rest-init c = seen_start _ c.with16-seen.ensures
+loop-rest-init c = seen_start _ c.with-seen.ensures
 
 pub slice_bounds-name_at-end : goal.slice_bounds-name_at-end
 slice_bounds-name_at-end c = part_length 32 _ _ c.find-e.ensures
 
-pub returns-then-has16 : goal.returns-then-has16
-returns-then-has16 c = seen_again c.loop-rest.invariant c.find-e.ensures c.name_at-name.ensures (sym c.has16.ensures ∙ c.if-has16.true) _
+pub returns-then-has : goal.returns-then-has
+returns-then-has c = seen_again c.loop-rest.invariant c.find-e.ensures c.name_at-name.ensures (sym c.has.ensures ∙ c.if-has.true) _
 
 pub bounds-at-j : goal.bounds-at-j
 bounds-at-j c = omega (arith, seen_few c.loop-rest.invariant)
@@ -33,11 +33,11 @@ added seen m n p h k = h ∙ ap (with seen) (mod-eq_of_lt (name_fits p n k))
 pub returns-then-rest-e : goal.returns-then-rest-e
 returns-then-rest-e c =
     seen_end c.loop-rest.invariant c.find-e.ensures c.name_at-name.ensures
-    (added _ _ _ _ c.with16-seen-in-loop-rest.ensures c.name_at-name.ensures)
-    (sym c.has16.ensures ∙ c.if-has16.false) c.if-rest-e.true _ c.contains16-good.ensures
+    (added _ _ _ _ c.with-seen-in-loop-rest.ensures c.name_at-name.ensures)
+    (sym c.has.ensures ∙ c.if-has.false) c.if-rest-e.true _ c.contains-good.ensures
 
 pub loop-rest-preserved : goal.loop-rest-preserved
 loop-rest-preserved c =
     seen_more c.loop-rest.invariant c.find-e.ensures c.name_at-name.ensures
-    (added _ _ _ _ c.with16-seen-in-loop-rest.ensures c.name_at-name.ensures)
-    (sym c.has16.ensures ∙ c.if-has16.false) c.if-rest-e.false
+    (added _ _ _ _ c.with-seen-in-loop-rest.ensures c.name_at-name.ensures)
+    (sym c.has.ensures ∙ c.if-has.false) c.if-rest-e.false

@@ -29,11 +29,11 @@ code_at-f-requires c = omega (arith, filled_slice c.loop-from.invariant, c.loop-
 
 pub returns-then-not-f : goal.returns-then-not-f
 returns-then-not-f c =
-    row_number c.loop-from.invariant c.code_at-f.ensures c.if-f-eq0.true (c.with16-given.ensures ∙ ap (with _) (mod-eq_of_lt (omega arith))) (not-true _ c.if-not-f.true) (omega arith) c.is_last.ensures
+    row_number c.loop-from.invariant c.code_at-f.ensures c.if-f-eq0.true (c.with-given.ensures ∙ ap (with _) (mod-eq_of_lt (omega arith))) (not-true _ c.if-not-f.true) (omega arith) c.is_last.ensures
 
 pub loop-from-preserved-then-f-eq0 : goal.loop-from-preserved-then-f-eq0
 loop-from-preserved-then-f-eq0 c =
-    filled_number c.loop-from.invariant c.code_at-f.ensures c.if-f-eq0.true (c.with16-given.ensures ∙ ap (with _) (mod-eq_of_lt (omega arith))) (not-false _ c.if-not-f.false) (omega arith)
+    filled_number c.loop-from.invariant c.code_at-f.ensures c.if-f-eq0.true (c.with-given.ensures ∙ ap (with _) (mod-eq_of_lt (omega arith))) (not-false _ c.if-not-f.false) (omega arith)
 
 pub end_of-requires-then-f-eq2 : goal.end_of-requires-then-f-eq2
 end_of-requires-then-f-eq2 c =

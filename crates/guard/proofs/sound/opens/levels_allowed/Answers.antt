@@ -7,5 +7,5 @@ use Rattle.guard.proofs.sound.opens.levels_allowed.Goals as goal
 
 pub returns : goal.returns
 returns c =
-    and_two _ _ _ _ (unless _ _ _ (c.contains64.ensures ∙ within_mask 64 _ _ _ (omega arith) c.from_level.ensures))
-    (c.contains64-2.ensures ∙ within_mask 64 _ _ _ (omega arith) c.to_level.ensures)
+    and_two _ _ _ _ (unless _ _ _ (c.contains.ensures ∙ within_mask 64 _ _ _ (omega arith) c.from_level.ensures))
+    (c.contains-2.ensures ∙ within_mask 64 _ _ _ (omega arith) c.to_level.ensures)

@@ -12,4 +12,4 @@ unfolding join
 returns c =
     let a = c.args in
     let small = rights_small a.p (omega arith) (omega arith) (omega arith) (omega arith) in
-    role_last a.set a.r a.p _ (omega arith) (omega arith) small c.if-p-r.false (rw c.bound.ensures at c.contains64.ensures)
+    role_last a.set a.r a.p _ (omega arith) (omega arith) small c.if-p-r.false (rw c.bound.ensures at c.contains.ensures)
