@@ -21,7 +21,7 @@ pub struct Place {
     pub number: usize,
 }
 
-#[derive(Clone, Copy, PartialEq, Eq)]
+#[derive(Clone, Copy)]
 pub enum Record {
     Seat(Session),
     User(User),
@@ -115,6 +115,7 @@ impl Place {
     }
 }
 
+// Puts a record in the place of that of its number.
 fn replace<T: Copy>(records: &mut [T], i: usize, x: T) {
     if let Some(old) = records.get_mut(i) {
         *old = x;
@@ -145,7 +146,6 @@ impl Record {
         self.slot(field).put(n)
     }
 
-    // Puts it in the place of the record of that number.
     pub fn store(self, t: &mut Tables, i: usize) {
         match self {
             Record::Seat(x) => replace(&mut t.sessions, i, x),
@@ -157,14 +157,21 @@ impl Record {
     }
 }
 
+// The numbers of the records that differ.
+fn differing<T: PartialEq>(old: &[T], new: &[T]) -> u64 {
+    old.iter()
+        .zip(new)
+        .rev()
+        .fold(0, |set, (x, y)| set << 1 | u64::from(x != y))
+}
+
 // The numbers of a kind's records that differ.
-pub fn changed(a: &Tables, b: &Tables, kind: Kind) -> u64 {
-    let mut set = 0;
-    for number in 0..64 {
-        let place = Place { kind, number };
-        if place.record(a) != place.record(b) {
-            set |= 1 << number;
-        }
+pub fn changed(old: &Tables, new: &Tables, kind: Kind) -> u64 {
+    match kind {
+        Kind::Seat => differing(&old.sessions, &new.sessions),
+        Kind::User => differing(&old.users, &new.users),
+        Kind::Role => differing(&old.roles, &new.roles),
+        Kind::Entity => differing(&old.entities, &new.entities),
+        Kind::Tables => u64::from(old.edition != new.edition),
     }
-    set
 }

@@ -19,6 +19,17 @@ impl fmt::Display for Set {
     }
 }
 
+// A label, as `1/3`.
+#[derive(Clone, Copy)]
+struct Shown(Label);
+
+impl fmt::Display for Shown {
+    fn fmt<W: fmt::Write>(&self, f: &mut fmt::Formatter<W>) -> fmt::Result {
+        let Label { grade, cats } = self.0;
+        write!(f, "{grade}/{cats}")
+    }
+}
+
 fn mark(live: bool) -> &'static str {
     if live { "live" } else { "dead" }
 }
@@ -49,52 +60,43 @@ impl fmt::Display for Place {
 impl fmt::Display for Record {
     fn fmt<W: fmt::Write>(&self, f: &mut fmt::Formatter<W>) -> fmt::Result {
         match self {
-            Record::Seat(x) => {
-                let Label { grade, cats } = x.label;
-                let roles = Set(u64::from(x.roles));
-                let reading = Set(x.reading);
-                let writing = Set(x.writing);
-                write!(
-                    f,
-                    " {}, user {}, label {grade}/{cats}, ",
-                    mark(x.live),
-                    x.user
-                )?;
-                write!(f, "roles {roles}, reading {reading}, writing {writing}")
-            }
-            Record::User(x) => {
-                let Label { grade, cats } = x.clearance;
-                write!(f, ", ceiling {}, clearance {grade}/{cats}", x.ceiling)
-            }
-            Record::Role(x) => {
-                let users = Set(u64::from(x.users));
-                let reads = Set(x.reads);
-                let writes = Set(x.writes);
-                let executes = Set(x.executes);
-                let owns = Set(x.owns);
-                let juniors = Set(u64::from(x.juniors));
-                write!(
-                    f,
-                    " {}, users {users}, reads {reads}, writes {writes}, ",
-                    mark(x.live)
-                )?;
-                write!(f, "executes {executes}, owns {owns}, juniors {juniors}")
-            }
-            Record::Entity(x) => {
-                let Label { grade, cats } = x.label;
-                write!(
-                    f,
-                    " {}, kind {}, parent {}, ",
-                    mark(x.live),
-                    x.kind,
-                    x.parent
-                )?;
-                write!(
-                    f,
-                    "name {}, label {grade}/{cats}, shared {}",
-                    x.name, x.shared
-                )
-            }
+            Record::Seat(x) => write!(
+                f,
+                " {}, user {}, label {}, roles {}, reading {}, writing {}",
+                mark(x.live),
+                x.user,
+                Shown(x.label),
+                Set(x.roles.into()),
+                Set(x.reading),
+                Set(x.writing)
+            ),
+            Record::User(x) => write!(
+                f,
+                ", ceiling {}, clearance {}",
+                x.ceiling,
+                Shown(x.clearance)
+            ),
+            Record::Role(x) => write!(
+                f,
+                " {}, users {}, reads {}, writes {}, executes {}, owns {}, juniors {}",
+                mark(x.live),
+                Set(x.users.into()),
+                Set(x.reads),
+                Set(x.writes),
+                Set(x.executes),
+                Set(x.owns),
+                Set(x.juniors.into())
+            ),
+            Record::Entity(x) => write!(
+                f,
+                " {}, kind {}, parent {}, name {}, label {}, shared {}",
+                mark(x.live),
+                x.kind,
+                x.parent,
+                x.name,
+                Shown(x.label),
+                x.shared
+            ),
             Record::Tables(edition) => write!(f, ", edition {edition}"),
         }
     }

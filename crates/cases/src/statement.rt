@@ -1,4 +1,4 @@
-// A statement: its words, and behind `| ` the name that is printed before what it tells.
+// A statement: its words, and behind `| ` the name that is printed before what it tells, empty where it has none.
 use crate::words::{self, Words};
 use std::io;
 
