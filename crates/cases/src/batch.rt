@@ -1,87 +1,90 @@
-// A batch: requests gathered as rows of thirteen numbers, in the order of a request's fields, and run.
-ghost use Rattle.std.specs.Prelude.{◌≤◌};
+// A batch: requests gathered as rows of numbers, in the order of a request's fields, and run.
+ghost use Rattle.std.specs.Prelude.{◌≤◌, ◌*◌};
 
-use crate::{ask, show};
-use guard::sizes::NO_ROLE;
+use crate::ask;
+use crate::failure::Unread;
+use crate::show::Changes;
+use crate::words::Words;
+use guard::sizes::{NO_ROLE, ROW};
 use guard::{Request, Tables};
 use std::io;
 
-// Rows, and how many numbers they have. There is room for 256 rows.
+// How many rows there is room for, and at most for how many answers and roles.
+pub const ROWS: usize = 256;
+
+// Rows, and how many of them are gathered since `clear`. No Vec: `run` may go past these, into what stood there before.
 #[derive(Clone, Copy)]
 pub struct Batch {
-    pub rows: [u32; 3328],
-    pub count: usize,
+    rows: [[u32; ROW]; ROWS],
+    gathered: usize,
 }
 
-// The tables after a batch, the answers and the roles. Where no answer was written there is 255, where no role was, 254.
+// How many numbers of the rows are run, with room for how many answers and roles.
 #[derive(Clone, Copy)]
-pub struct Done {
-    pub tables: Tables,
-    pub answers: [u8; 256],
-    pub roles: [u8; 256],
+pub struct Extent {
+    numbers: usize,
+    answers: usize,
+    roles: usize,
+    ghost numbers_bound: { numbers ≤ 256 * 13 },
+    ghost answers_bound: { answers ≤ 256 },
+    ghost roles_bound: { roles ≤ 256 },
 }
 
-// So many rows more, as long as there is room.
-pub fn with(mut b: Batch, q: Request, times: u64) -> Batch {
-    for _ in 0..times % 257 * 13 {
-        let at = b.count;
-        if 3328 <= at {
-            return b;
+impl Extent {
+    // `NUMBERS ROOM ROLES`
+    pub fn read(words: &mut Words) -> Result<Extent, Unread> {
+        let numbers = words.up_to(ROWS * ROW)?;
+        let answers = words.up_to(ROWS)?;
+        let roles = words.up_to(ROWS)?;
+        Ok(Extent {
+            numbers,
+            answers,
+            roles,
+        })
+    }
+}
+
+impl Batch {
+    pub fn new() -> Batch {
+        Batch {
+            rows: [[0; ROW]; ROWS],
+            gathered: 0,
         }
-        b.rows[at] = ask::field(q, at % 13);
-        b.count = at + 1;
     }
-    b
-}
 
-// The first `n` numbers of the rows, with so much room for answers and for roles.
-fn ran(t: Tables, rows: [u32; 3328], n: usize, room: usize, told: usize) -> Done
-    requires n_bound { n ≤ 3328 }
-    requires room_bound { room ≤ 256 }
-    requires told_bound { told ≤ 256 }
-{
-    let mut answers = [255u8; 256];
-    let mut roles = [254u8; 256];
-    let tables = t.run(&rows[..n], &mut answers[..room], &mut roles[..told]);
-    Done {
-        tables,
-        answers,
-        roles,
+    pub fn clear(&mut self) {
+        self.gathered = 0;
     }
-}
 
-// The first bytes, behind a text. One of them stands for none, as a dash.
-fn bytes(rt: &impl Print, text: usize, list: [u8; 256], room: usize, none: u64) -> io::Result<()>
-    requires { room ≤ 256 }
-{
-    show::say(rt, text)?;
-    for n in &list[..room] {
-        show::number(rt, *n as u64, none)?;
+    // So many rows more, as long as there is room.
+    pub fn gather(&mut self, q: Request, times: usize) {
+        for row in self.rows.iter_mut().skip(self.gathered).take(times) {
+            *row = ask::row(q);
+        }
+        self.gathered = self.gathered.saturating_add(times).min(ROWS);
     }
-    Ok(())
-}
 
-// What the batch changes, its answers and its roles, of which there are at most 256 each; hands on the tables.
-pub fn told(
-    rt: &impl Print,
-    name: &[u8],
-    t: Tables,
-    b: Batch,
-    n: u64,
-    room: u64,
-    told: u64,
-) -> io::Result<Tables> {
-    let rows = b.rows;
-    let room = (room % 257) as usize;
-    let told = (told % 257) as usize;
-    let r = ran(t, rows, (n % 3329) as usize, room, told);
-    show::word(rt, name)?;
-    show::say(rt, show::COLON)?;
-    show::changes(rt, t, r.tables)?;
-    let answers = r.answers;
-    bytes(rt, show::ANSWERS, answers, room, 256)?;
-    let roles = r.roles;
-    bytes(rt, show::ROLES, roles, told, NO_ROLE as u64)?;
-    show::say(rt, show::END)?;
-    Ok(r.tables)
+    // What the first numbers of the rows change, the answers and the roles. Where no answer is written there is 255, where no role
+    // is, 254. Hands on the tables.
+    pub fn run(&self, rt: &impl Print, t: &Tables, extent: Extent) -> io::Result<Tables> {
+        let mut answers = [255; ROWS];
+        let mut roles = [254; ROWS];
+        let rows = &self.rows.as_flattened()[..extent.numbers];
+        let answers = &mut answers[..extent.answers];
+        let roles = &mut roles[..extent.roles];
+        let after = t.run(rows, answers, roles);
+        print!(rt; "{}; answers", Changes(t, &after))?;
+        for answer in answers.iter() {
+            print!(rt; " {answer}")?;
+        }
+        print!(rt; "; roles")?;
+        for role in roles.iter() {
+            match *role {
+                NO_ROLE => print!(rt; " -")?,
+                role => print!(rt; " {role}")?,
+            }
+        }
+        println!(rt)?;
+        Ok(after)
+    }
 }

@@ -1,208 +1,177 @@
-// Records as rows of eight numbers: a record's fields in the order of their words (`text::place`), and 0 behind them. A set is its
-// number, a live mark is 1. The kinds of records are numbered seat 0, user 1, role 2 and entity 3; what the tables hold beside them,
-// the edition, is a record of kind 4.
+// Records by kind and number. What the tables hold beside their records, the edition, is a record of its own.
+use crate::failure::Unread;
+use crate::field::{Field, Fields, Slot};
+use crate::words::{self, Words};
 use guard::{Entity, Role, Session, Tables, User};
+use std::array;
 
-fn session_row(x: Session) -> [u64; 8] {
-    let a = x.label;
-    let live = x.live as u64;
-    [
-        live,
-        x.user as u64,
-        a.grade as u64,
-        a.cats as u64,
-        x.roles as u64,
-        x.reading,
-        x.writing,
-        0,
-    ]
+#[derive(Clone, Copy, Debug, PartialEq, Eq)]
+pub enum Kind {
+    Seat,
+    User,
+    Role,
+    Entity,
+    Tables,
 }
 
-fn user_row(x: User) -> [u64; 8] {
-    let a = x.clearance;
-    [
-        x.ceiling as u64,
-        a.grade as u64,
-        a.cats as u64,
-        0,
-        0,
-        0,
-        0,
-        0,
-    ]
+// Where a record is.
+#[derive(Clone, Copy)]
+pub struct Place {
+    pub kind: Kind,
+    pub number: usize,
 }
 
-fn role_row(x: Role) -> [u64; 8] {
-    let live = x.live as u64;
-    [
-        live,
-        x.users as u64,
-        x.reads,
-        x.writes,
-        x.executes,
-        x.owns,
-        x.juniors as u64,
-        0,
-    ]
+#[derive(Clone, Copy)]
+pub enum Record {
+    Seat(Session),
+    User(User),
+    Role(Role),
+    Entity(Entity),
+    Tables(u8),
 }
 
-fn entity_row(x: Entity) -> [u64; 8] {
-    let a = x.label;
-    let live = x.live as u64;
-    [
-        live,
-        x.kind as u64,
-        x.parent as u64,
-        x.name as u64,
-        a.grade as u64,
-        a.cats as u64,
-        x.shared as u64,
-        0,
-    ]
-}
+impl TryFrom<&[u8]> for Kind {
+    type Error = Unread;
 
-fn tables_row(t: Tables) -> [u64; 8] {
-    [t.edition as u64, 0, 0, 0, 0, 0, 0, 0]
-}
-
-fn with_session(mut x: Session, field: usize, n: u64) -> Session {
-    let byte = (n % 256) as u8;
-    let bytes = (n % 65536) as u16;
-    match field {
-        0 => x.live = n != 0,
-        1 => x.user = byte,
-        2 => x.label.grade = byte,
-        3 => x.label.cats = bytes,
-        4 => x.roles = bytes,
-        5 => x.reading = n,
-        6 => x.writing = n,
-        _ => {}
-    }
-    x
-}
-
-fn with_user(mut x: User, field: usize, n: u64) -> User {
-    let byte = (n % 256) as u8;
-    let bytes = (n % 65536) as u16;
-    match field {
-        0 => x.ceiling = byte,
-        1 => x.clearance.grade = byte,
-        2 => x.clearance.cats = bytes,
-        _ => {}
-    }
-    x
-}
-
-fn with_role(mut x: Role, field: usize, n: u64) -> Role {
-    match field {
-        0 => x.live = n != 0,
-        1 => x.users = (n % 65536) as u16,
-        2 => x.reads = n,
-        3 => x.writes = n,
-        4 => x.executes = n,
-        5 => x.owns = n,
-        6 => x.juniors = (n % 65536) as u16,
-        _ => {}
-    }
-    x
-}
-
-fn with_entity(mut x: Entity, field: usize, n: u64) -> Entity {
-    let byte = (n % 256) as u8;
-    let bytes = (n % 65536) as u16;
-    match field {
-        0 => x.live = n != 0,
-        1 => x.kind = byte,
-        2 => x.parent = byte,
-        3 => x.name = bytes,
-        4 => x.label.grade = byte,
-        5 => x.label.cats = bytes,
-        6 => x.shared = byte,
-        _ => {}
-    }
-    x
-}
-
-// How many records of a kind there are.
-pub fn count(kind: usize) -> usize {
-    match kind {
-        3 => 64,
-        4 => 1,
-        _ => 16,
-    }
-}
-
-// Record `i` of a kind, counted round.
-pub fn row(t: Tables, kind: usize, i: usize) -> [u64; 8] {
-    match kind {
-        0 => session_row(t.sessions[i % 16]),
-        1 => user_row(t.users[i % 16]),
-        2 => role_row(t.roles[i % 16]),
-        3 => entity_row(t.entities[i % 64]),
-        _ => tables_row(t),
-    }
-}
-
-// One field of it.
-pub fn number(t: Tables, kind: usize, i: usize, field: usize) -> u64 {
-    let n = row(t, kind, i);
-    if field < 8 { n[field] } else { 0 }
-}
-
-// The tables with a number as the field of record `i` of a kind. Of a number past what the field can hold a part is left.
-pub fn with(mut t: Tables, kind: usize, i: usize, field: usize, n: u64) -> Tables {
-    let j = i % 16;
-    match kind {
-        0 => {
-            let x = with_session(t.sessions[j], field, n);
-            t.sessions[j] = x;
-        }
-        1 => {
-            let x = with_user(t.users[j], field, n);
-            t.users[j] = x;
-        }
-        2 => {
-            let x = with_role(t.roles[j], field, n);
-            t.roles[j] = x;
-        }
-        3 => {
-            let x = with_entity(t.entities[i % 64], field, n);
-            t.entities[i % 64] = x;
-        }
-        _ => {
-            if field == 0 {
-                t.edition = (n % 256) as u8;
-            }
+    fn try_from(word: &[u8]) -> Result<Kind, Unread> {
+        match words::name(word) {
+            b"seat" => Ok(Kind::Seat),
+            b"user" => Ok(Kind::User),
+            b"role" => Ok(Kind::Role),
+            b"entity" => Ok(Kind::Entity),
+            b"tables" => Ok(Kind::Tables),
+            _ => Err(Unread),
         }
     }
-    t
 }
 
-fn same(a: [u64; 8], b: [u64; 8]) -> bool {
-    let mut same = true;
-    for i in 0..8 {
-        same = same & (a[i] == b[i]);
+// A kind's fields, and dashes behind them.
+fn with_dashes(fields: &[Field]) -> [Field; 8] {
+    array::from_fn(|i| fields.get(i).copied().unwrap_or(Field::Dash))
+}
+
+impl Kind {
+    pub const ALL: [Kind; 5] = [
+        Kind::Seat,
+        Kind::User,
+        Kind::Role,
+        Kind::Entity,
+        Kind::Tables,
+    ];
+
+    // The fields of its records, in the order in which a statement has their numbers.
+    pub fn fields(self) -> [Field; 8] {
+        with_dashes(match self {
+            Kind::Seat => &[
+                Field::Live,
+                Field::User,
+                Field::Grade,
+                Field::Cats,
+                Field::Roles,
+                Field::Reading,
+                Field::Writing,
+            ],
+            Kind::User => &[Field::Ceiling, Field::Grade, Field::Cats],
+            Kind::Role => &[
+                Field::Live,
+                Field::Users,
+                Field::Reads,
+                Field::Writes,
+                Field::Executes,
+                Field::Owns,
+                Field::Juniors,
+            ],
+            Kind::Entity => &[
+                Field::Live,
+                Field::Kind,
+                Field::Parent,
+                Field::Name,
+                Field::Grade,
+                Field::Cats,
+                Field::Shared,
+            ],
+            Kind::Tables => &[Field::Edition],
+        })
     }
-    same
+}
+
+impl Place {
+    // `KIND NUMBER`
+    pub fn read(words: &mut Words) -> Result<Place, Unread> {
+        let kind = Kind::try_from(words.word()?)?;
+        let number = words.number()?;
+        Ok(Place { kind, number })
+    }
+
+    pub fn record(self, t: &Tables) -> Option<Record> {
+        let i = self.number;
+        match self.kind {
+            Kind::Seat => t.sessions.get(i).map(|x| Record::Seat(*x)),
+            Kind::User => t.users.get(i).map(|x| Record::User(*x)),
+            Kind::Role => t.roles.get(i).map(|x| Record::Role(*x)),
+            Kind::Entity => t.entities.get(i).map(|x| Record::Entity(*x)),
+            Kind::Tables => (i == 0).then_some(Record::Tables(t.edition)),
+        }
+    }
+}
+
+// Puts a record in the place of that of its number.
+fn replace<T: Copy>(records: &mut [T], i: usize, x: T) {
+    if let Some(old) = records.get_mut(i) {
+        *old = x;
+    }
+}
+
+impl Fields for Record {
+    fn slot(&mut self, field: Field) -> Slot<'_> {
+        match self {
+            Record::Seat(x) => x.slot(field),
+            Record::User(x) => x.slot(field),
+            Record::Role(x) => x.slot(field),
+            Record::Entity(x) => x.slot(field),
+            Record::Tables(edition) => match field {
+                Field::Edition => Slot::Byte(edition),
+                _ => Slot::Zero,
+            },
+        }
+    }
+}
+
+impl Record {
+    pub fn number(mut self, field: Field) -> u64 {
+        self.slot(field).number()
+    }
+
+    pub fn put(&mut self, field: Field, n: u64) -> Result<(), Unread> {
+        self.slot(field).put(n)
+    }
+
+    pub fn store(self, t: &mut Tables, i: usize) {
+        match self {
+            Record::Seat(x) => replace(&mut t.sessions, i, x),
+            Record::User(x) => replace(&mut t.users, i, x),
+            Record::Role(x) => replace(&mut t.roles, i, x),
+            Record::Entity(x) => replace(&mut t.entities, i, x),
+            Record::Tables(edition) => t.edition = edition,
+        }
+    }
+}
+
+// The numbers of the records that differ.
+fn differing<T: PartialEq>(old: &[T], new: &[T]) -> u64 {
+    old.iter()
+        .zip(new)
+        .rev()
+        .fold(0, |set, (x, y)| set << 1 | u64::from(x != y))
 }
 
 // The numbers of a kind's records that differ.
-pub fn changed(a: Tables, b: Tables, kind: usize) -> u64 {
-    let n = count(kind);
-    let mut set = 0u64;
-    for i in 0..64 {
-        if i < n {
-            if !same(row(a, kind, i), row(b, kind, i)) {
-                set = set | (1 << i);
-            }
-        }
+pub fn changed(old: &Tables, new: &Tables, kind: Kind) -> u64 {
+    match kind {
+        Kind::Seat => differing(&old.sessions, &new.sessions),
+        Kind::User => differing(&old.users, &new.users),
+        Kind::Role => differing(&old.roles, &new.roles),
+        Kind::Entity => differing(&old.entities, &new.entities),
+        Kind::Tables => u64::from(old.edition != new.edition),
     }
-    set
-}
-
-// Whether every field of every record is the same.
-pub fn same_tables(a: Tables, b: Tables) -> bool {
-    let places = changed(a, b, 3) | changed(a, b, 2);
-    let people = changed(a, b, 1) | changed(a, b, 0);
-    (places | people) | changed(a, b, 4) == 0
 }

@@ -1,134 +1,116 @@
 // The statements that ask something of the guard: fresh tables, tables taken over, requests and batches.
+use crate::batch::{Extent, ROWS};
+use crate::failure::Failure;
+use crate::show::{Changes, Differing};
 use crate::state::State;
-use crate::{ask, batch, edges, old, show, text};
-use guard::{Request, Tables};
+use crate::statement::Statement;
+use crate::{ask, edges, old, show};
+use guard::{Outcome, Tables};
 use std::io;
+
+// What has no name to print the answer behind is to be done.
+fn done(o: &Outcome) -> Result<(), Failure> {
+    if o.answer == 0 {
+        Ok(())
+    } else {
+        Err(Failure::NotDone)
+    }
+}
 
 impl State {
     // `fresh`: the tables are built anew over the users and in the edition that they have; and what is not as in the tables kept.
-    pub fn fresh(self, rt: &impl Print, name: &[u8]) -> io::Result<State> {
-        let users = self.now.users;
-        let o = Tables::fresh(users, self.now.edition);
-        if name.len() != 0 {
-            let role = o.role;
-            show::answer(rt, name, o.answer, role)?;
-            show::changes(rt, self.kept, o.tables)?;
-            show::say(rt, show::END)?;
-            return Ok(self.on(o.tables));
+    pub(crate) fn fresh(&mut self, rt: &impl Print, s: Statement) -> Result<(), Failure> {
+        let o = Tables::fresh(self.now.users, self.now.edition);
+        self.now = o.tables;
+        if s.name.is_empty() {
+            return done(&o);
         }
-        let mut b = self.on(o.tables);
-        b.good = o.answer == 0;
-        Ok(b)
+        show::answer(rt, s.name, &o)?;
+        println!(rt; "{}", Changes(&self.kept, &self.now))?;
+        Ok(())
+    }
+
+    // What is not as in some tables.
+    fn compare_with(&self, rt: &impl Print, name: &[u8], before: &Tables) -> io::Result<()> {
+        rt.write_all(name)?;
+        println!(rt; ":{}", Changes(before, &self.now))
     }
 
     // `old`: the tables, in records of the old width, are taken over; and what changed.
-    pub fn old(self, rt: &impl Print, name: &[u8]) -> io::Result<State> {
-        let before = old::narrowed(self.now);
-        let t = before.take_over();
-        show::word(rt, name)?;
-        show::say(rt, show::COLON)?;
-        show::changes(rt, self.now, t)?;
-        show::say(rt, show::END)?;
-        Ok(self.on(t))
+    pub(crate) fn old(&mut self, rt: &impl Print, s: Statement) -> io::Result<()> {
+        let before = self.now;
+        self.now = old::narrowed(&before).take_over();
+        self.compare_with(rt, s.name, &before)
     }
 
     // `compare`: what is not as in the tables kept.
-    pub fn compare(self, rt: &impl Print, name: &[u8]) -> io::Result<State> {
-        show::word(rt, name)?;
-        show::say(rt, show::COLON)?;
-        show::changes(rt, self.kept, self.now)?;
-        show::say(rt, show::END)?;
-        Ok(self)
+    pub(crate) fn compare(&self, rt: &impl Print, s: Statement) -> io::Result<()> {
+        self.compare_with(rt, s.name, &self.kept)
     }
 
     // A request alone: it is to be done where it has no name.
-    fn plain(self, rt: &impl Print, q: Request, name: &[u8]) -> io::Result<State> {
-        let o = ask::made(rt, self.now, q)?;
-        let mut b = self.on(o.tables);
-        if name.len() == 0 {
-            b.good = o.answer == 0;
-            return Ok(b);
+    pub(crate) fn request(&mut self, rt: &impl Print, s: Statement) -> Result<(), Failure> {
+        let o = ask::made(rt, &self.now, ask::read(s.words)?)?;
+        self.now = o.tables;
+        if s.name.is_empty() {
+            return done(&o);
         }
-        let role = o.role;
-        show::answer(rt, name, o.answer, role)?;
-        show::say(rt, show::END)?;
-        Ok(b)
+        show::answer(rt, s.name, &o)?;
+        println!(rt)?;
+        Ok(())
     }
 
-    // `do` 0, `ask` 1 and `broken` 2
-    fn told(self, rt: &impl Print, verb: usize, q: Request, name: &[u8]) -> io::Result<State> {
-        let o = ask::made(rt, self.now, q)?;
-        let role = o.role;
-        show::answer(rt, name, o.answer, role)?;
-        show::changes(rt, self.now, o.tables)?;
-        if verb == 2 {
-            show::say(rt, show::BROKEN)?;
-            show::records(rt, self.kept, self.now)?;
-        }
-        show::say(rt, show::END)?;
-        if verb == 0 {
-            return Ok(self.on(o.tables));
-        }
-        if verb == 1 {
-            return Ok(self);
-        }
-        Ok(self.tables(2))
+    // A request's answer, and what it changes.
+    fn told(&self, rt: &impl Print, s: Statement) -> Result<Tables, Failure> {
+        let o = ask::made(rt, &self.now, ask::read(s.words)?)?;
+        show::answer(rt, s.name, &o)?;
+        print!(rt; "{}", Changes(&self.now, &o.tables))?;
+        Ok(o.tables)
     }
 
-    // A request that begins at `from`, behind its verb: `do` 0, `ask` 1, `broken` 2, `edge` 3 or none.
-    pub fn request(
-        self,
-        rt: &impl Print,
-        verb: usize,
-        s: &[u8],
-        from: usize,
-        name: &[u8],
-    ) -> io::Result<State> {
-        let r = ask::read(s, from);
-        if !r.good {
-            return Ok(self.unread());
-        }
-        if verb < 3 {
-            return self.told(rt, verb, r.request, name);
-        }
-        if verb == 3 {
-            let t = edges::edge(rt, name, self.now, r.request)?;
-            return Ok(self.on(t));
-        }
-        self.plain(rt, r.request, name)
+    // `do REQUEST`
+    pub(crate) fn perform(&mut self, rt: &impl Print, s: Statement) -> Result<(), Failure> {
+        self.now = self.told(rt, s)?;
+        println!(rt)?;
+        Ok(())
+    }
+
+    // `ask REQUEST`: the tables stay as they were.
+    pub(crate) fn ask(&self, rt: &impl Print, s: Statement) -> Result<(), Failure> {
+        self.told(rt, s)?;
+        println!(rt)?;
+        Ok(())
+    }
+
+    // `broken REQUEST`: with what is not as in the tables kept; then back to these.
+    pub(crate) fn broken(&mut self, rt: &impl Print, s: Statement) -> Result<(), Failure> {
+        self.told(rt, s)?;
+        println!(rt; "; broken{}", Differing(&self.kept, &self.now))?;
+        self.back();
+        Ok(())
+    }
+
+    // `edge REQUEST`
+    pub(crate) fn edge(&mut self, rt: &impl Print, s: Statement) -> Result<(), Failure> {
+        let q = ask::read(s.words)?;
+        self.now = edges::edge(rt, s.name, &self.now, q)?;
+        Ok(())
     }
 
     // `gather N REQUEST`: the request as so many rows more.
-    pub fn gather(self, s: &[u8], from: usize) -> State {
-        let n = text::next(s, from);
-        let r = ask::read(s, n.end);
-        if !(r.good & (n.decimal & (n.number <= 256))) {
-            return self.unread();
-        }
-        let rows = batch::with(self.batch, r.request, n.number);
-        let mut b = self;
-        b.batch = rows;
-        b
+    pub(crate) fn gather(&mut self, mut s: Statement) -> Result<(), Failure> {
+        let times = s.words.up_to(ROWS)?;
+        let q = ask::read(s.words)?;
+        self.batch.gather(q, times);
+        Ok(())
     }
 
     // `run NUMBERS ROOM ROLES`: so many numbers of the rows, with room for so many answers and so many roles.
-    pub fn run(self, rt: &impl Print, s: &[u8], from: usize, name: &[u8]) -> io::Result<State> {
-        let n = text::next(s, from);
-        let room = text::next(s, n.end);
-        let told = text::next(s, room.end);
-        let fits = (room.decimal & (room.number <= 256)) & (told.decimal & (told.number <= 256));
-        if !((n.decimal & (n.number <= 3328)) & fits) {
-            return Ok(self.unread());
-        }
-        let t = batch::told(
-            rt,
-            name,
-            self.now,
-            self.batch,
-            n.number,
-            room.number,
-            told.number,
-        )?;
-        Ok(self.on(t))
+    pub(crate) fn run(&mut self, rt: &impl Print, mut s: Statement) -> Result<(), Failure> {
+        let extent = Extent::read(&mut s.words)?;
+        rt.write_all(s.name)?;
+        print!(rt; ":")?;
+        self.now = self.batch.run(rt, &self.now, extent)?;
+        Ok(())
     }
 }

@@ -1,155 +1,118 @@
 // What a run of cases works on, and the statements that edit or show it.
 use crate::batch::Batch;
-use crate::{record, show, text};
-use guard::{Label, Tables, User};
-use std::io;
+use crate::failure::{Failure, Unread};
+use crate::field::Field;
+use crate::record::Place;
+use crate::statement::{Statement, Verb};
+use crate::words;
+use guard::sizes::{EDITION_1, USERS};
+use guard::{Tables, User};
 
-// The tables, and those kept to go back to; the batch; and whether the last statement could be read.
+// The tables, and those kept to go back to; and the batch.
 #[derive(Clone, Copy)]
 pub struct State {
-    pub now: Tables,
-    pub kept: Tables,
-    pub batch: Batch,
-    pub good: bool,
-}
-
-// A record's kind and number, a field of it, and where the statement goes on.
-#[derive(Clone, Copy)]
-struct Place {
-    kind: usize,
-    i: usize,
-    field: usize,
-    end: usize,
-    good: bool,
+    pub(crate) now: Tables,
+    pub(crate) kept: Tables,
+    pub(crate) batch: Batch,
 }
 
 // Fresh tables of edition 1 over sixteen users of ceiling 0 and clearance 0/0.
 fn nobody() -> Tables {
-    let clearance = Label { cats: 0, grade: 0 };
-    let none = User {
-        ceiling: 0,
-        clearance,
-    };
-    let o = Tables::fresh([none; 16], 1);
-    o.tables
-}
-
-// `KIND NUMBER`
-fn record_at(s: &[u8], from: usize) -> Place {
-    let word = text::next(s, from);
-    let n = text::next(s, word.end);
-    let kind = text::place(text::KINDS, word.key);
-    let i = n.number as usize;
-    Place {
-        kind,
-        i,
-        field: 0,
-        end: n.end,
-        good: n.decimal & ((kind < 5) & (i < record::count(kind))),
-    }
-}
-
-// `KIND NUMBER FIELD`
-fn field_at(s: &[u8], from: usize) -> Place {
-    let mut p = record_at(s, from);
-    let word = text::next(s, p.end);
-    p.field = text::place(text::RECORDS + 8 * (p.kind % 5), word.key);
-    p.end = word.end;
-    p.good = p.good & (p.field < 8);
-    p
+    Tables::fresh([User::default(); USERS], EDITION_1).tables
 }
 
 impl State {
     pub fn new() -> State {
-        let t = nobody();
-        let batch = Batch {
-            rows: [0; 3328],
-            count: 0,
-        };
+        let now = nobody();
         State {
-            now: t,
-            kept: t,
-            batch,
-            good: true,
+            now,
+            kept: now,
+            batch: Batch::new(),
         }
     }
 
-    // The tables are `t` from now on.
-    pub fn on(mut self, t: Tables) -> State {
-        self.now = t;
-        self
+    // Runs a statement, and prints what it tells.
+    pub fn run_line(&mut self, rt: &impl Print, line: &[u8]) -> Result<(), Failure> {
+        let mut s = Statement::from(line);
+        match s.verb() {
+            Verb::Comment => {}
+            Verb::Clear => self.clear(),
+            Verb::Keep => self.keep(),
+            Verb::Back => self.back(),
+            Verb::Fresh => self.fresh(rt, s)?,
+            Verb::Old => self.old(rt, s)?,
+            Verb::Set => self.set(s)?,
+            Verb::With => self.with(s)?,
+            Verb::Show => self.show(rt, s)?,
+            Verb::Say => s.say(rt)?,
+            Verb::Compare => self.compare(rt, s)?,
+            Verb::Gather => self.gather(s)?,
+            Verb::Run => self.run(rt, s)?,
+            Verb::Do => self.perform(rt, s)?,
+            Verb::Ask => self.ask(rt, s)?,
+            Verb::Broken => self.broken(rt, s)?,
+            Verb::Edge => self.edge(rt, s)?,
+            Verb::Request => self.request(rt, s)?,
+        }
+        Ok(())
     }
 
-    pub fn unread(mut self) -> State {
-        self.good = false;
-        self
+    // `clear`: fresh tables of edition 1 over sixteen users of 0, with no request gathered.
+    fn clear(&mut self) {
+        self.batch.clear();
+        self.now = nobody();
     }
 
-    // `clear`, `keep` and `back`: fresh tables of edition 1 over sixteen users of 0, with no request gathered; the tables are
-    // kept; and the tables are those that were kept.
-    pub fn tables(mut self, verb: usize) -> State {
-        if verb == 0 {
-            self.batch.count = 0;
-            return self.on(nobody());
-        }
-        if verb == 1 {
-            let t = self.now;
-            self.kept = t;
-            return self;
-        }
-        let t = self.kept;
-        self.on(t)
+    // `keep`: the tables are kept to go back to.
+    fn keep(&mut self) {
+        self.kept = self.now;
+    }
+
+    // `back`: the tables are those that were kept.
+    pub(crate) fn back(&mut self) {
+        self.now = self.kept;
     }
 
     // A number into a field. It could not be read where the field does not hold it all.
-    fn store(self, p: Place, n: u64) -> State {
-        let t = record::with(self.now, p.kind, p.i, p.field, n);
-        if record::number(t, p.kind, p.i, p.field) != n {
-            return self.unread();
-        }
-        self.on(t)
+    fn store(&mut self, place: Place, field: Field, n: u64) -> Result<(), Unread> {
+        let mut record = place.record(&self.now).ok_or(Unread)?;
+        record.put(field, n)?;
+        record.store(&mut self.now, place.number);
+        Ok(())
     }
 
-    // `set KIND NUMBER FIELD N ..`: the field, and those behind it.
-    pub fn set(self, s: &[u8], from: usize) -> State {
-        let mut b = self;
-        let mut p = field_at(s, from);
-        if !p.good {
-            return b.unread();
+    // `set KIND NUMBER FIELD N ..`: the field, and those behind it. A number that does not fit keeps none of the others out.
+    fn set(&mut self, mut s: Statement) -> Result<(), Unread> {
+        let place = Place::read(&mut s.words)?;
+        place.record(&self.now).ok_or(Unread)?;
+        let first = Field::try_from(s.words.word()?)?;
+        let fields = place.kind.fields();
+        let first = fields.iter().position(|f| *f == first).ok_or(Unread)?;
+        let mut stored = Ok(());
+        for field in fields.iter().skip(first) {
+            let Some(word) = s.words.next() else {
+                break;
+            };
+            let n = words::number(word)?;
+            stored = self.store(place, *field, n).and(stored);
         }
-        for field in p.field..8 {
-            p.field = field;
-            let w = text::next(s, p.end);
-            if w.length == 0 {
-                return b;
-            }
-            if !w.decimal {
-                return b.unread();
-            }
-            b = b.store(p, w.number);
-            p.end = w.end;
-        }
-        b
+        stored
     }
 
     // `with KIND NUMBER FIELD MEMBER`: one member more of a set.
-    pub fn with(self, s: &[u8], from: usize) -> State {
-        let p = field_at(s, from);
-        let w = text::next(s, p.end);
-        if !(p.good & (w.decimal & (w.number < 64))) {
-            return self.unread();
-        }
-        let set = record::number(self.now, p.kind, p.i, p.field);
-        self.store(p, set | (1 << (w.number % 64)))
+    fn with(&mut self, mut s: Statement) -> Result<(), Unread> {
+        let place = Place::read(&mut s.words)?;
+        let record = place.record(&self.now).ok_or(Unread)?;
+        let field = Field::try_from(s.words.word()?)?;
+        let member = s.words.up_to(63)?;
+        self.store(place, field, record.number(field) | 1 << member)
     }
 
     // `show KIND NUMBER`
-    pub fn show(self, rt: &impl Print, s: &[u8], from: usize) -> io::Result<State> {
-        let p = record_at(s, from);
-        if !p.good {
-            return Ok(self.unread());
-        }
-        show::record(rt, self.now, p.kind, p.i)?;
-        Ok(self)
+    fn show(&self, rt: &impl Print, mut s: Statement) -> Result<(), Failure> {
+        let place = Place::read(&mut s.words)?;
+        let record = place.record(&self.now).ok_or(Unread)?;
+        println!(rt; "  {place}{record}")?;
+        Ok(())
     }
 }

@@ -33,128 +33,33 @@
 // where a role is told.
 #![tactic(auto)]
 
-ghost use Rattle.std.specs.Prelude.{◌≤◌, length};
-
-use cases::state::State;
-use cases::{folder, show, text};
+use cases::{Failure, State, folder};
 use std::io;
 use std::rt::Files;
 
-// Verbs are numbered by their places in the list of `text::place`: `clear`, `keep`, `back`; `fresh`; `old`; `set`; `with`.
-fn edits(
-    rt: &impl Print,
-    b: State,
-    verb: usize,
-    s: &[u8],
-    at: usize,
-    name: &[u8],
-) -> io::Result<State> {
-    match verb {
-        0..=2 => Ok(b.tables(verb)),
-        3 => b.fresh(rt, name),
-        4 => b.old(rt, name),
-        5 => Ok(b.set(s, at)),
-        _ => Ok(b.with(s, at)),
-    }
-}
-
-// `show`; `say`; `compare`; `gather`; `run`; `do`, `ask`, `broken`, `edge`; and what is no verb is a request.
-fn verb(
-    rt: &impl Print,
-    b: State,
-    verb: usize,
-    s: &[u8],
-    at: usize,
-    name: &[u8],
-) -> io::Result<State> {
-    match verb {
-        0..=6 => edits(rt, b, verb, s, at, name),
-        7 => b.show(rt, s, at),
-        8 => {
-            show::word(rt, name)?;
-            show::say(rt, show::END)?;
-            Ok(b)
-        }
-        9 => b.compare(rt, name),
-        10 => Ok(b.gather(s, at)),
-        11 => b.run(rt, s, at, name),
-        12..=15 => b.request(rt, verb - 12, s, at, name),
-        _ => b.request(rt, 4, s, 0, name),
-    }
-}
-
-fn statement(rt: &impl Print, b: State, s: &[u8], name: &[u8]) -> io::Result<State> {
-    let w = text::next(s, 0);
-    let mut b = b;
-    b.good = true;
-    // an empty line, or the word `#`
-    if (w.length == 0) | (w.key == 0x23) {
-        return Ok(b);
-    }
-    verb(rt, b, text::place(text::VERBS, w.key), s, w.end, name)
-}
-
-// Where the byte stands first from `from` on: at the end where it does not.
-fn find(s: &[u8], from: usize, byte: u8) -> usize
-    requires { from ≤ length s.now }
-    ensures lower_bound { from ≤ result }
-    ensures upper_bound { result ≤ length s.now }
-{
-    for at in from..s.len() {
-        if s[at] == byte {
-            return at;
-        }
-    }
-    s.len()
-}
-
-// A statement, and behind `| ` its name.
-fn line(rt: &impl Print, b: State, s: &[u8]) -> io::Result<State> {
-    let end = find(s, 0, b'|');
-    if s.len() - end < 2 {
-        return statement(rt, b, s, &s[..0]);
-    }
-    statement(rt, b, &s[..end], &s[end + 2..])
-}
-
 // Each line of a file. One that cannot be read, or whose request without a name is not done, is told by its number.
-fn lines(rt: &impl Print, b: State, file: &[u8], text: &[u8]) -> io::Result<State> {
-    let mut b = b;
-    let mut from = 0usize;
-    let mut n = 0u64;
-    while from < text.len() {
-        let at = from;
-        let to = find(text, at, b'\n');
-        from = to + 1;
-        n += 1;
-        b = line(rt, b, &text[at..to])?;
-        if !b.good {
-            show::word(rt, file)?;
-            show::form(rt, show::UNREAD, show::one(n))?;
+fn file(rt: &(impl Print + Files), state: &mut State, name: &[u8]) -> io::Result<()> {
+    let mut room = [0; 65536];
+    let text = folder::read(rt, name, &mut room);
+    for (above, line) in text.split(|b| *b == b'\n').enumerate() {
+        match state.run_line(rt, line) {
+            Ok(()) => {}
+            Err(Failure::Io(e)) => return Err(e),
+            Err(Failure::Unread | Failure::NotDone) => {
+                rt.write_all(name)?;
+                println!(rt; " line {}: not read, or not done", above + 1)?;
+            }
         }
-    }
-    Ok(b)
-}
-
-fn file(rt: &(impl Print + Files), b: State, name: &[u8]) -> io::Result<State> {
-    let mut text = [0u8; 65536];
-    let n = folder::read(rt, name, &mut text);
-    lines(rt, b, name, &text[..n])
-}
-
-fn files(rt: &(impl Print + Files), list: &[u8]) -> io::Result<()> {
-    let mut b = State::new();
-    let mut from = 0usize;
-    while from < list.len() {
-        let to = find(list, from, b'\n');
-        b = file(rt, b, &list[from..to])?;
-        from = to + 1;
     }
     Ok(())
 }
 
 fn main(rt: HostRuntime) -> io::Result<()> {
-    let mut list = [0u8; 4096];
-    let n = folder::read(&rt, b"list", &mut list);
-    files(&rt, &list[..n])
+    let mut room = [0; 4096];
+    let list = folder::read(&rt, b"list", &mut room);
+    let mut state = State::new();
+    for name in list.split(|b| *b == b'\n') {
+        file(&rt, &mut state, name)?;
+    }
+    Ok(())
 }
