@@ -83,8 +83,8 @@ impl Slot<'_> {
     pub fn put(self, n: u64) -> Result<(), Unread> {
         match self {
             Slot::Mark(x) if n < 2 => *x = n == 1,
-            Slot::Byte(x) => *x = u8::try_from(n).map_err(|_| Unread)?,
-            Slot::Pair(x) => *x = u16::try_from(n).map_err(|_| Unread)?,
+            Slot::Byte(x) => *x = u8::try_from(n)?,
+            Slot::Pair(x) => *x = u16::try_from(n)?,
             Slot::Set(x) => *x = n,
             Slot::Zero if n == 0 => {}
             _ => return Err(Unread),

@@ -58,8 +58,7 @@ pub fn number<N: FromStr<Err: Drop>>(word: &[u8]) -> Result<N, Unread> {
     if word.starts_with(b"+") {
         return Err(Unread);
     }
-    let text = str::from_utf8(word).map_err(|_| Unread)?;
-    text.parse().map_err(|_| Unread)
+    str::from_utf8(word)?.parse().map_err(|_| Unread)
 }
 
 // A word as it is looked up: zero bytes before a word of at most eight count for nothing.
