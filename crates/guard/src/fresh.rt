@@ -12,6 +12,7 @@ use std::array;
 // How many roles a level has, as an index.
 const LEVEL: usize = LEVEL_ROLES as usize;
 
+#[tactic(auto, unfolding(crate::specs::Fresh::fresh_role, crate::specs::Edits::put_in, bitset::specs::Sets::contains, bitset::specs::Sets::with, bitset::specs::Sets::join))]
 fn fresh_role(r: usize) -> Role
     requires { r < role_count }
     ensures { result ≡ fresh_role r }
@@ -31,6 +32,7 @@ fn fresh_role(r: usize) -> Role
     Role::default()
 }
 
+#[tactic(auto, unfolding(crate::specs::Fresh::fresh_entity))]
 fn fresh_entity(e: usize) -> Entity
     requires { e < entity_count }
     ensures { result ≡ fresh_entity e }
@@ -58,6 +60,7 @@ fn fresh_entities() -> [Entity; ENTITIES]
     array::from_fn(fresh_entity)
 }
 
+#[tactic(auto, unfolding(crate::specs::Fresh::fresh))]
 fn fresh_over(users: [User; USERS], edition: u8) -> Tables
     ensures { result ≡ fresh users edition }
 {

@@ -22,12 +22,14 @@ const ENTITY_COUNT: u8 = ENTITIES as u8;
 
 const LEVEL: u8 = LEVEL_ENTITIES as u8;
 
+#[tactic(auto, unfolding(crate::specs::Sound::user_in_range_in, bitset::specs::Tests::every))]
 fn user_in_range(u: User) -> bool
     ensures { result ≡ user_in_range u }
 {
     (u.ceiling <= TOP_LEVEL) & labels::in_range(u.clearance)
 }
 
+#[tactic(auto, unfolding(crate::specs::Sound::edition_in_range, bitset::specs::Tests::every))]
 pub fn edition_in_range(edition: u8) -> bool
     ensures { result ≡ edition_in_range edition }
 {
@@ -40,6 +42,7 @@ pub fn users_in_range(users: [User; USERS]) -> bool
     users.iter().all(|u| user_in_range(*u))
 }
 
+#[tactic(auto, unfolding(crate::specs::Sound::session_in_range_in, bitset::specs::Tests::every))]
 pub fn session_in_range(s: Session) -> bool
     ensures { result ≡ session_in_range s }
 {
@@ -63,6 +66,7 @@ fn is_root_record(e: u8, n: Entity) -> bool
 }
 
 // Whether `n`, at `e`, may lie in `p`, its parent's record.
+#[tactic(auto, unfolding(bitset::specs::Tests::every))]
 fn fits_in(e: u8, n: Entity, p: Entity) -> bool
     ensures { result ≡ fits e n p }
 {

@@ -22,7 +22,7 @@ pub fn key(n: Entity) -> u32
     if !n.live {
         return DEAD;
     }
-    (n.parent as u32) * NAMES + (n.name as u32)
+    u32::from(n.parent) * NAMES + u32::from(n.name)
 }
 
 // Of each entity its parent and its name in one number.
