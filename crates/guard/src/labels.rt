@@ -19,7 +19,7 @@ pub fn dominates(a: Label, b: Label) -> bool
 pub fn same(a: Label, b: Label) -> bool
     ensures { result ≡ same_label a b }
 {
-    (a.grade == b.grade) & (a.cats == b.cats)
+    a == b
 }
 
 // Whether the grade is one of four; every `u16` is a set of categories.

@@ -104,13 +104,9 @@ fn session_ok(labels: &[u32; ENTITIES], roles: u16, edition: u8, level: u32, s: 
     if !s.live {
         return s == Session::default();
     }
-    if !(session_in_range(s) & roles.contains(s.roles)) {
-        return false;
-    }
-    if !levels_allowed(edition, level, s) {
-        return false;
-    }
-    labels_allowed(labels, s)
+    (session_in_range(s) & roles.contains(s.roles))
+        && levels_allowed(edition, level, s)
+        && labels_allowed(labels, s)
 }
 
 // Whether it is so, and each of its opens has the right behind it; `rights` are those of its roles.

@@ -5,8 +5,7 @@ ghost use Rattle.std.specs.Prelude.{◌%◌, ◌≡◌, get_or};
 ghost use Rattle.bitset.specs.Tests.{all};
 ghost use Rattle.guard.specs.Level.{user_count, entity_count};
 ghost use Rattle.guard.specs.Tables.{no_user, no_entity};
-ghost use Rattle.guard.specs.Label.{same_label, no_label};
-ghost use Rattle.guard.specs.Sound.{edition_in_range, is_root_record, is_empty_entity, is_empty_session};
+ghost use Rattle.guard.specs.Sound.{edition_in_range, is_root_record};
 ghost use Rattle.guard.specs.Private.Tested.{fits, entity_fits, entity_test};
 ghost use Rattle.guard.specs.Private.InForce.{user_in_range, session_in_range};
 
@@ -57,6 +56,7 @@ fn entity_fits(n: Entity) -> bool
         & ((n.shared <= n.kind) & ((n.parent < ENTITY_COUNT) & labels::in_range(n.label)))
 }
 
+#[tactic(auto, unfolding(crate::specs::Sound::is_root_record, crate::specs::Label::same_label, bitset::specs::Tests::every))]
 fn is_root_record(e: u8, n: Entity) -> bool
     ensures { result ≡ is_root_record e n }
 {

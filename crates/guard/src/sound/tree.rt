@@ -1,5 +1,5 @@
 // The tree of entities, by a key for each: where a live entity lies and what it is called, in one number.
-ghost use Rattle.std.specs.Prelude.{ℕ, ◌≤◌, ◌<◌, ◌≡◌, cond, eqb, get_or};
+ghost use Rattle.std.specs.Prelude.{ℕ, ◌≤◌, ◌<◌, ◌≡◌, get_or};
 ghost use Rattle.bitset.specs.Tests.{all};
 ghost use Rattle.bitset.specs.Sets.{has};
 ghost use Rattle.guard.specs.Level.{entity_count, entities_per_level};
@@ -54,6 +54,7 @@ fn has_own_key(keys: &[u32; ENTITIES], e: usize) -> bool
         return true;
     }
     let first = e / BLOCK * BLOCK;
+    // `filter` and `count` take some 100 instructions more for each entity that has a name.
     let mut hits = 0u32;
     for other in &keys[first..first + BLOCK] {
         hits += u32::from(*other == k);
