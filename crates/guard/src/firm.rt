@@ -54,11 +54,9 @@ pub fn roles(firm: u32) -> u16
 pub fn across(q: Request) -> bool
     ensures { result ≡ across_firms q }
 {
-    if q.call == kinds::LIST {
-        return of_user(q.user) != of_role(q.role);
+    match q.call {
+        kinds::LIST => of_user(q.user) != of_role(q.role),
+        kinds::JOIN => of_role(q.junior) != of_role(q.role),
+        _ => false,
     }
-    if q.call == kinds::JOIN {
-        return of_role(q.junior) != of_role(q.role);
-    }
-    false
 }
