@@ -31,14 +31,13 @@ fn below(n: u32, end: u32) -> usize
 fn fits(q: Request) -> bool
     ensures { result ≡ in_ranges q }
 {
-    let call = q.call;
     let seat = q.seat < sizes::SEAT_END;
     let user = q.user < sizes::USER_END;
     let role = q.role < sizes::ROLE_END;
     let entity = q.entity < sizes::ENTITY_END;
     let label = (q.grade <= sizes::TOP_GRADE_ASKED) & (q.cats <= sizes::ALL_CATEGORIES);
     let name = (1 <= q.name) & (q.name <= sizes::TOP_NAME);
-    match call {
+    match q.call {
         kinds::LOGIN => seat & (user & label),
         kinds::LOGOUT => seat,
         kinds::TAKE | kinds::DROP => seat & role,
