@@ -19,7 +19,7 @@ fn fresh_role(r: usize) -> Role
 {
     if r % LEVEL == 0 {
         let root = 0u64.with((r / LEVEL * BLOCK) as u32);
-        return Role {
+        Role {
             live: true,
             users: 1,
             reads: root,
@@ -27,9 +27,10 @@ fn fresh_role(r: usize) -> Role
             executes: root,
             owns: root,
             ..Default::default()
-        };
+        }
+    } else {
+        Role::default()
     }
-    Role::default()
 }
 
 #[tactic(auto, unfolding(crate::specs::Fresh::fresh_entity))]
@@ -38,14 +39,15 @@ fn fresh_entity(e: usize) -> Entity
     ensures { result ≡ fresh_entity e }
 {
     if e % BLOCK == 0 {
-        return Entity {
+        Entity {
             live: true,
             kind: CONTAINER,
             parent: e as u8,
             ..Default::default()
-        };
+        }
+    } else {
+        Entity::default()
     }
-    Entity::default()
 }
 
 fn fresh_roles() -> [Role; ROLES]

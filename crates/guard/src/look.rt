@@ -79,9 +79,10 @@ pub fn parent_of(call: u32, named: usize, recorded: u8) -> usize
     ensures { result ≡ cond (eqb call kind.create) named recorded }
 {
     if call == kinds::CREATE {
-        return named;
+        named
+    } else {
+        usize::from(recorded)
     }
-    recorded as usize
 }
 
 // openr and openw ask for the way up.

@@ -34,10 +34,7 @@ fn packed(a: Label) -> u32
 fn label_of(n: Entity) -> u32
     ensures { result ≡ label_number n }
 {
-    if !n.live {
-        return DEAD;
-    }
-    packed(n.label)
+    if n.live { packed(n.label) } else { DEAD }
 }
 
 pub fn labels(entities: [Entity; ENTITIES]) -> [u32; ENTITIES]

@@ -19,10 +19,11 @@ const DEAD: u32 = 256 * NAMES;
 pub fn key(n: Entity) -> u32
     ensures { result ≡ key_of n }
 {
-    if !n.live {
-        return DEAD;
+    if n.live {
+        u32::from(n.parent) * NAMES + u32::from(n.name)
+    } else {
+        DEAD
     }
-    u32::from(n.parent) * NAMES + u32::from(n.name)
 }
 
 // Of each entity its parent and its name in one number.
