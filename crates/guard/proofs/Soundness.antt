@@ -3,6 +3,7 @@ pub mod Tests
 pub mod Loops
 pub mod Count
 pub mod Members
+pub mod Listed
 pub mod DeadSet
 pub mod Climb
 pub mod Cases

@@ -13,20 +13,21 @@ pub enum Change {
     Role,
 }
 
+#[tactic(auto, unfolding(crate::specs::Private::Inside::change_of, bitset::specs::Tests::either))]
 pub fn change_of(call: u32) -> Change
     ensures { result ≡ change_of call }
 {
     match call {
         kinds::LOGIN..=kinds::CLOSE => Change::Session,
-        kinds::CREATE..=kinds::RENAME => Change::Entity,
-        kinds::SHARE => Change::Entity,
+        kinds::CREATE..=kinds::RENAME | kinds::SHARE => Change::Entity,
         _ => Change::Role,
     }
 }
 
 // The requests on a role after which opens end that are no longer backed.
+#[tactic(auto, unfolding(crate::specs::Private::Inside::ends_opens, bitset::specs::Tests::either))]
 pub fn ends_opens(call: u32) -> bool
     ensures { result ≡ ends_opens call }
 {
-    (call == kinds::REVOKE) | (call == kinds::UNMAKE) | (call == kinds::UNJOIN)
+    matches!(call, kinds::REVOKE | kinds::UNMAKE | kinds::UNJOIN)
 }

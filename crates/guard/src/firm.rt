@@ -11,6 +11,7 @@ const HOUSE: u32 = 0;
 
 const AGENTS: u32 = 1;
 
+#[tactic(auto, unfolding(crate::specs::Private::Firm::user_firm))]
 pub fn of_user(user: u32) -> u32
     ensures { result ≡ user_firm user }
 {
@@ -21,6 +22,7 @@ pub fn of_user(user: u32) -> u32
     }
 }
 
+#[tactic(auto, unfolding(crate::specs::Private::Firm::role_firm))]
 pub fn of_role(role: u32) -> u32
     ensures { result ≡ role_firm role }
 {
@@ -48,14 +50,13 @@ pub fn roles(firm: u32) -> u16
 }
 
 // What 25 asks: of list whether the user, of join whether the junior is of another firm than the role.
+#[tactic(auto, unfolding(crate::specs::Private::Firm::across_firms))]
 pub fn across(q: Request) -> bool
     ensures { result ≡ across_firms q }
 {
-    if q.call == kinds::LIST {
-        return of_user(q.user) != of_role(q.role);
+    match q.call {
+        kinds::LIST => of_user(q.user) != of_role(q.role),
+        kinds::JOIN => of_role(q.junior) != of_role(q.role),
+        _ => false,
     }
-    if q.call == kinds::JOIN {
-        return of_role(q.junior) != of_role(q.role);
-    }
-    false
 }

@@ -13,13 +13,14 @@ use std::array;
 // How many roles a level has, as an index.
 const LEVEL: usize = LEVEL_ROLES as usize;
 
+#[tactic(auto, unfolding(crate::specs::Fresh::fresh_role, crate::specs::Edits::put_in, bitset::specs::Sets::contains, bitset::specs::Sets::with, bitset::specs::Sets::join))]
 fn fresh_role(r: usize) -> Role
     requires { r < role_count }
     ensures { result ≡ fresh_role r }
 {
     if r % LEVEL == 0 {
         let root = 0u64.with((r / LEVEL * BLOCK) as u32);
-        return Role {
+        Role {
             live: true,
             users: 1,
             reads: root,
@@ -27,24 +28,27 @@ fn fresh_role(r: usize) -> Role
             executes: root,
             owns: root,
             ..Default::default()
-        };
+        }
+    } else {
+        Role::default()
     }
-    Role::default()
 }
 
+#[tactic(auto, unfolding(crate::specs::Fresh::fresh_entity))]
 fn fresh_entity(e: usize) -> Entity
     requires { e < entity_count }
     ensures { result ≡ fresh_entity e }
 {
     if e % BLOCK == 0 {
-        return Entity {
+        Entity {
             live: true,
             kind: CONTAINER,
             parent: e as u8,
             ..Default::default()
-        };
+        }
+    } else {
+        Entity::default()
     }
-    Entity::default()
 }
 
 fn fresh_roles() -> [Role; ROLES]
@@ -59,6 +63,7 @@ fn fresh_entities() -> [Entity; ENTITIES]
     array::from_fn(fresh_entity)
 }
 
+#[tactic(auto, unfolding(crate::specs::Fresh::fresh))]
 fn fresh_over(users: [User; USERS], edition: u8) -> Tables
     ensures { result ≡ fresh users edition }
 {

@@ -7,6 +7,7 @@ use crate::sizes::TOP_GRADE;
 use bitset::Set;
 
 // Whether `a`'s grade is at least `b`'s and `a`'s set contains `b`'s.
+#[tactic(auto, unfolding(crate::specs::Label::dominates, bitset::specs::Tests::every))]
 pub fn dominates(a: Label, b: Label) -> bool
     ensures { result ≡ dominates_of a b }
 {
@@ -14,6 +15,7 @@ pub fn dominates(a: Label, b: Label) -> bool
 }
 
 // Whether the grade is one of four; every `u16` is a set of categories.
+#[tactic(auto, unfolding(crate::specs::Label::label_in_range_in, bitset::specs::Tests::every))]
 pub fn in_range(a: Label) -> bool
     ensures { result ≡ label_in_range a }
 {

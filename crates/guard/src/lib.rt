@@ -16,6 +16,7 @@ mod judge;
 pub mod kinds;
 mod labels;
 mod look;
+mod members;
 mod methods;
 pub mod old;
 mod opens;

@@ -29,14 +29,13 @@ fn below(n: u32, end: u32) -> usize
 fn fits(q: Request) -> bool
     ensures { result ≡ in_ranges q }
 {
-    let call = q.call;
     let seat = q.seat < sizes::SEAT_END;
     let user = q.user < sizes::USER_END;
     let role = q.role < sizes::ROLE_END;
     let entity = q.entity < sizes::ENTITY_END;
     let label = (q.grade <= sizes::TOP_GRADE_ASKED) & (q.cats <= sizes::ALL_CATEGORIES);
     let name = (1 <= q.name) & (q.name <= sizes::TOP_NAME);
-    match call {
+    match q.call {
         kinds::LOGIN => seat & (user & label),
         kinds::LOGOUT => seat,
         kinds::TAKE | kinds::DROP => seat & role,
@@ -55,7 +54,7 @@ fn fits(q: Request) -> bool
         kinds::MAKE | kinds::UNMAKE => seat & role,
         kinds::SHARE => seat & (entity & (q.shared <= sizes::TOP_MARK)),
         kinds::JOIN | kinds::UNJOIN => seat & (role & (q.junior < sizes::ROLE_END)),
-        kinds::KINDS..=4294967295 => false,
+        _ => false,
     }
 }
 
@@ -82,34 +81,42 @@ pub fn parent_of(call: u32, named: usize, recorded: u8) -> usize
     ensures { result ≡ cond (eqb call kind.create) named recorded }
 {
     if call == kinds::CREATE {
-        return named;
+        named
+    } else {
+        usize::from(recorded)
     }
-    recorded as usize
 }
 
 // openr and openw ask for the way up.
+#[tactic(auto, unfolding(crate::specs::Private::Inside::asks_way, bitset::specs::Tests::either))]
 pub fn asks_way(call: u32) -> bool
     ensures { result ≡ asks_way call }
 {
-    (call == kinds::OPENR) | (call == kinds::OPENW)
+    matches!(call, kinds::OPENR | kinds::OPENW)
 }
 
 // create and rename ask for a name among the children.
+#[tactic(auto, unfolding(crate::specs::Private::Inside::asks_name, bitset::specs::Tests::either))]
 pub fn asks_name(call: u32) -> bool
     ensures { result ≡ asks_name call }
 {
-    (call == kinds::CREATE) | (call == kinds::RENAME)
+    matches!(call, kinds::CREATE | kinds::RENAME)
 }
 
 // The kinds that ask for rights; the others ask nothing of the tables beside the records.
+#[tactic(auto, unfolding(crate::specs::Private::Inside::asks_rights, crate::specs::Private::Inside::asks_way, crate::specs::Private::Inside::asks_name, bitset::specs::Tests::either))]
 pub fn asks_rights(call: u32) -> bool
     ensures { result ≡ asks_rights call }
 {
-    match call {
-        kinds::OPENR | kinds::OPENW => true,
-        kinds::CREATE | kinds::DELETE | kinds::RENAME => true,
-        kinds::GRANT | kinds::REVOKE => true,
-        kinds::SHARE => true,
-        _ => false,
-    }
+    matches!(
+        call,
+        kinds::OPENR
+            | kinds::OPENW
+            | kinds::CREATE
+            | kinds::DELETE
+            | kinds::RENAME
+            | kinds::GRANT
+            | kinds::REVOKE
+            | kinds::SHARE
+    )
 }

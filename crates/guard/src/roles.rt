@@ -216,16 +216,14 @@ pub fn owning(e: u32, p: Role) -> Role
 
 // Role `p` without rights on entity `e`.
 #[tactic(auto, unfolding(crate::specs::Edits::clear_rights, crate::specs::Edits::set_rights, crate::specs::Edits::put_in, bitset::specs::Sets::contains))]
-fn cleared(e: u32, p: Role) -> Role
+fn cleared(e: u32, mut p: Role) -> Role
     ensures { result ≡ clear_rights e p }
 {
-    Role {
-        reads: p.reads.without(e),
-        writes: p.writes.without(e),
-        executes: p.executes.without(e),
-        owns: p.owns.without(e),
-        ..p
-    }
+    p.reads = p.reads.without(e);
+    p.writes = p.writes.without(e);
+    p.executes = p.executes.without(e);
+    p.owns = p.owns.without(e);
+    p
 }
 
 // Every role without rights on entity `e`: a deleted entity's rights.

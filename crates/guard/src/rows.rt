@@ -7,6 +7,7 @@ use crate::Request;
 use crate::sizes::ROW;
 
 // As many requests as stand whole in so many numbers and have room for their answers and their roles.
+#[tactic(auto, unfolding(crate::specs::Batch::batch_length, crate::specs::Batch::shorter))]
 pub fn count(numbers: usize, answers: usize, roles: usize) -> usize
     ensures { result ≡ batch_length numbers answers roles }
 {
@@ -14,6 +15,7 @@ pub fn count(numbers: usize, answers: usize, roles: usize) -> usize
 }
 
 // The request of row `i`.
+#[tactic(auto, unfolding(crate::specs::Batch::request_at))]
 pub fn request(rows: &[u32], i: usize) -> Request
     requires { row_length * i + row_length ≤ length rows.now }
     ensures { result ≡ request_at rows.now i }

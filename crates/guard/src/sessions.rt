@@ -96,49 +96,37 @@ fn entered(q: Request) -> Session
 
 // Session `s` without role `r`, and without entity `e` open.
 #[tactic(auto, unfolding(crate::specs::Edits::drop_role))]
-pub fn dropped(r: u32, s: Session) -> Session
+pub fn dropped(r: u32, mut s: Session) -> Session
     ensures { result ≡ drop_role r s }
 {
-    Session {
-        roles: s.roles.without(r),
-        ..s
-    }
+    s.roles = s.roles.without(r);
+    s
 }
 
 #[tactic(auto, unfolding(crate::specs::Edits::close_both))]
-fn closed(e: u32, s: Session) -> Session
+fn closed(e: u32, mut s: Session) -> Session
     ensures { result ≡ close_both e s }
 {
-    Session {
-        reading: s.reading.without(e),
-        writing: s.writing.without(e),
-        ..s
-    }
+    s.reading = s.reading.without(e);
+    s.writing = s.writing.without(e);
+    s
 }
 
 // The acting session after a request on it; a drop also ends those of its opens that are no longer backed.
-pub fn after(roles: &[Role; ROLES], q: Request, s: Session) -> Session
+pub fn after(roles: &[Role; ROLES], q: Request, mut s: Session) -> Session
     requires { in_ranges q ≡ true }
     ensures { result ≡ session_after (backed_by roles.now) q s }
 {
     match q.call {
-        kinds::LOGIN => entered(q),
-        kinds::LOGOUT => Session::default(),
-        kinds::TAKE => Session {
-            roles: s.roles.with(q.role),
-            ..s
-        },
-        kinds::DROP => backing::backed(roles, dropped(q.role, s)),
-        kinds::OPENR => Session {
-            reading: s.reading.with(q.entity),
-            ..s
-        },
-        kinds::OPENW => Session {
-            writing: s.writing.with(q.entity),
-            ..s
-        },
-        _ => closed(q.entity, s),
+        kinds::LOGIN => return entered(q),
+        kinds::LOGOUT => return Session::default(),
+        kinds::TAKE => s.roles = s.roles.with(q.role),
+        kinds::DROP => return backing::backed(roles, dropped(q.role, s)),
+        kinds::OPENR => s.reading = s.reading.with(q.entity),
+        kinds::OPENW => s.writing = s.writing.with(q.entity),
+        _ => return closed(q.entity, s),
     }
+    s
 }
 
 // Every session without entity `e` open: a deleted entity's opens.

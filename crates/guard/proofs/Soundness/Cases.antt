@@ -1,5 +1,5 @@
 -- What the code tests of one record, in the cases that it tells apart.
---     label_none, entity_none, session_none      what is equal to the empty record has every field zero or empty
+--     entity_none, session_none      what is equal to the empty record has every field zero or empty
 --     entity_fits_lem                                                    an entity in its ranges, its mark as its kind allows
 --     entity_dead_lem, entity_root, entity_other                         an entity n at e, where p is its parent's record
 --     rights_small, role_out, role_last                              a role p at r, by the entities on which it may have rights
@@ -18,12 +18,11 @@ use Rattle.bitset.specs.Tests.Laws.{both, clash, is_false, not_of_true, not_of_f
 use Rattle.bitset.specs.Sets.{has, contains}
 use Rattle.bitset.specs.Sets.Laws.{has_none, join_lt}
 use Rattle.guard.specs.Level.{is_root, is_keeper}
-use Rattle.guard.specs.Label.{label_in_range, same_label, no_label}
+use Rattle.guard.specs.Label.{label_in_range, same_label}
 use Rattle.guard.specs.Tables.{no_entity, no_session}
 use Rattle.guard.specs.Sound.{entity_in_range_in, is_root_record, is_mark_allowed, is_empty_entity, is_empty_session}
 use Rattle.guard.specs.Private.Tested.{entity_fits, entity_test, rights_set, role_test, open_levels, open_labels, session_test}
 use Rattle.guard.specs.Private.InForce.{session_in_range}
-use Rattle.guard.specs.declared.Label.{Label}
 use Rattle.guard.specs.declared.Entity.{Entity}
 use Rattle.guard.specs.declared.Role.{Role}
 use Rattle.guard.specs.declared.Session.{Session}
@@ -32,10 +31,6 @@ use Rattle.guard.proofs.Soundness.Tests.{cond_yes, cond_no}
 use Rattle.guard.proofs.Soundness.Members.{within_mask}
 
 -- ---- equality with an empty record, in the order of its fields
-
-pub label_none : (a d : Label) (r : Bool) → (d.cats ≡ 0) × (d.grade ≡ 0) → r ≡ (eqb a.cats d.cats && eqb a.grade d.grade) → r ≡ same_label a no_label
-unfolding same_label every
-label_none a d r (cats, grade) e = e ∙ rw (cats, grade, and-true) (and_comm (eqb a.cats 0) (eqb a.grade 0))
 
 -- the mark behind the name and the label, and of the label the grade first
 last_mark : (m n x y : Bool) → (m && (n && (x && y))) ≡ (n && ((y && x) && m))

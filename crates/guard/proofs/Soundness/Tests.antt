@@ -1,11 +1,13 @@
 -- Tests as code makes them.
 --     cond_yes, cond_no, yes_e, no_e, and_two, two_miss, two_last, unless      against what a contract lists
+--     of_four                                                         a fact of each number below four
 --     agree_e                                                         two tests that compute alike on a table
 -- Assumes nothing.
-use Prim.Native.Nat.{ℕ, ◌<◌}
+use Prim.Native.Nat.{ℕ, zero, suc, ◌<◌}
 use mathlib.Core.Bool.{Bool, true, false, not, ◌&&◌, ◌||◌, cond, and-true}
 use mathlib.Core.List.{[], ◌∷◌}
 use mathlib.Core.Path.{◌≡◌, refl, sym}
+use native.Mathlib.Omega.{arith}
 use Rattle.bitset.specs.Tests.{every, implies, all}
 use Rattle.bitset.specs.Tests.Laws.{of_not_true, of_not_false, all_e}
 
@@ -49,3 +51,10 @@ agree_true false false h = refl
 
 pub agree_e : (n : ℕ) (p q : ℕ → Bool) → all n (λ k. agree (p k) (q k)) ≡ true → (k : ℕ) → k < n → p k ≡ q k
 agree_e n p q h k l = agree_true (p k) (q k) (all_e n _ h k l)
+
+pub of_four : (P : ℕ → Type 0) → P 0 → P 1 → P 2 → P 3 → (n : ℕ) → n < 4 → P n
+of_four P a b c d zero h = a
+of_four P a b c d (suc zero) h = b
+of_four P a b c d (suc (suc zero)) h = c
+of_four P a b c d (suc (suc (suc zero))) h = d
+of_four P a b c d (suc (suc (suc (suc n)))) h = absurd (omega arith)

@@ -1,6 +1,7 @@
 -- What the code of `is_sound` tests, in the form in which it computes it. No part of document 01: the contract of
 -- `is_sound` is `sound` alone, and proofs/Soundness shows that these tests together are `sound`.
-use Rattle.std.specs.Prelude.{ℕ, ◌+◌, ◌*◌, ◌/◌, ◌%◌, ◌^◌, Bool, true, not, cond, List, [], ◌∷◌, leb, ltb, eqb, get_or}
+use Rattle.std.specs.Prelude.{ℕ, ◌+◌, ◌*◌, ◌/◌, ◌%◌, ◌^◌, Bool, true, not, cond, List, [], ◌∷◌, leb, ltb, eqb, get_or, filter}
+use Rattle.std.specs.List.{range_with_len}
 use Rattle.bitset.specs.Tests.{every, either, implies, all}
 use Rattle.bitset.specs.Sets.{has, contains, join}
 use Rattle.guard.specs.Level.{role_level, entity_level, is_root, is_keeper}
@@ -70,6 +71,10 @@ rights_set p = join (join (join p.reads p.writes) p.executes) p.owns
 -- each member of the set is as f asks
 abbrev pub members : (ℕ → Bool) → ℕ → Bool
 members f set = all 64 (λ e. implies (has set e) (f e))
+
+-- the members of the set, lowest first
+unfoldable pub listed : ℕ → List ℕ
+listed set = filter (has set) (range_with_len 0 64)
 
 abbrev pub role_test : (ℕ → Bool) → ℕ → Role → Bool
 role_test grantable r p =

@@ -9,8 +9,11 @@ ghost use Rattle.guard.specs.Private.Tested.{packed_label, label_number, dominat
 ghost use Rattle.guard.specs.Private.Scan.{Gathered, opens_given};
 
 use super::record::session_in_range;
+use crate::members::Members;
 use crate::scan::Rights;
-use crate::sizes::{EDITION_1, ENTITIES, LEVEL_SEATS, ROLES, SEAT_END, SESSIONS};
+use crate::sizes::{
+    EDITION_1, ENTITIES, LEVEL_ENTITIES, LEVEL_SEATS, ROLES, SEAT_END, SESSIONS, TOP_LEVEL_ASKED,
+};
 use crate::{Entity, Label, Role, Session, backing, scan};
 use bitset::Set;
 use std::array;
@@ -26,16 +29,13 @@ const DEAD: u32 = 16777216;
 fn packed(a: Label) -> u32
     ensures { result ≡ packed_label a }
 {
-    (a.grade as u32) * SETS + (a.cats as u32)
+    u32::from(a.grade) * SETS + u32::from(a.cats)
 }
 
 fn label_of(n: Entity) -> u32
     ensures { result ≡ label_number n }
 {
-    if !n.live {
-        return DEAD;
-    }
-    packed(n.label)
+    if n.live { packed(n.label) } else { DEAD }
 }
 
 pub fn labels(entities: [Entity; ENTITIES]) -> [u32; ENTITIES]
@@ -48,35 +48,18 @@ pub fn labels(entities: [Entity; ENTITIES]) -> [u32; ENTITIES]
 fn dominates_each(labels: &[u32; ENTITIES], label: Label, set: u64) -> bool
     ensures { result ≡ members (dominated labels.now label) set }
 {
-    let top = (label.grade as u32) * SETS + LAST_SET;
-    let mut m = set;
-    while m != 0 {
-        let e = u64::trailing_zeros(m);
-        let l = labels[e as usize];
-        if top < l {
-            return false;
-        }
-        if ((l % SETS) as u16).minus(label.cats) != 0 {
-            return false;
-        }
-        m = m.without(e);
-    }
-    true
+    let top = u32::from(label.grade) * SETS + LAST_SET;
+    Members(set).all(|e| {
+        let l = labels[e];
+        (l <= top) & label.cats.contains((l % SETS) as u16)
+    })
 }
 
 // Whether `label` is the label of each member of `set`.
 fn equals_each(labels: &[u32; ENTITIES], label: u32, set: u64) -> bool
     ensures { result ≡ members (λ e. eqb (get_or labels.now e 0) label) set }
 {
-    let mut m = set;
-    while m != 0 {
-        let e = u64::trailing_zeros(m);
-        if labels[e as usize] != label {
-            return false;
-        }
-        m = m.without(e);
-    }
-    true
+    Members(set).all(|e| labels[e] == label)
 }
 
 // The entities of at least a level.
@@ -84,16 +67,7 @@ fn from_level(level: u32) -> u64
     requires { level < 4 }
     ensures { (e : ℕ) → e < entity_count → has result e ≡ leb level (entity_level e) }
 {
-    if level == 0 {
-        return 0xffff_ffff_ffff_ffff;
-    }
-    if level == 1 {
-        return 0xffff_ffff_ffff_0000;
-    }
-    if level == 2 {
-        return 0xffff_ffff_0000_0000;
-    }
-    0xffff_0000_0000_0000
+    u64::MAX << (LEVEL_ENTITIES * level)
 }
 
 // The entities of at most a level.
@@ -101,16 +75,7 @@ pub fn to_level(level: u32) -> u64
     requires { level < 4 }
     ensures { (e : ℕ) → e < entity_count → has result e ≡ leb (entity_level e) level }
 {
-    if level == 0 {
-        return 0xffff;
-    }
-    if level == 1 {
-        return 0xffff_ffff;
-    }
-    if level == 2 {
-        return 0xffff_ffff_ffff;
-    }
-    0xffff_ffff_ffff_ffff
+    u64::MAX >> (LEVEL_ENTITIES * (TOP_LEVEL_ASKED - level))
 }
 
 // Whether what `s`, at a level, has open is of the levels that it may have open: for reading, in edition 2, of any.
@@ -126,10 +91,7 @@ fn levels_allowed(edition: u8, level: u32, s: Session) -> bool
 fn labels_allowed(labels: &[u32; ENTITIES], s: Session) -> bool
     ensures { result ≡ open_labels labels.now s }
 {
-    if !dominates_each(labels, s.label, s.reading) {
-        return false;
-    }
-    equals_each(labels, packed(s.label), s.writing)
+    dominates_each(labels, s.label, s.reading) && equals_each(labels, packed(s.label), s.writing)
 }
 
 // Whether `s`, at a level, is as soundness asks in the edition; `roles` are the live ones.
@@ -140,13 +102,9 @@ fn session_ok(labels: &[u32; ENTITIES], roles: u16, edition: u8, level: u32, s: 
     if !s.live {
         return s == Session::default();
     }
-    if !(session_in_range(s) & roles.contains(s.roles)) {
-        return false;
-    }
-    if !levels_allowed(edition, level, s) {
-        return false;
-    }
-    labels_allowed(labels, s)
+    (session_in_range(s) & roles.contains(s.roles))
+        && levels_allowed(edition, level, s)
+        && labels_allowed(labels, s)
 }
 
 // Whether it is so, and each of its opens has the right behind it; `rights` are those of its roles.

@@ -5,8 +5,7 @@ ghost use Rattle.std.specs.Prelude.{◌%◌, ◌≡◌, get_or};
 ghost use Rattle.bitset.specs.Tests.{all};
 ghost use Rattle.guard.specs.Level.{user_count, entity_count};
 ghost use Rattle.guard.specs.Tables.{no_user, no_entity};
-ghost use Rattle.guard.specs.Label.{same_label, no_label};
-ghost use Rattle.guard.specs.Sound.{edition_in_range, is_root_record, is_empty_entity, is_empty_session};
+ghost use Rattle.guard.specs.Sound.{edition_in_range, is_root_record};
 ghost use Rattle.guard.specs.Private.Tested.{fits, entity_fits, entity_test};
 ghost use Rattle.guard.specs.Private.InForce.{user_in_range, session_in_range};
 
@@ -22,12 +21,14 @@ const ENTITY_COUNT: u8 = ENTITIES as u8;
 
 const LEVEL: u8 = LEVEL_ENTITIES as u8;
 
+#[tactic(auto, unfolding(crate::specs::Sound::user_in_range_in, bitset::specs::Tests::every))]
 fn user_in_range(u: User) -> bool
     ensures { result ≡ user_in_range u }
 {
     (u.ceiling <= TOP_LEVEL) & labels::in_range(u.clearance)
 }
 
+#[tactic(auto, unfolding(crate::specs::Sound::edition_in_range, bitset::specs::Tests::every))]
 pub fn edition_in_range(edition: u8) -> bool
     ensures { result ≡ edition_in_range edition }
 {
@@ -40,6 +41,7 @@ pub fn users_in_range(users: [User; USERS]) -> bool
     users.iter().all(|u| user_in_range(*u))
 }
 
+#[tactic(auto, unfolding(crate::specs::Sound::session_in_range_in, bitset::specs::Tests::every))]
 pub fn session_in_range(s: Session) -> bool
     ensures { result ≡ session_in_range s }
 {
@@ -54,6 +56,7 @@ fn entity_fits(n: Entity) -> bool
         & ((n.shared <= n.kind) & ((n.parent < ENTITY_COUNT) & labels::in_range(n.label)))
 }
 
+#[tactic(auto, unfolding(crate::specs::Sound::is_root_record, crate::specs::Label::same_label, bitset::specs::Tests::every))]
 fn is_root_record(e: u8, n: Entity) -> bool
     ensures { result ≡ is_root_record e n }
 {
@@ -63,6 +66,7 @@ fn is_root_record(e: u8, n: Entity) -> bool
 }
 
 // Whether `n`, at `e`, may lie in `p`, its parent's record.
+#[tactic(auto, unfolding(bitset::specs::Tests::every))]
 fn fits_in(e: u8, n: Entity, p: Entity) -> bool
     ensures { result ≡ fits e n p }
 {

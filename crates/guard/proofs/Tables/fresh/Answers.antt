@@ -15,7 +15,6 @@ use Rattle.guard.specs.Fresh.{build}
 use Rattle.guard.proofs.Soundness.Loops.{long}
 use Rattle.guard.proofs.Soundness.Tests.{and_two}
 use borrow.Author.Rules.{rules}
-use Rattle.guard.proofs.Soundness.Loops.{long}
 use Rattle.guard.proofs.Filling.{every_two}
 use Rattle.guard.proofs.Tables.fresh.Goals as goal
 

@@ -49,5 +49,5 @@ returns-in-14 c = fits_make _ (omega arith) (omega arith)
 pub returns-in-17 : goal.returns-in-17
 returns-in-17 c = fits_tie _ (omega arith) (omega arith)
 
-pub returns-in-19-to-4294967295 : goal.returns-in-19-to-4294967295
-returns-in-19-to-4294967295 c = fits_none _ (omega arith)
+pub returns-in_default : goal.returns-in_default
+returns-in_default c = fits_none _ (omega arith)

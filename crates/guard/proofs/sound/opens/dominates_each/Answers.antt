@@ -1,32 +1,29 @@
--- `guard::sound::opens::dominates_each` tests each member in turn. Assumes nothing.
+-- `guard::sound::opens::dominates_each` tests each member. Assumes nothing.
+use Prim.Native.Nat.{◌<◌}
 use native.Mathlib.Omega.{arith}
-use mathlib.Core.Path.{◌≡◌, sym, ◌∙◌}
-use lib.Count.{count_trailing_zeros}
-use borrow.Author.Tests.{le-leb, lt-leb}
-use Rattle.bitset.specs.Tests.Laws.{is_false, clash, every_i, every_at}
-use Rattle.bitset.specs.Sets.Laws.{without_le}
-use Rattle.guard.proofs.Soundness.Members.{lowest, without_less, members_next, members_miss, members_none, left_none, left_some}
+use mathlib.Core.Bool.{and-true}
+use mathlib.Core.Path.{refl, ◌∙◌}
+use borrow.Author.Rules.{rules}
+use Rattle.bitset.specs.Tests.{every}
+use Rattle.guard.specs.Private.Tested.{dominated, listed}
+use Rattle.std.proofs.Common.{tests}
+use Rattle.std.proofs.lemmas.Iterator.Consumers.{YieldsList-from_first}
+use Rattle.std.proofs.lemmas.Iterator.Adapters.{serves_from_places}
+use Rattle.std.proofs.lemmas.Iterator.Search.{all_from_yields_List}
+use Rattle.guard.specs.declared.members.Members.{Members}
+use Rattle.guard.proofs.Soundness.Listed.{listed_small, all_listed}
 use Rattle.guard.proofs.sound.opens.dominates_each.Goals as goal
 
-pub returns-then-top-l : goal.returns-then-top-l
-returns-then-top-l c =
-    sym (c.loop-m.invariant.1 ∙ members_miss _ _ _ (lowest 64 c.loop-m.m (omega arith) c.loop-m.invariant.0).0 (lowest 64 c.loop-m.m (omega arith) c.loop-m.invariant.0).1 (is_false _ (λ h. clash _ (every_at _ h 0) (lt-leb _ _ c.if-top-l.true))))
-
-pub returns-then-minus-ne0 : goal.returns-then-minus-ne0
-returns-then-minus-ne0 c =
-    sym (c.loop-m.invariant.1 ∙ members_miss _ _ _ (lowest 64 c.loop-m.m (omega arith) c.loop-m.invariant.0).0 (lowest 64 c.loop-m.m (omega arith) c.loop-m.invariant.0).1 (is_false _ (λ h. clash _ (every_at _ h 1) (left_some _ _ _ c.minus.ensures c.if-minus-ne0.true))))
-
-pub loop-m-smaller : goal.loop-m-smaller
-loop-m-smaller c = rw c.without-m.ensures (without_less _ _ (lowest 64 c.loop-m.m (omega arith) c.loop-m.invariant.0).1)
-
-pub loop-m-preserved : goal.loop-m-preserved
-loop-m-preserved c =
-    let l = c.loop-m in
-    let b = l.invariant in
-    rw c.without-m.ensures (
-      omega (arith, without_le l.m (count_trailing_zeros 64 l.m), b.0),
-      b.1 ∙ members_next _ _ _ (every_i _ (le-leb _ _ c.if-top-l.false, (left_none _ _ _ c.minus.ensures c.if-minus-ne0.false, tt))),
-    )
+pub all-requires-clause-callable : goal.all-requires-clause-callable
+all-requires-clause-callable c =
+    serves_from_places (YieldsList-from_first (λ x. x) (λ (s : Members). listed s.0) (listed c.args.set) refl)
+    (λ x q k. search rules)
+    (λ x k l is.
+    let small : x < 64 = omega (arith, listed_small c.args.set k x l) in
+    search rules)
 
 pub returns : goal.returns
-returns c = let none : c.loop-m.m ≡ 0 = omega arith in sym (rw none at c.loop-m.invariant.1 ∙ members_none _)
+unfolding every
+returns c =
+    all_from_yields_List (dominated c.args.labels.now c.args.label) _ _ _ c.all.ensures.ran (YieldsList-from_first (λ x. x) (λ (s : Members). listed s.0) (listed c.args.set) refl) (λ x b q k. search (rules, tests, and-true, c.from.ensures))
+    ∙ all_listed _ c.args.set

@@ -1,24 +1,28 @@
--- `guard::sound::opens::equals_each` tests each member in turn. Assumes nothing.
+-- `guard::sound::opens::equals_each` tests each member. Assumes nothing.
+use Prim.Native.Nat.{◌<◌}
 use native.Mathlib.Omega.{arith}
-use mathlib.Core.Path.{◌≡◌, sym, ◌∙◌}
-use lib.Count.{count_trailing_zeros}
-use borrow.Author.Tests.{eq-eqb, ne_eqb}
-use Rattle.bitset.specs.Sets.Laws.{without_le}
-use Rattle.guard.proofs.Soundness.Members.{lowest, without_less, members_next, members_miss, members_none}
+use mathlib.Core.Path.{refl, ◌∙◌}
+use borrow.Author.Rules.{rules}
+use lib.ListN.{get_or}
+use lib.Dec.{eqb}
+use Rattle.guard.specs.Private.Tested.{listed}
+use Rattle.std.proofs.Common.{tests}
+use Rattle.std.proofs.lemmas.Iterator.Consumers.{YieldsList-from_first}
+use Rattle.std.proofs.lemmas.Iterator.Adapters.{serves_from_places}
+use Rattle.std.proofs.lemmas.Iterator.Search.{all_from_yields_List}
+use Rattle.guard.specs.declared.members.Members.{Members}
+use Rattle.guard.proofs.Soundness.Listed.{listed_small, all_listed}
 use Rattle.guard.proofs.sound.opens.equals_each.Goals as goal
 
-pub returns-then-labels-e : goal.returns-then-labels-e
-returns-then-labels-e c =
-    sym (c.loop-m.invariant.1 ∙ members_miss _ _ _ (lowest 64 c.loop-m.m (omega arith) c.loop-m.invariant.0).0 (lowest 64 c.loop-m.m (omega arith) c.loop-m.invariant.0).1 (ne_eqb _ _ c.if-labels-e.true))
-
-pub loop-m-smaller : goal.loop-m-smaller
-loop-m-smaller c = rw c.without-m.ensures (without_less _ _ (lowest 64 c.loop-m.m (omega arith) c.loop-m.invariant.0).1)
-
-pub loop-m-preserved : goal.loop-m-preserved
-loop-m-preserved c =
-    let m = c.loop-m.m in
-    let b = c.loop-m.invariant in
-    rw c.without-m.ensures (omega (arith, without_le m (count_trailing_zeros 64 m), b.0), b.1 ∙ members_next _ _ _ (eq-eqb _ _ c.if-labels-e.false))
+pub all-requires-clause-callable : goal.all-requires-clause-callable
+all-requires-clause-callable c =
+    serves_from_places (YieldsList-from_first (λ x. x) (λ (s : Members). listed s.0) (listed c.args.set) refl)
+    (λ x q k. search rules)
+    (λ x k l is.
+    let small : x < 64 = omega (arith, listed_small c.args.set k x l) in
+    search rules)
 
 pub returns : goal.returns
-returns c = let none : c.loop-m.m ≡ 0 = omega arith in sym (rw none at c.loop-m.invariant.1 ∙ members_none _)
+returns c =
+    all_from_yields_List (λ e. eqb (get_or c.args.labels.now e 0) c.args.label) _ _ _ c.all.ensures.ran (YieldsList-from_first (λ x. x) (λ (s : Members). listed s.0) (listed c.args.set) refl) (λ x b q k. search (rules, tests))
+    ∙ all_listed _ c.args.set
