@@ -5,3 +5,4 @@ pub mod Inside
 pub mod Tested
 pub mod Scan
 pub mod Firm
+pub mod Apply

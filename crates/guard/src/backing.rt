@@ -20,10 +20,11 @@ pub fn backed(roles: &[Role; ROLES], s: Session) -> Session
     ensures { result ≡ backed_by roles.now s }
 {
     let rights = scan::gather(roles, s.roles);
-    let mut n = s;
-    n.reading = s.reading & rights.reads;
-    n.writing = s.writing & rights.writes;
-    n
+    Session {
+        reading: s.reading & rights.reads,
+        writing: s.writing & rights.writes,
+        ..s
+    }
 }
 
 // The entities on which a role lost read or write, its own or those of the roles below it.

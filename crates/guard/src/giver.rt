@@ -23,14 +23,14 @@ fn gives(roles: &[Role; ROLES], r: u32, right: Right, e: usize) -> bool
     ensures { result ≡ has_by roles.now right e r }
 {
     let role = &roles[r as usize];
-    if scan::is_in(role.on(right), e) {
+    if role.on(right).has(e as u32) {
         return true;
     }
     if role.juniors == 0 {
         return false;
     }
     let rights = scan::gather(roles, 0u16.with(r));
-    scan::is_in(rights.on(right), e)
+    rights.on(right).has(e as u32)
 }
 
 // The lowest-numbered of the roles held that has the right on the entity.

@@ -7,6 +7,6 @@ pub returns-then-asks_way : goal.returns-then-asks_way
 unfolding reached_by
 returns-then-asks_way c = rw (sym c.asks_way.ensures ∙ c.if-asks_way.true, c.climbs.ensures)
 
-pub returns : goal.returns
+pub returns-else-asks_way : goal.returns-else-asks_way
 unfolding reached_by
-returns c = rw (sym c.asks_way.ensures ∙ c.if-asks_way.false)
+returns-else-asks_way c = rw (sym c.asks_way.ensures ∙ c.if-asks_way.false, c.if-asks_way.false)
