@@ -1,7 +1,7 @@
 // Roles, their rights, by the set of the entities on which each may have some, and their ties.
 ghost use Rattle.std.specs.Prelude.{ℕ, ◌<◌, ◌≡◌, cond, eqb, get_or, is_some, IfSome};
 ghost use Rattle.bitset.specs.Tests.{all};
-ghost use Rattle.bitset.specs.Sets.{has, with};
+ghost use Rattle.bitset.specs.Sets.{has};
 ghost use Rattle.guard.specs.Level.{role_count, role_level};
 ghost use Rattle.guard.specs.Tables.{no_role};
 ghost use Rattle.guard.specs.Private.Tested.{grantable_in, role_test};
@@ -34,17 +34,6 @@ fn role_ok(set: u64, r: u8, p: Role) -> bool
     bound(p.live, set).contains(p.reads | p.writes | p.executes | p.owns)
 }
 
-// `set`, and `r` where it is live.
-fn listed(set: u16, r: u8, live: bool) -> u16
-    requires { r < role_count }
-    ensures { result ≡ cond live (with set r) set }
-{
-    if !live {
-        return set;
-    }
-    set.with(r as u32)
-}
-
 // Whether each role is as soundness asks, where `live` are the live entities; if so, the set of those that are live.
 pub fn roles_ok(roles: &[Role; ROLES], live: u64) -> Option<u16>
     ensures ok { is_some result ≡ all role_count (λ k. role_test (grantable_in live k) k (get_or roles.now k no_role)) }
@@ -57,7 +46,9 @@ pub fn roles_ok(roles: &[Role; ROLES], live: u64) -> Option<u16>
         if !role_ok(set, r, role) {
             return None;
         }
-        found = listed(found, r, role.live);
+        if role.live {
+            found = found.with(r as u32);
+        }
     }
     Some(found)
 }
@@ -67,16 +58,12 @@ fn of_level(level: u32) -> u16
     requires { level < 4 }
     ensures { (j : ℕ) → j < role_count → has result j ≡ eqb (role_level j) level }
 {
-    if level == 0 {
-        return 0x000f;
+    match level {
+        0 => 0x000f,
+        1 => 0x00f0,
+        2 => 0x0f00,
+        _ => 0xf000,
     }
-    if level == 1 {
-        return 0x00f0;
-    }
-    if level == 2 {
-        return 0x0f00;
-    }
-    0xf000
 }
 
 // Whether the ties of role `r` join it to roles of its level among those that are live, and it is not below itself.

@@ -6,18 +6,18 @@ use Rattle.bitset.specs.Sets.{has}
 use Rattle.guard.proofs.Soundness.Tests.{agree_e}
 use Rattle.guard.proofs.sound.rights.of_level.Goals as goal
 
-pub returns-then-level-eq0 : goal.returns-then-level-eq0
+pub returns-in-0 : goal.returns-in-0
 unfolding has all
-returns-then-level-eq0 c = rw c.if-level-eq0.true (agree_e 16 _ _ refl)
+returns-in-0 c = rw c.in-0.is (agree_e 16 _ _ refl)
 
-pub returns-then-level-eq1 : goal.returns-then-level-eq1
+pub returns-in-1 : goal.returns-in-1
 unfolding has all
-returns-then-level-eq1 c = rw c.if-level-eq1.true (agree_e 16 _ _ refl)
+returns-in-1 c = rw c.in-1.is (agree_e 16 _ _ refl)
 
-pub returns-then-level-eq2 : goal.returns-then-level-eq2
+pub returns-in-2 : goal.returns-in-2
 unfolding has all
-returns-then-level-eq2 c = rw c.if-level-eq2.true (agree_e 16 _ _ refl)
+returns-in-2 c = rw c.in-2.is (agree_e 16 _ _ refl)
 
-pub returns : goal.returns
+pub returns-in_default : goal.returns-in_default
 unfolding has all
-returns c = let three : c.args.level ≡ 3 = omega arith in rw three (agree_e 16 _ _ refl)
+returns-in_default c = let three : c.args.level ≡ 3 = omega arith in rw three (agree_e 16 _ _ refl)
