@@ -116,6 +116,7 @@ fn climbs(keys: &[u32; ENTITIES], through: u64, e: usize) -> bool
     at % BLOCK == 0
 }
 
+#[tactic(auto, unfolding(crate::specs::Private::Scan::reached_by))]
 fn reached(keys: &[u32; ENTITIES], call: u32, e: usize, through: u64) -> bool
     requires { e < entity_count }
     ensures { result ≡ reached_by keys.now call e through }
@@ -152,6 +153,7 @@ fn has_senior(roles: &[Role; ROLES], r: u32) -> bool
 }
 
 // What 15 and 22 ask of the ties: unmake whether `r` has a junior or a senior, join whether it is `j` or below it.
+#[tactic(auto, unfolding(crate::specs::Private::Scan::tied_by, bitset::specs::Tests::either))]
 fn tied(roles: &[Role; ROLES], call: u32, r: usize, j: usize) -> bool
     requires { (r < role_count) × (j < role_count) }
     ensures { result ≡ tied_by roles.now call r j }
@@ -164,6 +166,7 @@ fn tied(roles: &[Role; ROLES], call: u32, r: usize, j: usize) -> bool
 }
 
 // What 14 and 15 ask: delete whether `e` has a child, create and rename whether a child of `o` has the name.
+#[tactic(auto, unfolding(crate::specs::Private::Scan::kin_by))]
 fn kin(keys: &[u32; ENTITIES], call: u32, e: usize, o: usize, name: u32) -> bool
     requires { (e < entity_count) × (o < entity_count) }
     ensures { result ≡ kin_by keys.now call e o name }

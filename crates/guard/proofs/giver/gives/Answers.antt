@@ -1,14 +1,8 @@
 -- `gives`: the role's own set has the entity, or one of a role below it. Assumes nothing.
 use mathlib.Core.Path.{sym, ◌∙◌}
 use native.Mathlib.Nat.{mod-eq_of_lt}
-use Rattle.bitset.specs.Tests.Laws.{either_l}
-use Rattle.guard.specs.Private.Scan.{has_by}
 use Rattle.guard.proofs.Descent.{given_one, untied_by}
 use Rattle.guard.proofs.giver.gives.Goals as goal
-
-pub returns-then-has : goal.returns-then-has
-unfolding has_by
-returns-then-has c = sym (either_l _ _ (rw (← c.on.ensures) (sym c.has.ensures ∙ c.if-has.true)))
 
 pub returns-then-role-eq0 : goal.returns-then-role-eq0
 returns-then-role-eq0 c =

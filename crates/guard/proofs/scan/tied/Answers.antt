@@ -1,17 +1,9 @@
 -- `tied`: unmake looks for a junior or a senior, join for the senior at or below the junior. Assumes nothing.
 use mathlib.Core.Path.{◌∙◌}
 use native.Mathlib.Nat.{mod-eq_of_lt}
-use native.Mathlib.Omega.{arith}
-use borrow.Author.Tests.{ne_eqb}
-use Rattle.bitset.specs.Tests.{either}
-use Rattle.guard.specs.Kind as kind
 use Rattle.guard.specs.Private.Scan.{tied_by}
 use Rattle.guard.proofs.Descent.{met_one}
 use Rattle.guard.proofs.scan.tied.Goals as goal
-
-pub returns-in-15 : goal.returns-in-15
-unfolding tied_by either
-returns-in-15 c = rw (c.in-15.is, c.has_senior.ensures)
 
 pub returns-in-17 : goal.returns-in-17
 unfolding tied_by
@@ -19,7 +11,3 @@ returns-in-17 c =
     c.has.ensures
     ∙ c.gather.ensures.met _ c.requires.0
     ∙ rw (c.with.ensures, mod-eq_of_lt c.requires.1, c.in-17.is) (met_one c.args.roles.now c.args.j c.requires.1 c.args.r)
-
-pub returns-in_default : goal.returns-in_default
-unfolding tied_by
-returns-in_default c = rw (ne_eqb c.args.call kind.unmake (omega arith), ne_eqb c.args.call kind.join (omega arith))

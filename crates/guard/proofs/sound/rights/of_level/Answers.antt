@@ -1,23 +1,17 @@
 -- `of_level`: each of the four masks, member by member. Assumes nothing.
-use native.Mathlib.Omega.{arith}
+use Prim.Native.Nat.{ℕ, ◌*◌, ◌%◌, ◌^◌, ◌<◌}
 use mathlib.Core.Path.{◌≡◌, refl}
+use native.Mathlib.Omega.{arith}
+use lib.Dec.{eqb}
 use Rattle.bitset.specs.Tests.{all}
 use Rattle.bitset.specs.Sets.{has}
+use Rattle.guard.specs.Level.{role_level}
+use Rattle.guard.proofs.Ranges.{span}
 use Rattle.guard.proofs.Soundness.Tests.{agree_e}
 use Rattle.guard.proofs.sound.rights.of_level.Goals as goal
 
-pub returns-in-0 : goal.returns-in-0
+pub returns : goal.returns
 unfolding has all
-returns-in-0 c = rw c.in-0.is (agree_e 16 _ _ refl)
-
-pub returns-in-1 : goal.returns-in-1
-unfolding has all
-returns-in-1 c = rw c.in-1.is (agree_e 16 _ _ refl)
-
-pub returns-in-2 : goal.returns-in-2
-unfolding has all
-returns-in-2 c = rw c.in-2.is (agree_e 16 _ _ refl)
-
-pub returns-in_default : goal.returns-in_default
-unfolding has all
-returns-in_default c = let three : c.args.level ≡ 3 = omega arith in rw three (agree_e 16 _ _ refl)
+returns c =
+    span (λ n. (j : ℕ) → j < 16 → has ((15 * 2 ^ (4 * n)) % 65536) j ≡ eqb (role_level j) n) 0 4
+    (agree_e 16 _ _ refl, (agree_e 16 _ _ refl, (agree_e 16 _ _ refl, (agree_e 16 _ _ refl, tt)))) c.args.level (omega arith) c.requires
