@@ -20,8 +20,7 @@ impl Tables {
         ensures keys { Keys self.new.entities keys.new }
         ensures told { result ≡ role_opening self.old q }
     {
-        let changed = change::change_of(q.call);
-        match changed {
+        match change::change_of(q.call) {
             Change::Session => {
                 let session = self.sessions[at.seat];
                 self.sessions[at.seat] = sessions::after(&self.roles, q, session);
@@ -29,26 +28,23 @@ impl Tables {
             }
             Change::Entity => {
                 let entity = self.entities[at.entity];
-                let f2 = entities::after(q, entity);
-                self.entities[at.entity] = f2;
-                keys[at.entity] = tree::key(f2);
+                let stored = entities::after(q, entity);
+                self.entities[at.entity] = stored;
+                keys[at.entity] = tree::key(stored);
                 if q.call == kinds::CREATE {
-                    let role = self.roles[at.role];
-                    self.roles[at.role] = roles::owning(q.entity, role);
+                    self.roles[at.role] = roles::owning(q.entity, self.roles[at.role]);
                 } else if q.call == kinds::DELETE {
-                    let all = self.roles;
-                    self.roles = roles::without_entity(all, q.entity);
-                    let seats = self.sessions;
-                    self.sessions = sessions::without_entity(seats, q.entity);
+                    self.roles = roles::without_entity(self.roles, q.entity);
+                    self.sessions = sessions::without_entity(self.sessions, q.entity);
                 }
                 None
             }
             Change::Role => {
                 let role = self.roles[at.role];
-                let p2 = roles::after(q, role);
-                self.roles[at.role] = p2;
+                let stored = roles::after(q, role);
+                self.roles[at.role] = stored;
                 if change::ends_opens(q.call) {
-                    let lost = backing::lost(&self.roles, role, p2);
+                    let lost = backing::lost(&self.roles, role, stored);
                     let unmade = q.call == kinds::UNMAKE;
                     backing::sweep(&mut self.sessions, &self.roles, q.role, lost, unmade);
                 }

@@ -37,7 +37,7 @@ after-requires c = fits c.requires.accepted
 pub returns-in-Session-clause-tables : goal.returns-in-Session-clause-tables
 returns-in-Session-clause-tables c =
     let a = c.requires.accepted in
-    session_stored _ _ a.zero _ a.near a.is_sound (told ASession _ _ c.change_of-changed.ensures c.in-Session.is) _ c.after.ensures
+    session_stored _ _ a.zero _ a.near a.is_sound (told ASession _ _ c.change_of.ensures c.in-Session.is) _ c.after.ensures
 
 pub returns-in-Session-clause-told : goal.returns-in-Session-clause-told
 returns-in-Session-clause-told c =
@@ -45,8 +45,8 @@ returns-in-Session-clause-told c =
     opens_by _ a.is_sound _ (fits a) _ a.near _ c.role_told.ensures
 
 -- ---- an entity
-pub after-f2-requires : goal.after-f2-requires
-after-f2-requires c = (told AnEntity _ _ c.change_of-changed.ensures c.in-Entity.is, fits c.requires.accepted)
+pub after-stored-requires : goal.after-stored-requires
+after-stored-requires c = (told AnEntity _ _ c.change_of.ensures c.in-Entity.is, fits c.requires.accepted)
 
 pub owning-requires : goal.owning-requires
 owning-requires c = (in_create _ (fits c.requires.accepted) c.if-q-eq-CREATE.true).entity
@@ -54,45 +54,45 @@ owning-requires c = (in_create _ (fits c.requires.accepted) c.if-q-eq-CREATE.tru
 pub returns-then-q-eq-CREATE-clause-tables : goal.returns-then-q-eq-CREATE-clause-tables
 returns-then-q-eq-CREATE-clause-tables c =
     let a = c.requires.accepted in
-    create_stored _ _ a.zero _ a.near c.if-q-eq-CREATE.true _ _ c.after-f2.ensures c.owning.ensures
+    create_stored _ _ a.zero _ a.near c.if-q-eq-CREATE.true _ _ c.after-stored.ensures c.owning.ensures
 
 pub returns-then-q-eq-CREATE-clause-told : goal.returns-then-q-eq-CREATE-clause-told
-returns-then-q-eq-CREATE-clause-told c = entity_silent _ _ (told AnEntity _ _ c.change_of-changed.ensures c.in-Entity.is)
+returns-then-q-eq-CREATE-clause-told c = entity_silent _ _ (told AnEntity _ _ c.change_of.ensures c.in-Entity.is)
 
 pub returns-then-q-eq-DELETE-clause-tables : goal.returns-then-q-eq-DELETE-clause-tables
 returns-then-q-eq-DELETE-clause-tables c =
     let a = c.requires.accepted in
     rw (c.without_entity-self.ensures, c.without_entity-self-then-q-eq-DELETE.ensures)
-    (delete_stored _ _ a.zero _ a.near c.if-q-eq-DELETE.true _ c.after-f2.ensures)
+    (delete_stored _ _ a.zero _ a.near c.if-q-eq-DELETE.true _ c.after-stored.ensures)
 
 pub returns-then-q-eq-DELETE-clause-told : goal.returns-then-q-eq-DELETE-clause-told
-returns-then-q-eq-DELETE-clause-told c = entity_silent _ _ (told AnEntity _ _ c.change_of-changed.ensures c.in-Entity.is)
+returns-then-q-eq-DELETE-clause-told c = entity_silent _ _ (told AnEntity _ _ c.change_of.ensures c.in-Entity.is)
 
 pub returns-else-q-eq-DELETE-clause-tables : goal.returns-else-q-eq-DELETE-clause-tables
 returns-else-q-eq-DELETE-clause-tables c =
     let a = c.requires.accepted in
-    alone_stored _ _ a.zero _ a.near (told AnEntity _ _ c.change_of-changed.ensures c.in-Entity.is) c.if-q-eq-CREATE.false c.if-q-eq-DELETE.false _ c.after-f2.ensures
+    alone_stored _ _ a.zero _ a.near (told AnEntity _ _ c.change_of.ensures c.in-Entity.is) c.if-q-eq-CREATE.false c.if-q-eq-DELETE.false _ c.after-stored.ensures
 
 pub returns-else-q-eq-DELETE-clause-told : goal.returns-else-q-eq-DELETE-clause-told
-returns-else-q-eq-DELETE-clause-told c = entity_silent _ _ (told AnEntity _ _ c.change_of-changed.ensures c.in-Entity.is)
+returns-else-q-eq-DELETE-clause-told c = entity_silent _ _ (told AnEntity _ _ c.change_of.ensures c.in-Entity.is)
 
 -- ---- a role
-pub after-p2-requires : goal.after-p2-requires
-after-p2-requires c = fits c.requires.accepted
+pub after-stored-requires-in-Role : goal.after-stored-requires-in-Role
+after-stored-requires-in-Role c = fits c.requires.accepted
 
 pub returns-then-ends_opens-clause-tables : goal.returns-then-ends_opens-clause-tables
 returns-then-ends_opens-clause-tables c =
     let a = c.requires.accepted in
     rw c.sweep.ensures
-    (loss_stored _ _ a.zero _ a.near a.is_sound _ c.after-p2.ensures _ c.lost-lost.ensures (loses _ (sym c.ends_opens.ensures ∙ c.if-ends_opens.true)) _ refl)
+    (loss_stored _ _ a.zero _ a.near a.is_sound _ c.after-stored-in-Role.ensures _ c.lost-lost.ensures (loses _ (sym c.ends_opens.ensures ∙ c.if-ends_opens.true)) _ refl)
 
 pub returns-then-ends_opens-clause-told : goal.returns-then-ends_opens-clause-told
-returns-then-ends_opens-clause-told c = role_silent _ _ (told ARole _ _ c.change_of-changed.ensures c.in-Role.is).0
+returns-then-ends_opens-clause-told c = role_silent _ _ (told ARole _ _ c.change_of.ensures c.in-Role.is).0
 
 pub returns-else-ends_opens-clause-tables : goal.returns-else-ends_opens-clause-tables
 returns-else-ends_opens-clause-tables c =
     let a = c.requires.accepted in
-    role_stored _ _ a.zero _ a.near a.is_sound (told ARole _ _ c.change_of-changed.ensures c.in-Role.is) (no_loss _ (sym c.ends_opens.ensures ∙ c.if-ends_opens.false)) _ c.after-p2.ensures
+    role_stored _ _ a.zero _ a.near a.is_sound (told ARole _ _ c.change_of.ensures c.in-Role.is) (no_loss _ (sym c.ends_opens.ensures ∙ c.if-ends_opens.false)) _ c.after-stored-in-Role.ensures
 
 pub returns-else-ends_opens-clause-told : goal.returns-else-ends_opens-clause-told
-returns-else-ends_opens-clause-told c = role_silent _ _ (told ARole _ _ c.change_of-changed.ensures c.in-Role.is).0
+returns-else-ends_opens-clause-told c = role_silent _ _ (told ARole _ _ c.change_of.ensures c.in-Role.is).0
