@@ -1,5 +1,4 @@
--- The column of the entities along the stores, and what the scans tell of the tables.
---     keys_set, keys_other          an entity stored, with its key; no entity stored
+-- What the scans tell of the tables.
 --     Giver, giver-..               the lowest role held that gives a right
 --     way_of                        the climb by keys is "reaches"
 --     name_of, child_of_lem         a name among the children, a child
@@ -12,8 +11,7 @@ use mathlib.Core.List.{List, [], ◌∷◌}
 use native.Mathlib.Decide.{ℕ_discrete}
 use native.Mathlib.Omega.{arith}
 use lib.Dec.{eqb}
-use lib.ListN.{length, get_or, set, length-set}
-use lib.Seq.{get_or-set_same, get_or-set_other}
+use lib.ListN.{get_or}
 use borrow.Author.Tests.{eqb-true, eq-eqb}
 use Rattle.bitset.specs.Tests.{every, some}
 use Rattle.bitset.specs.Tests.Laws.{both, clash, is_false, not_of_false, of_not_true, every_i, every_at, some_i, some_e}
@@ -21,15 +19,13 @@ use Rattle.bitset.specs.Sets.{has, without}
 use Rattle.bitset.specs.Sets.Laws.{has_none, has_without_other}
 use Rattle.guard.specs.Level.{is_root}
 use Rattle.guard.specs.Told.{lowest}
-use Rattle.guard.specs.Tables.{no_entity, entity_at, execute, has_right, is_child}
+use Rattle.guard.specs.Tables.{entity_at, execute, has_right, is_child}
 use Rattle.guard.specs.Chain.{reaches}
 use Rattle.guard.specs.Sound.{sound}
 use Rattle.guard.specs.Conditions.{name_taken, has_children}
-use Rattle.guard.specs.Private.Tested.{key_of}
 use Rattle.guard.specs.Private.Scan.{Keys, has_by, gives, climbs_by, name_by, child_by}
 use Rattle.guard.specs.declared.Role.{Role}
 use Rattle.guard.specs.declared.scan.Right.{Right}
-use Rattle.guard.specs.declared.Entity.{Entity}
 use Rattle.guard.specs.declared.Tables.{Tables}
 use Rattle.guard.specs.declared.Request.{Request}
 use Rattle.guard.proofs.Laws.Told.{lowest_at, lowest_none, lowest_cong}
@@ -37,24 +33,6 @@ use Rattle.guard.proofs.Laws.Sound.{parent_level}
 use Rattle.guard.proofs.Soundness.Climb.{climbs_cong}
 use Rattle.guard.proofs.Soundness.Keys.{key_live, key_dead, parent_of_key}
 use Rattle.guard.proofs.Soundness.Whole.{numbers}
-
--- ---- keys along the stores
-module _ (old : List Entity) (keys : List ℕ) (K : Keys old keys) (new : List Entity) where
-  pub keys_set : length old ≡ 64 → (e : ℕ) → e < 64 → (f : Entity) (k : ℕ) → k ≡ key_of f → new ≡ set old e f
-      → Keys new (set keys e k)
-  keys_set long e l f k h same = record { long = simp length-set K.long; at = λ n b. go n b (ℕ_discrete n e) }
-    where
-      at : (n : ℕ) → key_of (get_or (set old e f) n no_entity) ≡ key_of (get_or new n no_entity)
-      at n = ap (λ (l : List Entity). key_of (get_or l n no_entity)) (sym same)
-
-      go : (n : ℕ) → n < 64 → Dec (n ≡ e) → get_or (set keys e k) n 0 ≡ key_of (get_or new n no_entity)
-      go n b (yes s) =
-          rw s (get_or-set_same keys e k 0 (rw K.long l) ∙ h ∙ ap key_of (sym (get_or-set_same old e f no_entity (rw long l))) ∙ at e)
-      go n b (no s) =
-          get_or-set_other keys e n k 0 s ∙ K.at n b ∙ ap key_of (sym (get_or-set_other old e n f no_entity s)) ∙ at n
-
-  pub keys_other : new ≡ old → Keys new keys
-  keys_other h = record { long = K.long; at = λ n b. K.at n b ∙ ap (λ (l : List Entity). key_of (get_or l n no_entity)) (sym h) }
 
 -- the lowest role of those left that gives the right: it is found, or the search goes on without it, or there is none
 module _ (roles : List Role) (right : Right) (e : ℕ) where

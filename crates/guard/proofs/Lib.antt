@@ -7,6 +7,7 @@ pub mod Decisions
 pub mod Ranges
 pub mod Answers
 pub mod Sweeps
+pub mod Chains
 pub mod BackedOpens
 pub mod Taking
 pub mod Filling

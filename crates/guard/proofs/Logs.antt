@@ -2,11 +2,11 @@
 --     each                              what each request of a log gets: the answers, or the roles told
 --     run_append, each_append           one log after the other
 --     run_snoc, each_snoc, length_each  one request more at the end of a log
---     store_more, set_again, same_store the next byte, stored in its place
+--     store_more, same_store            the next byte, stored in its place
 --     batch_room, batch_space, batch_rows      a batch has room for its answers and its roles, and each of its rows is whole
 --     all_refused                       on unsound tables every answer is 1, no role is told, and the tables stay
 -- Assumes nothing.
-use Prim.Native.Nat.{ℕ, zero, suc, ◌+◌, ◌-◌, ◌*◌, ◌/◌, ◌≤◌, ◌<◌}
+use Prim.Native.Nat.{ℕ, suc, ◌+◌, ◌*◌, ◌/◌, ◌≤◌, ◌<◌}
 use mathlib.Core.Path.{◌≡◌, refl, sym, ap, ◌∙◌}
 use mathlib.Core.Bool.{Bool, true, false, cond}
 use mathlib.Core.List.{List, [], ◌∷◌, ◌++◌, map}
@@ -56,15 +56,6 @@ length_each f t (q ∷ log) = ap suc (length_each f (next t q) log)
 pub store_more : (l old : List ℕ) (i v : ℕ) → length l ≡ i → i < length old → set (l ++ drop i old) i v ≡ (l ++ (v ∷ [])) ++ drop (i + 1) old
 store_more l old i v long low =
     rw (add-one, drop-cons old i 0) (set_at l (get_or old i 0) (drop (suc i) old) v i long ∙ sym (append_snoc l v (drop (suc i) old)))
-
--- the byte before the next one, stored anew
-pub set_again : (l : List ℕ) (i a b : ℕ) → set (set l i a) (i + 1 - 1) b ≡ set l i b
-set_again l i a b = let same : i + 1 - 1 ≡ i = omega arith in rw same (go l i)
-  where
-    go : (l : List ℕ) (i : ℕ) → set (set l i a) i b ≡ set l i b
-    go [] i = refl
-    go (x ∷ l) zero = refl
-    go (x ∷ l) (suc i) = ap (λ (m : List ℕ). x ∷ m) (go l i)
 
 same_more : (old : List ℕ) (i v : ℕ) → i < length old → set {A = ℕ} (replicate i v ++ drop i old) i v ≡ replicate (i + 1) v ++ drop (i + 1) old
 same_more old i v low =

@@ -2,14 +2,11 @@
 --     mapped                        the first i records by f, the others as they are
 --     mapped_more, mapped_step      one record more
 --     mapped_all, mapped_end         all of them
---     mapped_length                 as many as before
---     mapped_at, mapped_past        a record of the first, and one past them
 -- Assumes nothing.
-use Prim.Native.Nat.{ℕ, zero, suc, ◌+◌, ◌≤◌, ◌<◌}
+use Prim.Native.Nat.{ℕ, zero, suc, ◌+◌}
 use mathlib.Core.Path.{◌≡◌, refl, ap, ◌∙◌}
 use mathlib.Core.List.{List, [], ◌∷◌, map}
 use native.Mathlib.Numerals.{add-one}
-use native.Mathlib.Omega.{arith}
 use lib.ListN.{length, get_or, set}
 
 module _ {A : Type 0} (f : A → A) where
@@ -30,23 +27,6 @@ module _ {A : Type 0} (f : A → A) where
   pub mapped_all : (l : List A) → mapped (length l) l ≡ map f l
   mapped_all [] = refl
   mapped_all (x ∷ l) = ap (λ (k : List A). f x ∷ k) (mapped_all l)
-
-  pub mapped_length : (i : ℕ) (l : List A) → length (mapped i l) ≡ length l
-  mapped_length zero l = refl
-  mapped_length (suc i) [] = refl
-  mapped_length (suc i) (x ∷ l) = ap suc (mapped_length i l)
-
-  pub mapped_at : (n : ℕ) (l : List A) (i : ℕ) (d : A) → i < n → i < length l → get_or (mapped n l) i d ≡ f (get_or l i d)
-  mapped_at zero l i d h k = absurd (omega arith)
-  mapped_at (suc n) [] i d h k = absurd (omega arith)
-  mapped_at (suc n) (x ∷ l) zero d h k = refl
-  mapped_at (suc n) (x ∷ l) (suc i) d h k = mapped_at n l i d (omega arith) (omega arith)
-
-  pub mapped_past : (n : ℕ) (l : List A) (i : ℕ) (d : A) → n ≤ i → get_or (mapped n l) i d ≡ get_or l i d
-  mapped_past zero l i d h = refl
-  mapped_past (suc n) [] i d h = refl
-  mapped_past (suc n) (x ∷ l) zero d h = absurd (omega arith)
-  mapped_past (suc n) (x ∷ l) (suc i) d h = mapped_past n l i d (omega arith)
 
   mapped_done : (l : List A) (n : ℕ) → length l ≡ n → mapped n l ≡ map f l
   mapped_done l n h = rw (← h) (mapped_all l)

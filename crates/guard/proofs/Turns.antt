@@ -52,25 +52,25 @@ module _ (t : Tables) (q : Request) (n : ℕ) (h : sound t ≡ true) (judged : n
   unfolding answer_in first in_ranges_in number
   said = rw h (sym judged)
 
-  pub refuses : (n ≡ 0 → ⊥) → Stepped t q t n 255
-  unfolding next_in role_told_in role_byte
-  refuses k = record { tables = rw (said, ne_eqb n 0 k); answered = sym said; told = rw (said, ne_eqb n 0 k) }
+  pub refuses : (n ≡ 0 → ⊥) → (b : ℕ) → b ≡ role_byte None → Stepped t q t n b
+  unfolding next_in role_told_in
+  refuses k b r = record { tables = rw (said, ne_eqb n 0 k); answered = sym said; told = rw (said, ne_eqb n 0 k) r }
 
   pub does : n ≡ 0 → (u : Tables) → u ≡ (rule_of q).effect q t → (b : ℕ) → b ≡ role_byte (role_opening t q) → Stepped t q u n b
   unfolding next_in role_told_in
   does z u e b r = record { tables = rw (said, eq-eqb n 0 z) e; answered = sym said; told = rw (said, eq-eqb n 0 z) r }
 
 -- what is no openr and no openw tells none
-pub opens_nothing : (t : Tables) (q : Request) → (q.call ≡ kind.openr → ⊥) → (q.call ≡ kind.openw → ⊥) → 255 ≡ role_byte (role_opening t q)
-unfolding role_opening role_byte
+pub opens_nothing : (t : Tables) (q : Request) → (q.call ≡ kind.openr → ⊥) → (q.call ≡ kind.openw → ⊥) → None ≡ role_opening t q
+unfolding role_opening
 opens_nothing t q r w = rw (ne_eqb q.call kind.openr r, ne_eqb q.call kind.openw w)
 
 -- what the records of the roles tell for an accepted request is what it tells
 pub opens_by : (t : Tables) → sound t ≡ true → (q : Request) → in_ranges q ≡ true → (p : Places) → Placed q p
-    → (told : Option ℕ) → told ≡ opened_by t.roles q.call (session_at t p.seat).roles p.entity → (b : ℕ) → b ≡ role_byte told → b ≡ role_byte (role_opening t q)
+    → (told : Option ℕ) → told ≡ opened_by t.roles q.call (session_at t p.seat).roles p.entity → told ≡ role_opening t q
 unfolding role_opening
-opens_by t ok q fits p near told h b is =
-    is ∙ ap role_byte (h ∙ role_of t (formed_e t ok).role (formed_e t ok).ties p.seat q.call p.entity near.entity.small ∙ opening_same t t q.call _ _ _ _ reads writes)
+opens_by t ok q fits p near told h =
+    h ∙ role_of t (formed_e t ok).role (formed_e t ok).ties p.seat q.call p.entity near.entity.small ∙ opening_same t t q.call _ _ _ _ reads writes
   where
     reads : q.call ≡ kind.openr → role_for t p.seat read p.entity ≡ role_for t q.seat read q.entity
     reads is = let (s, l) = in_openr q fits is in rw (near.seat.same s, near.entity.same l)

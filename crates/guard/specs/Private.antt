@@ -6,3 +6,4 @@ pub mod Inside
 pub mod Tested
 pub mod Scan
 pub mod Firm
+pub mod Apply

@@ -20,10 +20,11 @@ pub fn backed(roles: &[Role; ROLES], s: Session) -> Session
     ensures { result ≡ backed_by roles.now s }
 {
     let rights = scan::gather(roles, s.roles);
-    let mut n = s;
-    n.reading = s.reading & rights.reads;
-    n.writing = s.writing & rights.writes;
-    n
+    Session {
+        reading: s.reading & rights.reads,
+        writing: s.writing & rights.writes,
+        ..s
+    }
 }
 
 // The entities on which a role lost read or write, its own or those of the roles below it.
@@ -37,24 +38,24 @@ pub fn lost(roles: &[Role; ROLES], old: Role, new: Role) -> u64
 }
 
 // Session `s` after a role lost rights on the entities of a set: nothing of it changes unless it has one of them open.
+#[tactic(auto, unfolding(crate::specs::Private::Scan::concerned, crate::specs::Private::Scan::kept_by, bitset::specs::Sets::join))]
 fn kept(roles: &[Role; ROLES], lost: u64, s: Session) -> Session
     ensures { result ≡ kept_by roles.now lost s }
 {
     if (s.reading | s.writing) & lost != 0 {
-        return backed(roles, s);
+        backed(roles, s)
+    } else {
+        s
     }
-    s
 }
 
 // .. and after role `r` is unmade, when nobody holds it.
+#[tactic(auto, unfolding(crate::specs::Private::Scan::left_by))]
 fn left(roles: &[Role; ROLES], r: u32, lost: u64, unmade: bool, s: Session) -> Session
     ensures { result ≡ left_by roles.now r lost unmade s }
 {
     let n = kept(roles, lost, s);
-    if unmade {
-        return sessions::dropped(r, n);
-    }
-    n
+    if unmade { sessions::dropped(r, n) } else { n }
 }
 
 // Every session so.

@@ -18,19 +18,20 @@ fn first(set: u16) -> u32
 }
 
 // Whether role `r` has the right on the entity, itself or through a role below it.
+#[tactic(auto, unfolding(crate::specs::Private::Scan::has_by, bitset::specs::Tests::either))]
 fn gives(roles: &[Role; ROLES], r: u32, right: Right, e: usize) -> bool
     requires { (r < role_count) × (e < entity_count) }
     ensures { result ≡ has_by roles.now right e r }
 {
     let role = &roles[r as usize];
-    if scan::is_in(role.on(right), e) {
+    if role.on(right).has(e as u32) {
         return true;
     }
     if role.juniors == 0 {
         return false;
     }
     let rights = scan::gather(roles, 0u16.with(r));
-    scan::is_in(rights.on(right), e)
+    rights.on(right).has(e as u32)
 }
 
 // The lowest-numbered of the roles held that has the right on the entity.
@@ -50,6 +51,7 @@ fn lowest(roles: &[Role; ROLES], held: u16, right: Right, e: usize) -> Option<u8
 }
 
 // What an accepted request of that kind tells: openr and openw the role for read or write on the entity.
+#[tactic(auto, unfolding(crate::specs::Private::Scan::opened_by))]
 pub fn role_told(roles: &[Role; ROLES], call: u32, held: u16, e: usize) -> Option<u8>
     requires { e < entity_count }
     ensures { result ≡ opened_by roles.now call held e }
@@ -69,11 +71,9 @@ pub fn byte(role: Option<u8>) -> u8
     role.unwrap_or(NO_ROLE)
 }
 
+#[tactic(auto, unfolding(crate::specs::Private::Scan::read_byte, crate::specs::Told::role_byte))]
 pub fn read(byte: u8) -> Option<u8>
     ensures { result ≡ read_byte byte }
 {
-    if byte == NO_ROLE {
-        return None;
-    }
-    Some(byte)
+    (byte != NO_ROLE).then_some(byte)
 }

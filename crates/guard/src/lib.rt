@@ -6,6 +6,7 @@
 // of the old width, with a set of eight categories, have records of their own (`old`).
 #![tactic(auto)]
 
+mod apply;
 mod backing;
 mod change;
 mod entities;

@@ -44,8 +44,7 @@ impl Tables {
             return false;
         }
         let labels = opens::labels(entities);
-        let sessions = self.sessions;
-        opens::sessions_ok(sessions, &labels, &self.roles, live_roles, edition)
+        opens::sessions_ok(&self.sessions, &labels, &self.roles, live_roles, edition)
     }
 
     // Whether the tables are sound, for all tables that the types admit.

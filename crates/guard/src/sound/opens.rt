@@ -127,21 +127,21 @@ fn session_sound(
 
 // Every session so; `live` are the live roles. Neighbours mostly hold the same roles, and their rights are gathered once.
 pub fn sessions_ok(
-    sessions: [Session; SESSIONS],
+    sessions: &[Session; SESSIONS],
     labels: &[u32; ENTITIES],
     roles: &[Role; ROLES],
     live: u16,
     edition: u8,
 ) -> bool
-    ensures { result ≡ all session_count (λ s. every (session_test labels.now live edition (session_level s) (get_or sessions s no_session) ∷ opens_given roles.now (get_or sessions s no_session) ∷ [])) }
+    ensures { result ≡ all session_count (λ s. every (session_test labels.now live edition (session_level s) (get_or sessions.now s no_session) ∷ opens_given roles.now (get_or sessions.now s no_session) ∷ [])) }
 {
     let mut held = 0u16;
     let mut rights = scan::gather(roles, held);
     for s in 0..SEAT_END {
-        let x = sessions[s as usize];
-        rights = scan::regather(roles, held, rights, x.roles);
-        held = x.roles;
-        if !session_sound(labels, rights, live, edition, s / LEVEL_SEATS, x) {
+        let session = sessions[s as usize];
+        rights = scan::regather(roles, held, rights, session.roles);
+        held = session.roles;
+        if !session_sound(labels, rights, live, edition, s / LEVEL_SEATS, session) {
             return false;
         }
     }

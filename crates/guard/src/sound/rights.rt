@@ -1,7 +1,7 @@
 // Roles, their rights, by the set of the entities on which each may have some, and their ties.
 ghost use Rattle.std.specs.Prelude.{ℕ, ◌<◌, ◌≡◌, cond, eqb, get_or, is_some, IfSome};
 ghost use Rattle.bitset.specs.Tests.{all};
-ghost use Rattle.bitset.specs.Sets.{has, with};
+ghost use Rattle.bitset.specs.Sets.{has};
 ghost use Rattle.guard.specs.Level.{role_count, role_level};
 ghost use Rattle.guard.specs.Tables.{no_role};
 ghost use Rattle.guard.specs.Private.Tested.{grantable_in, role_test};
@@ -12,11 +12,6 @@ use crate::sizes::{LEVEL_ROLES, ROLE_END, ROLES};
 use crate::{Role, scan};
 use bitset::Set;
 
-// How many roles there are, and how many of a level, as the tests have them.
-const ROLE_COUNT: u8 = ROLES as u8;
-
-const LEVEL: u8 = LEVEL_ROLES as u8;
-
 // A role that is not live may have no rights.
 fn bound(live: bool, set: u64) -> u64
     ensures { result ≡ cond live set 0 }
@@ -25,24 +20,13 @@ fn bound(live: bool, set: u64) -> u64
 }
 
 // Whether the role `r`, whose record is `p`, is as soundness asks; `set` are the live entities of at most its level.
-fn role_ok(set: u64, r: u8, p: Role) -> bool
+fn role_ok(set: u64, r: u32, p: Role) -> bool
     ensures { result ≡ role_test (has set) r p }
 {
-    if !p.live & ((r % LEVEL == 0) | (p.users != 0) | (p.juniors != 0)) {
+    if !p.live & ((r % LEVEL_ROLES == 0) | (p.users != 0) | (p.juniors != 0)) {
         return false;
     }
     bound(p.live, set).contains(p.reads | p.writes | p.executes | p.owns)
-}
-
-// `set`, and `r` where it is live.
-fn listed(set: u16, r: u8, live: bool) -> u16
-    requires { r < role_count }
-    ensures { result ≡ cond live (with set r) set }
-{
-    if !live {
-        return set;
-    }
-    set.with(r as u32)
 }
 
 // Whether each role is as soundness asks, where `live` are the live entities; if so, the set of those that are live.
@@ -51,13 +35,15 @@ pub fn roles_ok(roles: &[Role; ROLES], live: u64) -> Option<u16>
     ensures live { IfSome result (λ found. (k : ℕ) → k < role_count → has found k ≡ (get_or roles.now k no_role).live) }
 {
     let mut found = 0u16;
-    for r in 0..ROLE_COUNT {
+    for r in 0..ROLE_END {
         let role = roles[r as usize];
-        let set = live & to_level((r as u32) / LEVEL_ROLES);
+        let set = live & to_level(r / LEVEL_ROLES);
         if !role_ok(set, r, role) {
             return None;
         }
-        found = listed(found, r, role.live);
+        if role.live {
+            found = found.with(r);
+        }
     }
     Some(found)
 }
@@ -67,16 +53,7 @@ fn of_level(level: u32) -> u16
     requires { level < 4 }
     ensures { (j : ℕ) → j < role_count → has result j ≡ eqb (role_level j) level }
 {
-    if level == 0 {
-        return 0x000f;
-    }
-    if level == 1 {
-        return 0x00f0;
-    }
-    if level == 2 {
-        return 0x0f00;
-    }
-    0xf000
+    0x000f << (LEVEL_ROLES * level)
 }
 
 // Whether the ties of role `r` join it to roles of its level among those that are live, and it is not below itself.

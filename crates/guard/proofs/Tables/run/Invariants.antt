@@ -1,12 +1,8 @@
 -- `run` is the log of its rows: each turn of the loop looks up what a request concerns, decides it and stores what it does. Assumes nothing.
-use Prim.Native.Nat.{◌-◌, ◌≤◌}
 use mathlib.Core.Path.{◌≡◌}
 use Rattle.guard.specs.Batch.{batch_count}
 use Rattle.guard.proofs.Turns.{Held}
 use Rattle.guard.proofs.Tables.run.Given as goal
 
 abbrev pub invariant-loop-i : goal.invariant-loop-i
-invariant-loop-i l = (l.i ≤ l.count) × (l.count ≡ batch_count l.rows l.initial.answers l.initial.roles) × Held l.initial.self l.rows l.initial.answers l.initial.roles l.i l.self l.answers l.roles l.keys
-
-abbrev pub decreases-loop-i : goal.decreases-loop-i
-decreases-loop-i l = l.count - l.i
+invariant-loop-i l = (l.count ≡ batch_count l.rows l.initial.answers l.initial.roles) × Held l.initial.self l.rows l.initial.answers l.initial.roles l.i l.self l.answers l.roles l.keys

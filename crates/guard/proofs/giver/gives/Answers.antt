@@ -1,22 +1,16 @@
 -- `gives`: the role's own set has the entity, or one of a role below it. Assumes nothing.
 use mathlib.Core.Path.{sym, ◌∙◌}
 use native.Mathlib.Nat.{mod-eq_of_lt}
-use Rattle.bitset.specs.Tests.Laws.{either_l}
-use Rattle.guard.specs.Private.Scan.{has_by}
 use Rattle.guard.proofs.Descent.{given_one, untied_by}
 use Rattle.guard.proofs.giver.gives.Goals as goal
 
-pub returns-then-is_in : goal.returns-then-is_in
-unfolding has_by
-returns-then-is_in c = sym (either_l _ _ (rw (← c.on.ensures) (sym c.is_in.ensures ∙ c.if-is_in.true)))
-
 pub returns-then-role-eq0 : goal.returns-then-role-eq0
 returns-then-role-eq0 c =
-    sym (untied_by c.args.roles.now c.args.r c.requires.0 c.if-role-eq0.true c.args.right c.args.e ∙ rw (← c.on.ensures) (sym c.is_in.ensures ∙ c.if-is_in.false))
+    sym (untied_by c.args.roles.now c.args.r c.requires.0 c.if-role-eq0.true c.args.right c.args.e ∙ rw (← c.on.ensures) (sym c.has.ensures ∙ c.if-has.false))
 
 pub returns : goal.returns
 returns c =
-    c.is_in-2.ensures
+    c.has-2.ensures
     ∙ rw c.on-2.ensures
     (c.gather-rights.ensures.sets c.args.right c.args.e
     ∙ rw (c.with.ensures, mod-eq_of_lt c.requires.0) (given_one c.args.roles.now c.args.r c.requires.0 c.args.right c.args.e))
