@@ -5,6 +5,7 @@
 --     found_step, none_step     the rest of a line that has been answered
 --     line_step             a line of values
 -- Assumes nothing.
+use Rattle.std.specs.Prelude.{Option}
 use Prim.Native.Nat.{ℕ, ◌+◌, ◌≤◌, ◌<◌}
 use mathlib.Core.Path.{◌≡◌, refl, ap, sym, ◌∙◌}
 use mathlib.Core.Bool.{Bool, true, false, ◌&&◌, ◌||◌, true≢false}
@@ -127,11 +128,11 @@ module _ {e : Bool} {r : Runner} (s old : List ℕ) (k : ℕ) (f : k ≡ length 
       }
 
 -- ---- a line of values; f is what is done to the runner after it
-line_phase : (r : Runner) (asked : Line) → (after_line r asked).phase ≡ r.phase
+line_phase : (r : Runner) (asked : Option Line) → (after_line r asked).phase ≡ r.phase
 unfolding after_line
 line_phase r asked = refl
 
-text_length : (r : Runner) (asked : Line) → length (text_of r asked) ≤ 12
+text_length : (r : Runner) (asked : Option Line) → length (text_of r asked) ≤ 12
 unfolding text_of
 text_length r asked = line_length (r.done + 1) _
 

@@ -51,28 +51,28 @@ fn put_row(q: Request, rows: &mut [u32], at: usize) -> usize
 }
 
 // What a line asks, behind `count` requests; whether it asks one.
-fn load(l: Line, rows: &mut [u32], count: usize) -> bool
+fn load(l: Option<Line>, rows: &mut [u32], count: usize) -> bool
     requires { row_length * count + row_length ≤ length rows.old }
     ensures { (result ≡ is_request l) × (rows.new ≡ written rows.old (row_length * count) (numbers_of l)) }
 {
     match l {
-        Line::Ask(q) => {
+        Some(Line::Ask(q)) => {
             put_row(q, rows, sizes::ROW * count);
             true
         }
-        Line::SetUser(_, _, _, _) => false,
-        Line::Bad => false,
+        Some(Line::SetUser(_)) => false,
+        None => false,
     }
 }
 
 // Whether a line is a `user` line that is allowed. Such a line sets a record between two batches.
-fn is_allowed(l: Line, shut: bool) -> bool
+fn is_allowed(l: Option<Line>, shut: bool) -> bool
     ensures { result ≡ is_allowed shut l }
 {
     match l {
-        Line::Ask(_) => false,
-        Line::SetUser(_, _, _, _) => !shut,
-        Line::Bad => false,
+        Some(Line::Ask(_)) => false,
+        Some(Line::SetUser(_)) => !shut,
+        None => false,
     }
 }
 

@@ -1,10 +1,10 @@
 // The answer to a line of values, and the bench after it.
-ghost use Rattle.std.specs.Prelude.{◌≡◌};
+ghost use Rattle.std.specs.Prelude.{◌≡◌, Some};
 ghost use Rattle.script.specs.Report.{answer_line};
 ghost use Rattle.script.specs.Private.Steps.{said_by};
 
 use crate::limits;
-use crate::line::Line;
+use crate::line::{Line, UserRecord};
 use guard::{Label, Tables, User, sizes};
 
 // The bench after a line, and the line's answer.
@@ -16,8 +16,8 @@ pub struct Reply {
 }
 
 // Sets a user's record, in ranges and before any other word.
-fn set_user(mut t: Tables, shut: bool, user: u32, level: u32, cats: u32, ceiling: u32) -> Reply
-    ensures { said_by result ≡ answer_line (record { tables = t; shut = shut }) (Line.SetUser user level cats ceiling) }
+fn set_user(mut t: Tables, shut: bool, u: UserRecord) -> Reply
+    ensures { said_by result ≡ answer_line (record { tables = t; shut = shut }) (Some (Line.SetUser u)) }
 {
     if shut {
         return Reply {
@@ -26,9 +26,9 @@ fn set_user(mut t: Tables, shut: bool, user: u32, level: u32, cats: u32, ceiling
             answer: limits::UNREAD,
         };
     }
-    if (sizes::USER_END <= user)
-        | ((sizes::TOP_GRADE_ASKED < level)
-            | ((sizes::ALL_CATEGORIES < cats) | (sizes::TOP_LEVEL_ASKED < ceiling)))
+    if (sizes::USER_END <= u.user)
+        | ((sizes::TOP_GRADE_ASKED < u.level)
+            | ((sizes::ALL_CATEGORIES < u.cats) | (sizes::TOP_LEVEL_ASKED < u.ceiling)))
     {
         return Reply {
             tables: t,
@@ -36,13 +36,13 @@ fn set_user(mut t: Tables, shut: bool, user: u32, level: u32, cats: u32, ceiling
             answer: 2,
         };
     }
-    let i = user as usize;
+    let i = u.user as usize;
     let clearance = Label {
-        cats: cats as u16,
-        grade: level as u8,
+        cats: u.cats as u16,
+        grade: u.level as u8,
     };
     let set = User {
-        ceiling: ceiling as u8,
+        ceiling: u.ceiling as u8,
         clearance,
     };
     t.users[i] = set;
@@ -54,11 +54,11 @@ fn set_user(mut t: Tables, shut: bool, user: u32, level: u32, cats: u32, ceiling
 }
 
 // Answers what a line asks.
-pub fn answer_line(t: Tables, shut: bool, l: Line) -> Reply
+pub fn answer_line(t: Tables, shut: bool, l: Option<Line>) -> Reply
     ensures { said_by result ≡ answer_line (record { tables = t; shut = shut }) l }
 {
     match l {
-        Line::Ask(q) => {
+        Some(Line::Ask(q)) => {
             let o = t.step(q);
             let tables = o.tables;
             Reply {
@@ -67,8 +67,8 @@ pub fn answer_line(t: Tables, shut: bool, l: Line) -> Reply
                 answer: o.answer,
             }
         }
-        Line::SetUser(user, level, cats, ceiling) => set_user(t, shut, user, level, cats, ceiling),
-        Line::Bad => Reply {
+        Some(Line::SetUser(u)) => set_user(t, shut, u),
+        None => Reply {
             tables: t,
             shut,
             answer: limits::UNREAD,

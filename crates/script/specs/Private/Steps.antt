@@ -1,6 +1,6 @@
 -- A runner's steps, in the words in which the contracts of private functions are put: one line of values, the names line, and a
 -- step, which does at most one line.
-use Rattle.std.specs.Prelude.{ℕ, ◌+◌, ◌-◌, ◌≡◌, ◌≢◌, Bool, false, List, length, drop}
+use Rattle.std.specs.Prelude.{ℕ, ◌+◌, ◌-◌, ◌≡◌, ◌≢◌, Bool, false, List, Option, length, drop}
 use Rattle.script.specs.Text.{values}
 use Rattle.script.specs.Names.{is_names, Ordered}
 use Rattle.script.specs.Line.{read_line}
@@ -18,7 +18,7 @@ abbrev pub said_by : Reply → Answered
 said_by a = record { bench = bench a.tables a.shut; answer = a.answer }
 
 -- ---- one line of values, by what it asks
-unfoldable pub after_line : Runner → Line → Runner
+unfoldable pub after_line : Runner → Option Line → Runner
 after_line r asked =
     let said = answer_line (bench_of r) asked in
     record {
@@ -30,11 +30,11 @@ after_line r asked =
       skip = r.skip;
     }
 
-unfoldable pub text_of : Runner → Line → List ℕ
+unfoldable pub text_of : Runner → Option Line → List ℕ
 text_of r asked = line_text (r.done + 1) (answer_line (bench_of r) asked).answer
 
 pub record Spoken (r : Runner) (l old new : List ℕ) (x : Said) : Type 0 where
-  pub asked : Line
+  pub asked : Option Line
   pub read : (header : List (List ℕ)) → Ordered header r.at → asked ≡ read_line header l
   pub next : x.runner ≡ after_line r asked
   pub puts : Put old 0 (text_of r asked) new x.wrote

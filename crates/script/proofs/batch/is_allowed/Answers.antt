@@ -2,14 +2,14 @@
 use Rattle.script.specs.Private.LineBatch.{is_allowed}
 use Rattle.script.proofs.batch.is_allowed.Goals as goal
 
-pub returns-in-Ask : goal.returns-in-Ask
+pub returns-in-Some-Ask : goal.returns-in-Some-Ask
 unfolding is_allowed
-returns-in-Ask c = rw c.in-Ask.is
+returns-in-Some-Ask c = rw (c.in-Some-Ask.is, rw c.in-Some-Ask.is at c.in-Some-Ask.field-0-is)
 
-pub returns-in-SetUser : goal.returns-in-SetUser
+pub returns-in-Some-SetUser : goal.returns-in-Some-SetUser
 unfolding is_allowed
-returns-in-SetUser c = rw c.in-SetUser.is
+returns-in-Some-SetUser c = rw (c.in-Some-SetUser.is, rw c.in-Some-SetUser.is at c.in-Some-SetUser.field-0-is)
 
-pub returns-in-Bad : goal.returns-in-Bad
+pub returns-in-None : goal.returns-in-None
 unfolding is_allowed
-returns-in-Bad c = rw c.in-Bad.is
+returns-in-None c = rw c.in-None.is
