@@ -3,7 +3,7 @@
 -- first_place, before_place: the place of the first byte that passes a test, and of a delimiter.
 -- none_other, long_other, one_dash, dash_other: the forms of a value. Read: the loop over its digits, with read_start, read_low,
 -- read_high, read_more, read_end.
--- put_nil, put_cons, put_then: stores. place_hit, place_miss: one digit. numbered, line_of: a number with its digits.
+-- put_part, put_nil, put_cons, put_then: stores. place_hit, place_miss: one digit. numbered, line_of: a number with its digits.
 -- line_length, heading_length: how long what is printed is at most.
 -- Assumes nothing.
 use Prim.Native.Nat.{ℕ, suc, ◌+◌, ◌-◌, ◌*◌, ◌/◌, ◌%◌, ◌^◌, ◌≤◌, ◌<◌}
@@ -14,13 +14,14 @@ use Rattle.std.specs.Option.{unwrap_or}
 use Rattle.std.specs.List.{position_or_len}
 use Rattle.std.proofs.lemmas.List.Sums.{prefix_len-le-length}
 use Rattle.std.proofs.lemmas.List.Recursion.{is_position_or_len}
-use mathlib.Core.List.{List, [], ◌∷◌, ◌++◌}
+use mathlib.Core.List.{List, [], ◌∷◌, ◌++◌, append_assoc}
 use native.Mathlib.Numerals.{add-one}
 use native.Mathlib.Nat.{add-zero, add-suc, suc-add, pow-suc, pow-le-pow_right}
 use native.Mathlib.Omega.{arith}
 use lib.Dec.{leb, eqb}
-use lib.ListN.{length, get_or, set, drop, length-append, drop_of_length-le}
-use lib.Seq.{sets, drop-cons}
+use lib.ListN.{length, get_or, set, take, drop, length-append, drop_of_length-le}
+use lib.Seq.{sets, sets-eq, drop-cons, drop-drop}
+use borrow.Rule.Slice.PartMut.{put_mid}
 use borrow.Author.Tests.{le-leb, lt-leb, ne_eqb, ltb-false}
 use Rattle.bitset.specs.Tests.{every}
 use Rattle.script.specs.declared.line.Value.TheVariants.{Digits, Dash, Other}
@@ -136,6 +137,16 @@ module _ {s : List ℕ} {n i : ℕ} (r : Read s n i) where
         ∙ good_digits s many few first (r.good ∙ (rw (drop_of_length-le s l)))
 
 -- ---- stores
+-- into the part of a slice that is as long as what is stored
+pub put_part : (l vs : List ℕ) (i k : ℕ) → k ≡ length vs → i + length vs ≤ length l → {n : ℕ} → n ≡ i + k → Put l i vs (put_mid i k l vs) n
+unfolding written
+put_part l vs i k e h f =
+    record {
+      holds = ap (λ (v : List ℕ). take i l ++ (vs ++ v)) (drop-drop k i l ∙ ap (λ (n : ℕ). drop (i + n) l) e)
+          ∙ sym (sets-eq vs l i h ∙ append_assoc (take i l) vs (drop (i + length vs) l));
+      next = f ∙ ap (λ (n : ℕ). i + n) e;
+    }
+
 sets_then : (l : List ℕ) (i : ℕ) (vs ws : List ℕ) → sets (sets l i vs) (i + length vs) ws ≡ sets l i (vs ++ ws)
 sets_then l i [] ws = rw add-zero
 sets_then l i (v ∷ vs) ws = rw (add-suc, ← suc-add) (sets_then (set l i v) (suc i) vs ws)

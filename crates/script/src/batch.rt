@@ -29,7 +29,8 @@ pub fn most(done: u32, room: usize) -> usize
     limits::BATCH.min(room / limits::LINE_ROOM).min(left)
 }
 
-// A request as a row of numbers from `at` on.
+// A request as a row of numbers from `at` on, stored one by one: `copy_from_slice` from an array takes 14 instructions a line
+// more, past the two per cent that a line may cost more.
 fn put_row(q: Request, rows: &mut [u32], at: usize) -> usize
     requires { at + row_length ≤ length rows.old }
     ensures { Put rows.old at (row_of q) rows.new result }
