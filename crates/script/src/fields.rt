@@ -66,7 +66,7 @@ fn field(n: u32, given: u16, uses: u16, i: u32) -> Option<u32>
     Some(n)
 }
 
-// The first six fields, unless one of them has a fault.
+// The first six fields, unless one of them has a fault. By `let .. else` and not by `?`: docs/TRACE.md says it of them.
 pub fn first(vals: &[u32; limits::PLACES], given: u16, uses: u16) -> Option<Six>
     ensures { (rest : Numbers) → take_from uses given vals.now 1 6 rest ≡ ahead result rest }
 {

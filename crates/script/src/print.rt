@@ -4,7 +4,8 @@ ghost use Rattle.script.specs.Text.{place, decimal};
 ghost use Rattle.script.specs.Report.{heading, line_text, line_room, last_line};
 ghost use Rattle.script.specs.Private.Slices.{Numbered, Put};
 
-// A number and its last five digits, the last one in `a`.
+// A number and its last five digits, the last one in `a`. No `write!`: line numbers are counted up by their digits, most of
+// them without a division (docs/PERFORMANCE.md).
 #[derive(Clone, Copy)]
 pub struct Numeral {
     pub n: u32,

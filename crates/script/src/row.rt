@@ -158,6 +158,7 @@ pub fn read_row(s: &[u8], at: &[u8; limits::PLACES], vals: &mut [u32; limits::PL
     let mut given = 0u16;
     let mut from = 0;
     let mut j = 0;
+    // No `for j in 0..limits::LAST_PLACE`: with it a line takes 5 to 8 % more instructions.
     loop {
         if from + 2 < s.len() {
             if pair(s, from) == 0x202d {
