@@ -128,7 +128,7 @@ pub fits_in : {at s rows : List ℕ} {shut : Bool} {marks : List Bool} {g : Gath
 fits_in {marks = marks} {g = g} most took = omega (arith, took.count, took.few, most.fits, asked_few (take g.lines marks), length-take g.lines marks)
 
 abbrev pub on_by : Runner → Tables → Bool → ℕ → Runner
-on_by r t shut n = record { tables = t; shut = shut; at = r.at; phase = r.phase; done = r.done + n; skip = r.skip }
+on_by r t shut n = record { bench = bench t shut; at = r.at; phase = r.phase; done = r.done + n; skip = r.skip }
 
 -- what the writer of the answers asks
 pub room_for : {at s rows : List ℕ} {shut : Bool} {marks : List Bool} (told : List ℕ) {g : Gathered} {done room m : ℕ} → Most done room m → Batched at shut s m rows marks g
@@ -136,9 +136,9 @@ pub room_for : {at s rows : List ℕ} {shut : Bool} {marks : List Bool} (told : 
 room_for told most took some d = (took.marked, omega (arith, took.few, most.fits), omega (arith, took.few, most.space), omega (arith, some, took.few, most.last))
 
 module _ (r : Runner) (piece old new : List ℕ) (end : Bool) (g : Gathered) (u : Tables) (rows : List ℕ) (marks : List Bool) (given told old_roles roles : List ℕ) (m n : ℕ)
-    (p : r.phase ≡ Lines) (k : r.skip ≡ false) (most : Most r.done (length old) m) (took : Batched r.at r.shut piece m rows marks g)
+    (p : r.phase ≡ Lines) (k : r.skip ≡ false) (most : Most r.done (length old) m) (took : Batched r.at r.bench.shut piece m rows marks g)
     (some : g.lines ≡ 0 → ⊥) (deep : length given ≡ batch_lines) (wide : length old_roles ≡ batch_lines)
-    (did : RunsBatch r.tables (take (row_length * g.count) rows) given told old_roles roles u)
+    (did : RunsBatch r.bench.tables (take (row_length * g.count) rows) given told old_roles roles u)
     (puts : Put old 0 (texts (r.done + 1) (take g.lines marks) told) new n) where
   abbrev asks : List Bool
   asks = take g.lines marks
@@ -155,16 +155,16 @@ module _ (r : Runner) (piece old new : List ℕ) (end : Bool) (g : Gathered) (u 
   last : r.done + g.lines ≤ last_line
   last = omega (arith, took.few, most.last)
 
-  there : bench_of then ≡ bench (run r.tables log) g.shut
+  there : bench_of then ≡ bench (run r.bench.tables log) g.shut
   there = rw (ran_tables rows g.count did took.stored (omega (arith, few)) (omega (arith, few)))
 
-  enough : asked asks ≤ length (answers r.tables log)
-  enough = omega (arith, took.count, length_each answer r.tables log, length_tabulate (request_at rows) g.count)
+  enough : asked asks ≤ length (answers r.bench.tables log)
+  enough = omega (arith, took.count, length_each answer r.bench.tables log, length_tabulate (request_at rows) g.count)
 
-  words : texts (r.done + 1) asks told ≡ texts (r.done + 1) asks (answers r.tables log)
+  words : texts (r.done + 1) asks told ≡ texts (r.done + 1) asks (answers r.bench.tables log)
   words =
       rw (ran_answers rows g.count did took.stored (omega (arith, few)) (omega (arith, few)))
-      (texts_given (r.done + 1) asks (answers r.tables log) (drop g.count given) enough)
+      (texts_given (r.done + 1) asks (answers r.bench.tables log) (drop g.count given) enough)
 
   later : (header : List (List ℕ)) (more : List ℕ) → rest header then (drop g.used piece ++ more)
       ≡ from_line header (bench_of then) (r.done + g.lines) (drop g.used piece ++ more)
@@ -176,7 +176,7 @@ module _ (r : Runner) (piece old new : List ℕ) (end : Bool) (g : Gathered) (u 
         known = header;
         fits = record { opens = λ h. absurd (begun p h); knows = λ h. f.knows p };
         same = λ more e.
-            rest_lines header r (piece ++ more) p ∙ (rw k) ∙ took.goes header (f.knows p) r.tables r.done last more ∙ (rw (← words, ← there))
+            rest_lines header r (piece ++ more) p ∙ (rw k) ∙ took.goes header (f.knows p) r.bench.tables r.done last more ∙ (rw (← words, ← there))
             ∙ ap (told_first (texts (r.done + 1) asks told)) (sym (later header more));
       }
 

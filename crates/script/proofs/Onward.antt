@@ -39,7 +39,7 @@ pub begun : {p : Phase} → p ≡ Lines → before_lines p ≡ true → ⊥
 begun e h = clash _ h (ap before_lines e)
 
 abbrev pub headed : Runner → Runner
-headed r = record { tables = r.tables; shut = r.shut; at = r.at; phase = Names; done = r.done; skip = r.skip }
+headed r = record { bench = r.bench; at = r.at; phase = Names; done = r.done; skip = r.skip }
 
 pub goes_heading : (e : Bool) (r : Runner) (s : List ℕ) → r.phase ≡ Heading → Goes e r s heading (headed r) s
 goes_heading e r s p header f =
@@ -89,7 +89,7 @@ unfolding after_line
 line_fits header r asked p f = record { opens = λ h. absurd (begun p h); knows = λ h. f.knows p }
 
 abbrev pub skipping : Runner → Runner
-skipping r = record { tables = r.tables; shut = r.shut; at = r.at; phase = r.phase; done = r.done; skip = true }
+skipping r = record { bench = r.bench; at = r.at; phase = r.phase; done = r.done; skip = true }
 
 skip_on : (header : List (List ℕ)) (r : Runner) (asked : Option Line) (s : List ℕ) → r.phase ≡ Lines → r.skip ≡ false
     → rest header (after_line r asked) (after 10 s) ≡ rest header (skipping (after_line r asked)) s
@@ -118,7 +118,7 @@ module _ (s : List ℕ) (e : Bool) (k : ℕ) (f : k ≡ length (before 10 s)) wh
 module _ (r : Runner) (s : List ℕ) (e : Bool) (k : ℕ) (f : k ≡ length (before 10 s)) where
   -- the rest of a line that has been answered
   pub skip_found : r.phase ≡ Lines → r.skip ≡ true → k < length s
-      → Goes e r s [] (record { tables = r.tables; shut = r.shut; at = r.at; phase = r.phase; done = r.done; skip = false }) (drop (k + 1) s)
+      → Goes e r s [] (record { bench = r.bench; at = r.at; phase = r.phase; done = r.done; skip = false }) (drop (k + 1) s)
   skip_found p t l header fits =
       let m : length (before 10 s) < length s = rw f at l in
       record {

@@ -22,19 +22,17 @@ use Rattle.guard.specs.Tables.{edition1, no_user}
 use Rattle.guard.specs.Sound.{users_in_range, edition_in_range}
 use Rattle.guard.specs.Fresh.{fresh, build}
 use Rattle.guard.specs.Step.{step}
-use Rattle.guard.specs.declared.Tables.{Tables}
 use Rattle.guard.specs.declared.Request.{Request}
 use Rattle.guard.specs.declared.Outcome.{Outcome}
 use Rattle.guard.specs.declared.Told.TheVariants.{None}
-use Rattle.script.specs.Report.{Answered, unread, with_user, user_in_ranges, answer_line, line_text}
+use Rattle.script.specs.Report.{Bench, Answered, unread, with_user, user_in_ranges, answer_line, line_text}
 use Rattle.script.specs.Private.Slices.{Put}
 use Rattle.script.specs.Run.{bench, bench_of}
-use Rattle.script.specs.Private.Steps.{said_by, after_line, text_of}
+use Rattle.script.specs.Private.Steps.{after_line, text_of}
 use Rattle.script.specs.declared.line.Line.{Line}
 use Rattle.script.specs.declared.line.UserRecord.{UserRecord}
 use Rattle.script.specs.declared.line.Line.TheVariants.{Ask, SetUser}
 use Rattle.script.specs.declared.runner.Runner.{Runner}
-use Rattle.script.specs.declared.reply.Reply.{Reply}
 
 abbrev pub outside : UserRecord → Bool
 outside u = leb 16 u.user || (ltb 3 u.level || (ltb all_categories u.cats || ltb 3 u.ceiling))
@@ -77,30 +75,30 @@ module _ (u : UserRecord) where
         le-ltb 3 u.ceiling (leb-true u.ceiling 3 t.1.1.0),
       )
 
-  module _ (t : Tables) (shut : Bool) where
-    pub set_shut : shut ≡ true → answer_line (bench t shut) (Some (SetUser u)) ≡ unread (bench t shut)
+  module _ (b : Bench) where
+    pub set_shut : b.shut ≡ true → answer_line b (Some (SetUser u)) ≡ unread b
     unfolding answer_line
     set_shut s = rw s
 
-    pub set_outside : shut ≡ false → outside u ≡ true
-        → answer_line (bench t shut) (Some (SetUser u)) ≡ record { bench = bench t shut; answer = 2 }
+    pub set_outside : b.shut ≡ false → outside u ≡ true
+        → answer_line b (Some (SetUser u)) ≡ record { bench = b; answer = 2 }
     unfolding answer_line
     set_outside s o = rw (s, is_false (user_in_ranges u) (λ h. clash _ o (within_ranges h)))
 
-    pub set_inside : shut ≡ false → Inside u
-        → answer_line (bench t shut) (Some (SetUser u))
-        ≡ record { bench = bench (with_user t u) shut; answer = 0 }
+    pub set_inside : b.shut ≡ false → Inside u
+        → answer_line b (Some (SetUser u))
+        ≡ record { bench = bench (with_user b.tables u) b.shut; answer = 0 }
     unfolding answer_line
     set_inside s i = rw (s, in_ranges_lem i)
 
-pub ask_said : (t : Tables) (shut : Bool) (q : Request) (o : Outcome) → o ≡ step t q
-    → ◌≡◌ {A = Answered} (record { bench = bench o.tables true; answer = o.answer }) (answer_line (bench t shut) (Some (Ask q)))
+pub ask_said : (b : Bench) (q : Request) (o : Outcome) → o ≡ step b.tables q
+    → ◌≡◌ {A = Answered} (record { bench = bench o.tables true; answer = o.answer }) (answer_line b (Some (Ask q)))
 unfolding answer_line step
-ask_said t shut q o h = rw h
+ask_said b q o h = rw h
 
-module _ (r : Runner) (a : Reply) (asked : Option Line) (h : said_by a ≡ answer_line (bench_of r) asked) where
+module _ (r : Runner) (a : Answered) (asked : Option Line) (h : a ≡ answer_line (bench_of r) asked) where
   pub said_next : ◌≡◌ {A = Runner}
-      (record { tables = a.tables; shut = a.shut; at = r.at; phase = r.phase; done = r.done + 1; skip = r.skip })
+      (record { bench = a.bench; at = r.at; phase = r.phase; done = r.done + 1; skip = r.skip })
       (after_line r asked)
   unfolding after_line
   said_next = rw (← h)

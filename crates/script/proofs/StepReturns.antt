@@ -116,7 +116,7 @@ module _ {e : Bool} {r : Runner} (l s old : List ℕ) (u : ℕ) (p : r.phase ≡
 -- ---- the rest of a line that has been answered
 module _ {e : Bool} {r : Runner} (s old : List ℕ) (k : ℕ) (f : k ≡ length (before 10 s)) (p : r.phase ≡ Lines) (t : r.skip ≡ true) where
   pub found_step : k < length s
-      → Stepped r s e old old (ran (record { tables = r.tables; shut = r.shut; at = r.at; phase = r.phase; done = r.done; skip = false }) (k + 1) 0)
+      → Stepped r s e old old (ran (record { bench = r.bench; at = r.at; phase = r.phase; done = r.done; skip = false }) (k + 1) 0)
   found_step l = stepped (worked_none r _ s e old (k + 1) (omega arith) (skip_found r s e k f p t l)) (λ h. lines_later p h) (omega arith)
 
   pub none_step : length s ≤ k → Stepped r s e old old (ran r k 0)

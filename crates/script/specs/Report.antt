@@ -11,18 +11,12 @@ use Rattle.script.specs.Text.{bytes, lines, values, decimal}
 use Rattle.script.specs.Names.{is_names}
 use Rattle.script.specs.Line.{read_line}
 use Rattle.script.specs.declared.line.Line.{Line}
+pub use Rattle.script.specs.declared.reply.Bench.{Bench}
+pub use Rattle.script.specs.declared.reply.Answered.{Answered}
 use Rattle.script.specs.declared.line.Line.TheVariants.{Ask, SetUser}
 use Rattle.script.specs.declared.line.UserRecord.{UserRecord}
 
--- ---- the bench between two lines: its tables, and whether a readable line with a word other than `user` has come
-pub record Bench : Type 0 where
-  pub tables : Tables
-  pub shut : Bool
-
-pub record Answered : Type 0 where
-  pub bench : Bench
-  pub answer : ℕ
-
+-- ---- the bench between two lines, and after a line with its answer, are the records Bench and Answered of src/reply.rt
 -- 17 (program only) a line that can't be read; it .. change[s] nothing.
 abbrev pub unread_answer : ℕ
 unread_answer = 17

@@ -6,7 +6,7 @@ use Rattle.script.proofs.Replies.{ask_said}
 use Rattle.script.proofs.reply.answer_line.Goals as goal
 
 pub returns-in-Some-Ask : goal.returns-in-Some-Ask
-returns-in-Some-Ask c = ask_said _ _ _ _ c.step-o.ensures ∙ ap (answer_line _) (sym (c.in-Some-Ask.is ∙ ap Some (rw c.in-Some-Ask.is at c.in-Some-Ask.field-0-is)))
+returns-in-Some-Ask c = ask_said _ _ _ c.step-o.ensures ∙ ap (answer_line _) (sym (c.in-Some-Ask.is ∙ ap Some (rw c.in-Some-Ask.is at c.in-Some-Ask.field-0-is)))
 
 pub returns-in-None : goal.returns-in-None
 unfolding answer_line

@@ -4,12 +4,12 @@ use Rattle.script.specs.Report.{with_user}
 use Rattle.script.proofs.Replies.{inside, set_shut, set_outside, set_inside}
 use Rattle.script.proofs.reply.set_user.Goals as goal
 
-pub returns-then-shut : goal.returns-then-shut
-returns-then-shut c = sym (set_shut _ _ _ c.if-shut.true)
+pub returns-then-b : goal.returns-then-b
+returns-then-b c = sym (set_shut _ _ c.if-b.true)
 
 pub returns-then-u : goal.returns-then-u
-returns-then-u c = sym (set_outside _ _ _ c.if-shut.false c.if-u.true)
+returns-then-u c = sym (set_outside _ _ c.if-b.false c.if-u.true)
 
 pub returns : goal.returns
 unfolding with_user
-returns c = sym (set_inside _ _ _ c.if-shut.false (inside _ c.if-u.false))
+returns c = sym (set_inside _ _ c.if-b.false (inside _ c.if-u.false))
