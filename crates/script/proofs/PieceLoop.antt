@@ -4,11 +4,10 @@
 --     stepped                   .. and has used some input
 --     Held                      the loop over a piece: so far `at` bytes are used and w bytes written
 --     tail_back                 a part at the end, put back
---     held_none, held_more      its beginning, and one call more
+--     held_more                 one call more
 --     held_done                 its end
 --     loop_more, loop_done      both, as the loop cuts off what is left of the piece
 --     headed_done               a piece whose call writes the heading first
---     idle_done                 .. or has no room for it
 -- Assumes nothing.
 use Prim.Native.Nat.{ℕ, ◌+◌, ◌-◌, ◌≤◌, ◌<◌}
 use mathlib.Core.Path.{◌≡◌, refl, ap, sym, ◌∙◌}
@@ -62,10 +61,6 @@ pub record Held (piece : List ℕ) (end : Bool) (old : List ℕ) (r0 : Runner) (
   pub same : length out ≡ length old
   pub frame : drop w out ≡ drop w old
   pub goes : Goes end r0 piece (take w out) r (drop at piece)
-
-pub held_none : (piece : List ℕ) (end : Bool) (old : List ℕ) (r : Runner) → Held piece end old r old r 0 0
-held_none piece end old r =
-    record { within = omega arith; room = omega arith; same = refl; frame = refl; goes = goes_nowhere end r piece }
 
 pub tail_back : (w : ℕ) (out ys : List ℕ) → put_mid w (length out - w) out ys ≡ take w out ++ ys
 tail_back w out ys =
@@ -145,10 +140,3 @@ module _ {piece old out ys : List ℕ} {end : Bool} {r : Runner} {x : Ran} {n : 
   pub headed_done : Finished (headed r) piece end (take (length out - n) (drop n out)) ys x
       → Finished r piece end old (put_mid n (length out - n) out ys) (ran x.runner x.used (n + x.wrote))
   headed_done k = rw zero-add at (held_done (held_heading piece end old out r n z l o p) refl m k)
-
-pub idle_done : {r : Runner} {s old : List ℕ} {e : Bool} {x : Ran} → x ≡ ran r 0 0 → length old < 12 → Finished r s e old old x
-idle_done {r} {s} {old} {e} {x} h l =
-    rw h (record { did = worked_none r r s e old 0 (omega arith) (goes_nowhere e r s); stops = λ o room. absurd (none room) })
-  where
-    none : 12 ≤ length old - 0 → ⊥
-    none room = omega arith
