@@ -1,5 +1,4 @@
 -- What a call of the runner hands back, from what it wrote; and the loop over a piece.
---     idled                     a call that does nothing
 --     worked                    a call that stores at the front of the output
 --     stepped                   .. and has used some input
 --     Held                      the loop over a piece: so far `at` bytes are used and w bytes written
@@ -21,13 +20,13 @@ use borrow.Rule.Slice.PartMut.{put_mid}
 use Rattle.script.specs.Report.{heading}
 use Rattle.script.specs.Private.Slices.{Put}
 use Rattle.script.specs.declared.runner.Phase.TheVariants.{Heading}
-use Rattle.script.specs.Run.{Goes, Worked, Stopped, Finished}
+use Rattle.script.specs.Run.{Goes, Worked, Finished}
 use Rattle.script.specs.Private.Steps.{Stepped}
 use Rattle.script.specs.declared.runner.Runner.{Runner}
 use Rattle.script.specs.declared.runner.Ran.{Ran}
 use Rattle.script.proofs.Texts.{heading_length}
 use Rattle.script.proofs.ValuesInTurn.{to_end}
-use Rattle.script.proofs.LeftToTell.{goes_then, goes_nowhere, Front, front}
+use Rattle.script.proofs.LeftToTell.{goes_then, Front, front}
 use Rattle.script.proofs.Onward.{headed, goes_heading}
 
 -- ---- one call
@@ -43,9 +42,6 @@ pub worked : (r r2 : Runner) (s : List ℕ) (e : Bool) (old new w : List ℕ) (u
 worked r r2 s e old new w u n p l h g =
     let f : Front old new w n = front p l in
     record { within = h; room = f.room; frame = f.frame; goes = rw f.text g }
-
-pub idled : (r : Runner) (s : List ℕ) (e : Bool) (old : List ℕ) → (r.phase ≡ Heading → ⊥) → Stopped r s e (length old) → Stepped r s e old old (ran r 0 0)
-idled r s e old b h = record { did = worked_none r r s e old 0 (omega arith) (goes_nowhere e r s); begun = b; stops = λ z o l. h o (omega arith) }
 
 none_used : (u : ℕ) → 0 < u → u ≡ 0 → ⊥
 none_used u h z = omega arith

@@ -30,9 +30,6 @@ use Rattle.script.proofs.Onward.{begun, NamesGo, goes_good, goes_bad, names_whol
 use Rattle.script.proofs.PieceLoop.{ran, worked_none, worked, stepped}
 
 -- ---- a phase behind the heading
-pub names_later : {p : Phase} → p ≡ Names → p ≡ Heading → ⊥
-names_later e h = let z : ◌≡◌ {A = ℕ} 0 1 = cc in omega arith
-
 pub lines_later : {p : Phase} → p ≡ Lines → p ≡ Heading → ⊥
 lines_later e h = let z : ◌≡◌ {A = ℕ} 0 1 = cc in omega arith
 
