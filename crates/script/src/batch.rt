@@ -52,6 +52,7 @@ fn put_row(q: Request, rows: &mut [u32], at: usize) -> usize
 }
 
 // What a line asks, behind `count` requests; whether it asks one.
+#[tactic(auto, unfolding(crate::specs::Private::LineBatch::is_request, crate::specs::Private::LineBatch::numbers_of, crate::specs::Private::Slices::written))]
 fn load(l: Option<Line>, rows: &mut [u32], count: usize) -> bool
     requires { row_length * count + row_length ≤ length rows.old }
     ensures { (result ≡ is_request l) × (rows.new ≡ written rows.old (row_length * count) (numbers_of l)) }
@@ -67,6 +68,7 @@ fn load(l: Option<Line>, rows: &mut [u32], count: usize) -> bool
 }
 
 // Whether a line is a `user` line that is allowed. Such a line sets a record between two batches.
+#[tactic(auto, unfolding(crate::specs::Private::LineBatch::is_allowed))]
 fn is_allowed(l: Option<Line>, shut: bool) -> bool
     ensures { result ≡ is_allowed shut l }
 {
@@ -119,6 +121,7 @@ pub fn gather(
 }
 
 // The answer to a line, given the one to its request.
+#[tactic(auto, unfolding(crate::specs::Private::LineBatch::said))]
 fn answer_of(asks: bool, a: u8) -> u8
     ensures { result ≡ said asks a }
 {

@@ -41,6 +41,7 @@ pub struct Front {
 }
 
 // The row of no values: no word, and 0 under each other name.
+#[tactic(auto, unfolding(crate::specs::Private::Rows::blank))]
 fn empty() -> [u32; limits::PLACES]
     ensures { result ≡ blank }
 {

@@ -141,6 +141,7 @@ fn value_at(s: &[u8], from: usize, i: u32) -> Found
 }
 
 // Whether `j` is the last place with a name.
+#[tactic(auto, unfolding(crate::specs::Private::Rows::fills))]
 fn is_last(at: &[u8; limits::PLACES], j: usize) -> bool
     requires { j + 1 < place_count }
     ensures { result ≡ fills at.now (j + 1) }

@@ -110,6 +110,7 @@ impl Runner {
     }
 
     // Whether the run is over: after a bad first line, or with line 65,535. A host need not read on then.
+    #[tactic(auto, unfolding(crate::specs::Run::is_over_in))]
     pub fn is_over(self) -> bool
         ensures { result ≡ is_over self }
     {
