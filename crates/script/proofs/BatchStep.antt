@@ -1,9 +1,9 @@
 -- The output of a batch, and the step over it.
---     room_left, along, line_few     what the writer of a line asks and takes
+--     along, line_few     what the writer of a line asks and takes
 --     asked_none, asked_on, asked_below     how many answers are written
---     texts_none, texts_more, texts_all     what is written: nothing, one line more, all
+--     texts_none, texts_more     what is written: nothing, one line more
 --     ran_tables, ran_answers     what the guard hands back for a batch
---     fits_in, room_for, batch_done    the step
+--     fits_in, batch_done    the step
 -- Assumes nothing.
 use Prim.Native.Nat.{ℕ, ◌+◌, ◌-◌, ◌*◌, ◌/◌, ◌≤◌, ◌<◌}
 use mathlib.Core.Path.{◌≡◌, refl, ap, ap₂, sym, ◌∙◌}
@@ -44,9 +44,6 @@ use Rattle.script.proofs.LinesInBatch.{asked_snoc, asked_few, texts_snoc, texts_
 pub texts_none : {l : List ℕ} (n : ℕ) (given : List ℕ) → Put l 0 (texts n [] given) l 0
 unfolding texts
 texts_none n given = put_nil
-
-pub room_left : (w : ℕ) (out : List ℕ) → length (take (length out - w) (drop w out)) ≡ length out - w
-room_left w out = ap length (to_end w out) ∙ length-drop w out
 
 pub along : {k : ℕ} (n i : ℕ) → k ≡ n + i → n + (i + 1) ≡ k + 1
 along n i e = omega arith
@@ -95,10 +92,6 @@ module _ (marks : List Bool) (given : List ℕ) (i j lines : ℕ) (c : j ≡ ask
       = rw (one_more, e, z, c) (rw t at (texts_snoc n (take i marks) (get_or marks i false) given)) in
       rw s (put_then p (put_end h (omega (arith, line_length k a)) q))
 
-pub texts_all : {old out : List ℕ} {w : ℕ} (n : ℕ) (marks : List Bool) (given : List ℕ) (i lines : ℕ) → i ≤ lines → lines ≤ i
-    → Put old 0 (texts n (take i marks) given) out w → Put old 0 (texts n (take lines marks) given) out w
-texts_all n marks given i lines h l p = let e : lines ≡ i = omega arith in rw e p
-
 -- ---- what the guard hands back
 all_fit : (n answers roles : ℕ) → n ≤ answers → n ≤ roles → batch_length (row_length * n) answers roles ≡ n
 unfolding batch_length shorter
@@ -128,17 +121,12 @@ pub fits_in : {at s rows : List ℕ} {shut : Bool} {marks : List Bool} {g : Gath
 fits_in {marks = marks} {g = g} most took = omega (arith, took.count, took.few, most.fits, asked_few (take g.lines marks), length-take g.lines marks)
 
 abbrev pub on_by : Runner → Tables → Bool → ℕ → Runner
-on_by r t shut n = record { tables = t; shut = shut; at = r.at; phase = r.phase; done = r.done + n; skip = r.skip }
-
--- what the writer of the answers asks
-pub room_for : {at s rows : List ℕ} {shut : Bool} {marks : List Bool} (told : List ℕ) {g : Gathered} {done room m : ℕ} → Most done room m → Batched at shut s m rows marks g
-    → (g.lines ≡ 0 → ⊥) → length told ≡ batch_lines → (g.lines ≤ length marks) × (g.lines ≤ length told) × (12 * g.lines ≤ room) × (done + 1 + g.lines ≤ last_line + 1)
-room_for told most took some d = (took.marked, omega (arith, took.few, most.fits), omega (arith, took.few, most.space), omega (arith, some, took.few, most.last))
+on_by r t shut n = record { bench = bench t shut; at = r.at; phase = r.phase; done = r.done + n; skip = r.skip }
 
 module _ (r : Runner) (piece old new : List ℕ) (end : Bool) (g : Gathered) (u : Tables) (rows : List ℕ) (marks : List Bool) (given told old_roles roles : List ℕ) (m n : ℕ)
-    (p : r.phase ≡ Lines) (k : r.skip ≡ false) (most : Most r.done (length old) m) (took : Batched r.at r.shut piece m rows marks g)
+    (p : r.phase ≡ Lines) (k : r.skip ≡ false) (most : Most r.done (length old) m) (took : Batched r.at r.bench.shut piece m rows marks g)
     (some : g.lines ≡ 0 → ⊥) (deep : length given ≡ batch_lines) (wide : length old_roles ≡ batch_lines)
-    (did : RunsBatch r.tables (take (row_length * g.count) rows) given told old_roles roles u)
+    (did : RunsBatch r.bench.tables (take (row_length * g.count) rows) given told old_roles roles u)
     (puts : Put old 0 (texts (r.done + 1) (take g.lines marks) told) new n) where
   abbrev asks : List Bool
   asks = take g.lines marks
@@ -155,16 +143,16 @@ module _ (r : Runner) (piece old new : List ℕ) (end : Bool) (g : Gathered) (u 
   last : r.done + g.lines ≤ last_line
   last = omega (arith, took.few, most.last)
 
-  there : bench_of then ≡ bench (run r.tables log) g.shut
+  there : bench_of then ≡ bench (run r.bench.tables log) g.shut
   there = rw (ran_tables rows g.count did took.stored (omega (arith, few)) (omega (arith, few)))
 
-  enough : asked asks ≤ length (answers r.tables log)
-  enough = omega (arith, took.count, length_each answer r.tables log, length_tabulate (request_at rows) g.count)
+  enough : asked asks ≤ length (answers r.bench.tables log)
+  enough = omega (arith, took.count, length_each answer r.bench.tables log, length_tabulate (request_at rows) g.count)
 
-  words : texts (r.done + 1) asks told ≡ texts (r.done + 1) asks (answers r.tables log)
+  words : texts (r.done + 1) asks told ≡ texts (r.done + 1) asks (answers r.bench.tables log)
   words =
       rw (ran_answers rows g.count did took.stored (omega (arith, few)) (omega (arith, few)))
-      (texts_given (r.done + 1) asks (answers r.tables log) (drop g.count given) enough)
+      (texts_given (r.done + 1) asks (answers r.bench.tables log) (drop g.count given) enough)
 
   later : (header : List (List ℕ)) (more : List ℕ) → rest header then (drop g.used piece ++ more)
       ≡ from_line header (bench_of then) (r.done + g.lines) (drop g.used piece ++ more)
@@ -176,7 +164,7 @@ module _ (r : Runner) (piece old new : List ℕ) (end : Bool) (g : Gathered) (u 
         known = header;
         fits = record { opens = λ h. absurd (begun p h); knows = λ h. f.knows p };
         same = λ more e.
-            rest_lines header r (piece ++ more) p ∙ (rw k) ∙ took.goes header (f.knows p) r.tables r.done last more ∙ (rw (← words, ← there))
+            rest_lines header r (piece ++ more) p ∙ (rw k) ∙ took.goes header (f.knows p) r.bench.tables r.done last more ∙ (rw (← words, ← there))
             ∙ ap (told_first (texts (r.done + 1) asks told)) (sym (later header more));
       }
 

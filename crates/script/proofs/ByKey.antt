@@ -1,6 +1,6 @@
 -- Laws of keys: a text of bytes has the key of another of at most seven bytes only where the two are the same. So which
 -- name or word a text is can be told by its key.
--- Packed: the loop that makes a key, with packed_start, packed_small, packed_more, packed_end, key_long.
+-- Packed: the loop that makes a key, with packed_small, packed_more, packed_end, key_long.
 -- Keyed: numbers that are the keys of texts, with at_key and at_none: the place of a text among them is that of its key.
 -- same_eq, same_self: the same bytes. name_keys_lem, word_keys_lem: the keys of the names and of the words.
 -- Assumes nothing.
@@ -29,9 +29,6 @@ pub record Packed (s : List ℕ) (k i : ℕ) : Type 0 where
   pub within : i ≤ length s
   pub key : packed 1 s ≡ packed k (drop i s)
   pub small : k < 256 ^ (i + 1)
-
-pub packed_start : (s : List ℕ) → Packed s 1 0
-packed_start s = record { within = omega arith; key = refl; small = omega arith }
 
 pub key_long : (s : List ℕ) → 7 < length s → 0 ≡ text_key s
 unfolding text_key

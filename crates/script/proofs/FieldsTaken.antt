@@ -20,7 +20,7 @@ use Rattle.guard.proofs.Compute.{computing}
 use Rattle.std.specs.Prelude.{Option, Some, None}
 use Rattle.script.specs.Line.{user_word, call_of, Numbers, these, unreadable, joined, asks, used, is_used, ordinal, fields, optional_fields}
 use Rattle.script.specs.Private.Rows.{no_word, field_count, taken_as, joins, take_from, front, ahead, members}
-use Rattle.script.specs.declared.line.Line.TheVariants.{Ask, SetUser, Bad}
+use Rattle.script.specs.declared.line.Line.TheVariants.{Ask, SetUser}
 use Rattle.script.specs.declared.fields.Six.{Six}
 
 -- ---- one field: used or not, and a number or not
@@ -101,17 +101,18 @@ module _ {u g : ℕ} {v : List ℕ} {i k : ℕ} {ns : List ℕ} {r : Option ℕ}
 
 -- ---- what the line asks
 module _ (w : ℕ) (six : Six) (x : Numbers) where
-  pub asks_bad : x ≡ unreadable → Bad ≡ asks w (ahead (Some six) x)
+  pub asks_bad : x ≡ unreadable → None ≡ asks w (ahead (Some six) x)
   unfolding asks ahead front joined
   asks_bad h = rw h
 
   module _ (name level cats rights ceiling shared junior : ℕ) (h : x ≡ these (name ∷ level ∷ cats ∷ rights ∷ ceiling ∷ shared ∷ junior ∷ [])) where
-    pub asks_user : w ≡ user_word → SetUser six.user level cats ceiling ≡ asks w (ahead (Some six) x)
+    pub asks_user : w ≡ user_word → Some (SetUser (record { user = six.user; level = level; cats = cats; ceiling = ceiling })) ≡ asks w (ahead (Some six) x)
     unfolding asks ahead front joined
     asks_user e = rw (h, e)
 
     pub asks_request : (w ≡ user_word → ⊥)
-        → Ask
+        → Some
+        (Ask
         (record {
           call = call_of w;
           seat = six.seat;
@@ -126,7 +127,7 @@ module _ (w : ℕ) (six : Six) (x : Numbers) where
           rights = rights;
           shared = shared;
           junior = junior;
-        })
+        }))
         ≡ asks w (ahead (Some six) x)
     unfolding asks ahead front joined
     asks_request e = rw (h, ne_eqb w user_word e)

@@ -3,6 +3,7 @@
 --     taken_none, goes_on, taken_next, taken_all     the loop's beginning, its test, one line more, and its end
 --     count_few              at most as many requests as lines
 -- Assumes nothing.
+use Rattle.std.specs.Prelude.{Option, Some, None}
 use Prim.Native.Nat.{ℕ, suc, ◌+◌, ◌-◌, ◌*◌, ◌≤◌, ◌<◌}
 use mathlib.Core.Path.{◌≡◌, refl, ap, sym, ◌∙◌}
 use mathlib.Core.Bool.{Bool, true, false, ◌||◌, true≢false}
@@ -29,7 +30,7 @@ use Rattle.script.specs.Names.{Ordered}
 use Rattle.script.specs.Run.{bench, told_first, from_line}
 use Rattle.script.specs.Private.LineBatch.{is_request, is_allowed, numbers_of, one, asked, said, texts, Batched}
 use Rattle.script.specs.declared.line.Line.{Line}
-use Rattle.script.specs.declared.line.Line.TheVariants.{Ask, SetUser, Bad}
+use Rattle.script.specs.declared.line.Line.TheVariants.{Ask, SetUser}
 use Rattle.script.specs.declared.line.Front.{Front}
 use Rattle.script.specs.Proof.Silent.{put_put}
 use Rattle.script.proofs.ValuesInTurn.{after_drop, to_end}
@@ -39,10 +40,10 @@ use Rattle.script.proofs.RequestRows.{requests_of, requests_on}
 use Rattle.script.proofs.LinesInBatch.{line_in, asked_snoc, asked_few, texts_snoc, texts_given}
 
 -- ---- one line on
-abbrev pub answer_to : Tables → Line → ℕ
+abbrev pub answer_to : Tables → Option Line → ℕ
 answer_to t l = said (is_request l) (get_or (answers t (requests_of l)) 0 0)
 
-batch_on : (header : List (List ℕ)) (t : Tables) (shut : Bool) (n : ℕ) (s more : List ℕ) {l : Line} → l ≡ read_line header (before 10 s) → is_allowed shut l ≡ false
+batch_on : (header : List (List ℕ)) (t : Tables) (shut : Bool) (n : ℕ) (s more : List ℕ) {l : Option Line} → l ≡ read_line header (before 10 s) → is_allowed shut l ≡ false
     → n < last_line → length (before 10 s) < length s
     → from_line header (bench t shut) n (s ++ more)
     ≡ told_first (line_text (n + 1) (answer_to t l)) (from_line header (bench (run t (requests_of l)) (shut || is_request l)) (n + 1) (after 10 s ++ more))
@@ -62,24 +63,24 @@ goes_on s used n b h = go (leb (length (take (length s - used) (drop used s))) n
     go true e b h = absurd (true≢false h)
 
 -- ---- what a line adds to a log
-run_on : (t : Tables) (log : List Request) (l : Line) → run t (log ++ requests_of l) ≡ run (run t log) (requests_of l)
+run_on : (t : Tables) (log : List Request) (l : Option Line) → run t (log ++ requests_of l) ≡ run (run t log) (requests_of l)
 unfolding run_in
-run_on t log (Ask q) = run_snoc t log q
-run_on t log (SetUser user level cats ceiling) = rw append-nil
-run_on t log Bad = rw append-nil
+run_on t log (Some (Ask q)) = run_snoc t log q
+run_on t log (Some (SetUser u)) = rw append-nil
+run_on t log None = rw append-nil
 
-texts_on : (t : Tables) (log : List Request) (l : Line) (n : ℕ) (ms : List Bool) → asked ms ≡ length log
+texts_on : (t : Tables) (log : List Request) (l : Option Line) (n : ℕ) (ms : List Bool) → asked ms ≡ length log
     → texts n (ms ++ (is_request l ∷ [])) (answers t (log ++ requests_of l)) ≡ texts n ms (answers t log) ++ line_text (n + length ms) (answer_to (run t log) l)
 unfolding is_request said each_in
-texts_on t log (Ask q) n ms e =
+texts_on t log (Some (Ask q)) n ms e =
     let given : List ℕ = answers t log in
     let a : ℕ = answer (run t log) q in
     let many : length given ≡ length log = length_each answer t log in
     ap (texts n (ms ++ (true ∷ []))) (each_snoc answer t log q)
     ∙ texts_snoc n ms true (given ++ (a ∷ []))
     ∙ (rw (texts_given n ms given (a ∷ []) (omega arith), get_or_at given a [] 0 (asked ms) (many ∙ sym e)))
-texts_on t log (SetUser user level cats ceiling) n ms e = rw append-nil (texts_snoc n ms false (answers t log))
-texts_on t log Bad n ms e = rw append-nil (texts_snoc n ms false (answers t log))
+texts_on t log (Some (SetUser u)) n ms e = rw append-nil (texts_snoc n ms false (answers t log))
+texts_on t log None n ms e = rw append-nil (texts_snoc n ms false (answers t log))
 
 -- ---- the loop over lines
 pub record Taken (at s : List ℕ) (before : Bool) (rows : List ℕ) (marks : List Bool) (count lines used : ℕ) (shut : Bool) : Type 0 where

@@ -5,6 +5,7 @@
 --     names_on, names_end          the names line with more behind it, and at the end of the input
 --     names_too_long, too_long     a line past 255 bytes
 -- Assumes nothing.
+use Rattle.std.specs.Prelude.{None}
 use Prim.Native.Nat.{ℕ, suc, ◌+◌, ◌-◌, ◌≤◌, ◌<◌}
 use mathlib.Core.Path.{◌≡◌, refl, ap, ◌∙◌}
 use mathlib.Core.Bool.{Bool, true, false, cond}
@@ -23,7 +24,6 @@ use Rattle.script.specs.Report.{Bench, answer_line, line_text, answered, last_li
 use Rattle.script.specs.Private.Slices.{before, written, Put}
 use Rattle.script.specs.Run.{Told, told_first, finally, closing, from_line, from_names, Goes}
 use Rattle.script.specs.Proof.Silent.{put_put}
-use Rattle.script.specs.declared.line.Line.TheVariants.{Bad}
 use Rattle.script.specs.declared.runner.Runner.{Runner}
 use Rattle.script.proofs.Lines.{lines_first, before_whole, after_none}
 use Rattle.script.proofs.NamesLineShort.{names_short}
@@ -114,6 +114,6 @@ names_too_long l h = is_false (is_names (values l)) (λ t. not_both (names_short
     not_both g = omega arith
 
 -- a line past 255 bytes can't be read, whatever follows
-pub too_long : (header : List (List ℕ)) (l : List ℕ) → 255 < length l → read_line header l ≡ Bad
+pub too_long : (header : List (List ℕ)) (l : List ℕ) → 255 < length l → read_line header l ≡ None
 unfolding read_line every
 too_long header l h = rw (lt-leb (length l) 255 h)

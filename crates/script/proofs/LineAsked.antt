@@ -17,7 +17,6 @@ use Rattle.script.specs.Names.{all_names, under, Ordered}
 use Rattle.script.specs.Line.{used, Numbers, these, asks, line_of, read_line}
 use Rattle.script.specs.Private.Rows.{no_word, name_count, field_count, fine, fills, is_full, IsFull, IsRow, take_from, ahead, members}
 use Rattle.script.specs.declared.line.Line.{Line}
-use Rattle.script.specs.declared.line.Line.TheVariants.{Bad}
 use Rattle.script.specs.declared.fields.Six.{Six}
 use Rattle.script.specs.declared.row.Row.{Row}
 use Rattle.script.proofs.FieldsTaken.{take_split}
@@ -27,7 +26,7 @@ use Rattle.script.proofs.RowUnderHeader.{row_number, row_given, row_form, row_no
 use Rattle.script.proofs.LineOfRow.{Held, line_unknown, line_known}
 use Rattle.script.proofs.NoForm.{line_none}
 
-either_way : (b : Bool) {x : Line} → Bad ≡ x → Bad ≡ cond b x Bad
+either_way : (b : Bool) {x : Option Line} → None ≡ x → None ≡ cond b x None
 either_way true e = e
 either_way false e = refl
 
@@ -35,7 +34,7 @@ and-true : (a b : Bool) → (a && b) ≡ true → (a ≡ true) × (b ≡ true)
 and-true true b h = (refl, h)
 and-true false b h = absurd (true≢false (sym h))
 
-read_long : (h : List (List ℕ)) (l : List ℕ) → 255 < length l → Bad ≡ read_line h l
+read_long : (h : List (List ℕ)) (l : List ℕ) → 255 < length l → None ≡ read_line h l
 unfolding read_line every
 read_long h l k = rw (lt-leb (length l) 255 k)
 
@@ -52,14 +51,14 @@ module _ {h : List (List ℕ)} {at l vals : List ℕ} {r : Row} (o : Ordered h a
       go zero m = absurd (none_below 0 m)
       go (suc j) m = fills_names o j
 
-  pub read_none : r.given ≡ None → Bad ≡ read_line h l
+  pub read_none : r.given ≡ None → None ≡ read_line h l
   unfolding read_line every is_full
   read_none k =
       go (leb (length l) 255) (eqb (length (values l)) (length h)) refl (fine at (values l) (length (values l))) refl
       (ap (λ (b : Bool). b && fine at (values l) (length (values l))) (sym filled) ∙ (rw k at d.whole))
     where
       go : (a b : Bool) → eqb (length (values l)) (length h) ≡ b → (f : Bool) → fine at (values l) (length (values l)) ≡ f → (b && f) ≡ false
-          → Bad ≡ cond (a && (b && true)) (line_of (under h (values l))) Bad
+          → None ≡ cond (a && (b && true)) (line_of (under h (values l))) None
       go a true s false e z =
           let many = eqb-true (length (values l)) (length h) s in
           let (i, m, n) = row_none o (values l) many (ap (fine at (values l)) (sym many) ∙ e) in
@@ -68,7 +67,7 @@ module _ {h : List (List ℕ)} {at l vals : List ℕ} {r : Row} (o : Ordered h a
       go true false s f e z = refl
       go false false s f e z = refl
 
-  pub read_over : 255 < r.len → Bad ≡ read_line h l
+  pub read_over : 255 < r.len → None ≡ read_line h l
   read_over k = read_long h l (rw (← d.long) k)
 
   module _ {given : ℕ} (k : r.given ≡ Some given) (few : r.len ≤ 255) where
@@ -95,7 +94,7 @@ module _ {h : List (List ℕ)} {at l vals : List ℕ} {r : Row} (o : Ordered h a
           form = λ i m. row_form o (values l) many i m (ap (fine at (values l)) (sym many) ∙ parts.1);
         }
 
-    pub read_unknown : no_word ≤ get_or vals 0 0 → Bad ≡ read_line h l
+    pub read_unknown : no_word ≤ get_or vals 0 0 → None ≡ read_line h l
     read_unknown m = line_unknown _ _ _ held m ∙ read_good
 
     read_known : (u : ℕ) → get_or vals 0 0 < no_word → members u 1 field_count ≡ used (get_or vals 0 0)
@@ -110,6 +109,6 @@ module _ {h : List (List ℕ)} {at l vals : List ℕ} {r : Row} (o : Ordered h a
 pub asks_by : (w : ℕ) (x y : Option Six) (rest : Numbers) → x ≡ y → asks w (ahead y rest) ≡ asks w (ahead x rest)
 asks_by w x y rest e = rw e
 
-pub asks_fault : (w : ℕ) (x : Option Six) (rest : Numbers) → x ≡ None → Bad ≡ asks w (ahead x rest)
+pub asks_fault : (w : ℕ) (x : Option Six) (rest : Numbers) → x ≡ None → None ≡ asks w (ahead x rest)
 unfolding asks ahead
 asks_fault w x rest e = rw e

@@ -4,6 +4,7 @@
 --     under_later, no_values                    a value that is no word; a line has values
 --     line_unknown, line_known                  what the line asks: an unknown word; a word
 -- Assumes nothing.
+use Rattle.std.specs.Prelude.{None}
 use Prim.Native.Nat.{ℕ, zero, suc, ◌+◌, ◌≤◌, ◌<◌}
 use mathlib.Core.Path.{◌≡◌, refl, ap, sym, ◌∙◌}
 use mathlib.Core.Bool.{Bool, true, false, cond}
@@ -22,7 +23,6 @@ use Rattle.script.specs.Line.{value_of, request_words, words, used, Numbers, the
 use Rattle.script.specs.Private.Rows.{word_value, value_under, has_form, no_word, name_count, field_count, blank, taken_as, joins, take_from, members}
 use Rattle.script.specs.declared.line.Value.{Value}
 use Rattle.script.specs.declared.line.Value.TheVariants.{Digits, Dash, Other}
-use Rattle.script.specs.declared.line.Line.TheVariants.{Bad}
 use Rattle.script.proofs.ByKey.{same_eq}
 use Rattle.script.proofs.FieldsTaken.{step_on}
 use Rattle.script.proofs.NamePlaces.{column_most}
@@ -111,7 +111,7 @@ first_word w e = e ∙ go (same w (bytes "-")) refl (ltb (column w words) (lengt
     go false h false k = omega (arith, column_most w words, ltb-false _ _ k, words_length)
 
 -- ---- lines
-pub line_unknown : (us : List (List ℕ)) (vals : List ℕ) (g : ℕ) → Held us vals g → no_word ≤ get_or vals 0 0 → Bad ≡ line_of us
+pub line_unknown : (us : List (List ℕ)) (vals : List ℕ) (g : ℕ) → Held us vals g → no_word ≤ get_or vals 0 0 → None ≡ line_of us
 unfolding line_of
 line_unknown [] vals g c h = absurd (no_values c.whole)
 line_unknown (w ∷ ws) vals g c h =

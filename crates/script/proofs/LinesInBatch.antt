@@ -5,6 +5,7 @@
 --     texts_given            answers behind those that are asked for change nothing
 --     texts_length           each line has at most twelve bytes
 -- Assumes nothing.
+use Rattle.std.specs.Prelude.{Option, Some, None}
 use Prim.Native.Nat.{ℕ, suc, ◌+◌, ◌*◌, ◌≤◌}
 use mathlib.Core.Path.{◌≡◌, refl, ap, sym, ◌∙◌}
 use mathlib.Core.Bool.{Bool, true, false, ◌||◌, true≢false}
@@ -20,19 +21,19 @@ use Rattle.script.specs.Report.{answer_line, line_text}
 use Rattle.script.specs.Run.{bench}
 use Rattle.script.specs.Private.LineBatch.{is_request, is_allowed, one, asked, said, texts}
 use Rattle.script.specs.declared.line.Line.{Line}
-use Rattle.script.specs.declared.line.Line.TheVariants.{Ask, SetUser, Bad}
+use Rattle.script.specs.declared.line.Line.TheVariants.{Ask, SetUser}
 use Rattle.script.proofs.Texts.{line_length}
 use Rattle.script.proofs.RequestRows.{requests_of}
 
 -- ---- a line in a batch
-pub line_in : (t : Tables) (shut : Bool) (l : Line) → is_allowed shut l ≡ false
+pub line_in : (t : Tables) (shut : Bool) (l : Option Line) → is_allowed shut l ≡ false
     → answer_line (bench t shut) l
     ≡ record { bench = bench (run t (requests_of l)) (shut || is_request l); answer = said (is_request l) (get_or (answers t (requests_of l)) 0 0) }
 unfolding answer_line is_request is_allowed run_in each_in said
-line_in t shut (Ask q) h = ap (λ (b : Bool). record { bench = bench (next t q) b; answer = answer t q }) (sym (or-true shut))
-line_in t true (SetUser user level cats ceiling) h = refl
-line_in t false (SetUser user level cats ceiling) h = absurd (true≢false h)
-line_in t shut Bad h = rw (or-false shut)
+line_in t shut (Some (Ask q)) h = ap (λ (b : Bool). record { bench = bench (next t q) b; answer = answer t q }) (sym (or-true shut))
+line_in t true (Some (SetUser u)) h = refl
+line_in t false (Some (SetUser u)) h = absurd (true≢false h)
+line_in t shut None h = rw (or-false shut)
 
 -- ---- the output of lines
 pub one_few : (m : Bool) → one m ≤ 1

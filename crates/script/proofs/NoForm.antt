@@ -1,6 +1,7 @@
 -- A line with a value of no form can't be read.
 --     line_none       one of its values has no form
 -- Assumes nothing.
+use Rattle.std.specs.Prelude.{None}
 use Prim.Native.Nat.{ℕ, zero, suc, ◌<◌}
 use mathlib.Core.Path.{◌≡◌, refl, ap, sym, ◌∙◌}
 use mathlib.Core.Bool.{Bool, true, false, cond}
@@ -16,7 +17,6 @@ use Rattle.script.specs.Line.{value_of, words, used, Numbers, unreadable, joined
 use Rattle.script.specs.Private.Rows.{word_value, value_under, has_form, name_count, field_count, members}
 use Rattle.script.specs.declared.line.Value.{Value}
 use Rattle.script.specs.declared.line.Value.TheVariants.{Digits, Dash, Other}
-use Rattle.script.specs.declared.line.Line.TheVariants.{Bad}
 use Rattle.script.proofs.FieldsTaken.{table_used}
 use Rattle.script.proofs.WordAtFront.{words_length}
 use Rattle.script.proofs.LineOfRow.{under_later, no_values}
@@ -70,7 +70,7 @@ unknown_word w h = go (same w (bytes "-")) (ltb (column w words) (length words))
     go false true h = absurd (clash true refl h)
     go false false h = refl
 
-pub line_none : (us : List (List ℕ)) (i : ℕ) → length us ≡ name_count → i < name_count → has_form (value_under i (get_or us i [])) ≡ false → Bad ≡ line_of us
+pub line_none : (us : List (List ℕ)) (i : ℕ) → length us ≡ name_count → i < name_count → has_form (value_under i (get_or us i [])) ≡ false → None ≡ line_of us
 unfolding line_of asks
 line_none [] i t l h = absurd (no_values t)
 line_none (w ∷ ws) zero t l h = rw (unknown_word w h)
@@ -79,11 +79,11 @@ line_none (w ∷ ws) (suc k) t l h = go (ltb (column w words) (length words)) re
     none : value_of (get_or ws k []) ≡ Other
     none = other_value (value_of (get_or ws k [])) (rw under_later at h)
 
-    go : (b : Bool) → ltb (column w words) (length words) ≡ b → Bad ≡ cond b (asks (column w words) (take_each (used (column w words)) ws)) Bad
+    go : (b : Bool) → ltb (column w words) (length words) ≡ b → None ≡ cond b (asks (column w words) (take_each (used (column w words)) ws)) None
     go true e =
         let n : length (used (column w words)) ≡ field_count = sym (ap length (table_used (column w words) (omega (arith, ltb-true (column w words) (length words) e, words_length)))) ∙ members_length _ 1 field_count in
         bad (take_all_other (used (column w words)) ws k (omega arith) (omega arith) none)
       where
-        bad : {x : Numbers} → x ≡ unreadable → Bad ≡ asks (column w words) x
+        bad : {x : Numbers} → x ≡ unreadable → None ≡ asks (column w words) x
         bad e = rw e
     go false e = refl

@@ -5,6 +5,7 @@
 --     skip_found, skip_none        the rest of a line that has been answered
 --     whole, last, long            a line of values: with its byte 10, at the end of the input, past 255 bytes
 -- Assumes nothing.
+use Rattle.std.specs.Prelude.{Option, None}
 use Prim.Native.Nat.{ℕ, ◌+◌, ◌≤◌, ◌<◌}
 use mathlib.Core.Path.{◌≡◌, refl, ap, sym, ◌∙◌}
 use mathlib.Core.Bool.{Bool, true, false, cond}
@@ -23,7 +24,6 @@ use Rattle.script.specs.declared.runner.Phase.TheVariants.{Heading, Names, Lines
 use Rattle.script.specs.Run.{before_lines, bench_of, told_first, from_line, from_names, rest_in, rest, Fits, Onward, Goes}
 use Rattle.script.specs.Private.Steps.{after_line, text_of, with_names, over}
 use Rattle.script.specs.declared.line.Line.{Line}
-use Rattle.script.specs.declared.line.Line.TheVariants.{Bad}
 use Rattle.script.specs.declared.runner.Runner.{Runner}
 use Rattle.script.specs.Proof.Silent.{rest_heading, rest_names, rest_lines, rest_over}
 use Rattle.script.proofs.ValuesInTurn.{before_most, before_take, after_drop}
@@ -39,7 +39,7 @@ pub begun : {p : Phase} → p ≡ Lines → before_lines p ≡ true → ⊥
 begun e h = clash _ h (ap before_lines e)
 
 abbrev pub headed : Runner → Runner
-headed r = record { tables = r.tables; shut = r.shut; at = r.at; phase = Names; done = r.done; skip = r.skip }
+headed r = record { bench = r.bench; at = r.at; phase = Names; done = r.done; skip = r.skip }
 
 pub goes_heading : (e : Bool) (r : Runner) (s : List ℕ) → r.phase ≡ Heading → Goes e r s heading (headed r) s
 goes_heading e r s p header f =
@@ -84,14 +84,14 @@ rest_line : (header : List (List ℕ)) (r : Runner) (s : List ℕ) → r.phase �
 unfolding rest_in text_of after_line
 rest_line header r s p t d n = rw (p, t) (line_on header (bench_of r) r.done s d n)
 
-line_fits : (header : List (List ℕ)) (r : Runner) (asked : Line) → r.phase ≡ Lines → Fits header r → Fits header (after_line r asked)
+line_fits : (header : List (List ℕ)) (r : Runner) (asked : Option Line) → r.phase ≡ Lines → Fits header r → Fits header (after_line r asked)
 unfolding after_line
 line_fits header r asked p f = record { opens = λ h. absurd (begun p h); knows = λ h. f.knows p }
 
 abbrev pub skipping : Runner → Runner
-skipping r = record { tables = r.tables; shut = r.shut; at = r.at; phase = r.phase; done = r.done; skip = true }
+skipping r = record { bench = r.bench; at = r.at; phase = r.phase; done = r.done; skip = true }
 
-skip_on : (header : List (List ℕ)) (r : Runner) (asked : Line) (s : List ℕ) → r.phase ≡ Lines → r.skip ≡ false
+skip_on : (header : List (List ℕ)) (r : Runner) (asked : Option Line) (s : List ℕ) → r.phase ≡ Lines → r.skip ≡ false
     → rest header (after_line r asked) (after 10 s) ≡ rest header (skipping (after_line r asked)) s
 unfolding rest_in after_line
 skip_on header r asked s p t = rw (p, t)
@@ -118,7 +118,7 @@ module _ (s : List ℕ) (e : Bool) (k : ℕ) (f : k ≡ length (before 10 s)) wh
 module _ (r : Runner) (s : List ℕ) (e : Bool) (k : ℕ) (f : k ≡ length (before 10 s)) where
   -- the rest of a line that has been answered
   pub skip_found : r.phase ≡ Lines → r.skip ≡ true → k < length s
-      → Goes e r s [] (record { tables = r.tables; shut = r.shut; at = r.at; phase = r.phase; done = r.done; skip = false }) (drop (k + 1) s)
+      → Goes e r s [] (record { bench = r.bench; at = r.at; phase = r.phase; done = r.done; skip = false }) (drop (k + 1) s)
   skip_found p t l header fits =
       let m : length (before 10 s) < length s = rw f at l in
       record {
@@ -179,5 +179,5 @@ module _ (r : Runner) (s : List ℕ) (e : Bool) (k : ℕ) (f : k ≡ length (bef
           same = λ more h.
               rest_line header r (s ++ more) p t d (omega (arith, length-append s more))
               ∙ (rw (before_all 10 more s m, after_all 10 more s m, too_long header s n, too_long header (s ++ before 10 more) (omega (arith, length-append s (before 10 more))), drop_of_length-le s l)
-              (ap (told_first (text_of r Bad)) (skip_on header r Bad more p t)));
+              (ap (told_first (text_of r None)) (skip_on header r None more p t)));
         }

@@ -1,14 +1,12 @@
 -- What a call of the runner hands back, from what it wrote; and the loop over a piece.
---     idled                     a call that does nothing
 --     worked                    a call that stores at the front of the output
 --     stepped                   .. and has used some input
 --     Held                      the loop over a piece: so far `at` bytes are used and w bytes written
 --     tail_back                 a part at the end, put back
---     held_none, held_more      its beginning, and one call more
+--     held_more                 one call more
 --     held_done                 its end
 --     loop_more, loop_done      both, as the loop cuts off what is left of the piece
 --     headed_done               a piece whose call writes the heading first
---     idle_done                 .. or has no room for it
 -- Assumes nothing.
 use Prim.Native.Nat.{ℕ, ◌+◌, ◌-◌, ◌≤◌, ◌<◌}
 use mathlib.Core.Path.{◌≡◌, refl, ap, sym, ◌∙◌}
@@ -22,13 +20,13 @@ use borrow.Rule.Slice.PartMut.{put_mid}
 use Rattle.script.specs.Report.{heading}
 use Rattle.script.specs.Private.Slices.{Put}
 use Rattle.script.specs.declared.runner.Phase.TheVariants.{Heading}
-use Rattle.script.specs.Run.{Goes, Worked, Stopped, Finished}
+use Rattle.script.specs.Run.{Goes, Worked, Finished}
 use Rattle.script.specs.Private.Steps.{Stepped}
 use Rattle.script.specs.declared.runner.Runner.{Runner}
 use Rattle.script.specs.declared.runner.Ran.{Ran}
 use Rattle.script.proofs.Texts.{heading_length}
 use Rattle.script.proofs.ValuesInTurn.{to_end}
-use Rattle.script.proofs.LeftToTell.{goes_then, goes_nowhere, Front, front}
+use Rattle.script.proofs.LeftToTell.{goes_then, Front, front}
 use Rattle.script.proofs.Onward.{headed, goes_heading}
 
 -- ---- one call
@@ -45,9 +43,6 @@ worked r r2 s e old new w u n p l h g =
     let f : Front old new w n = front p l in
     record { within = h; room = f.room; frame = f.frame; goes = rw f.text g }
 
-pub idled : (r : Runner) (s : List ℕ) (e : Bool) (old : List ℕ) → (r.phase ≡ Heading → ⊥) → Stopped r s e (length old) → Stepped r s e old old (ran r 0 0)
-idled r s e old b h = record { did = worked_none r r s e old 0 (omega arith) (goes_nowhere e r s); begun = b; stops = λ z o l. h o (omega arith) }
-
 none_used : (u : ℕ) → 0 < u → u ≡ 0 → ⊥
 none_used u h z = omega arith
 
@@ -62,10 +57,6 @@ pub record Held (piece : List ℕ) (end : Bool) (old : List ℕ) (r0 : Runner) (
   pub same : length out ≡ length old
   pub frame : drop w out ≡ drop w old
   pub goes : Goes end r0 piece (take w out) r (drop at piece)
-
-pub held_none : (piece : List ℕ) (end : Bool) (old : List ℕ) (r : Runner) → Held piece end old r old r 0 0
-held_none piece end old r =
-    record { within = omega arith; room = omega arith; same = refl; frame = refl; goes = goes_nowhere end r piece }
 
 pub tail_back : (w : ℕ) (out ys : List ℕ) → put_mid w (length out - w) out ys ≡ take w out ++ ys
 tail_back w out ys =
@@ -145,10 +136,3 @@ module _ {piece old out ys : List ℕ} {end : Bool} {r : Runner} {x : Ran} {n : 
   pub headed_done : Finished (headed r) piece end (take (length out - n) (drop n out)) ys x
       → Finished r piece end old (put_mid n (length out - n) out ys) (ran x.runner x.used (n + x.wrote))
   headed_done k = rw zero-add at (held_done (held_heading piece end old out r n z l o p) refl m k)
-
-pub idle_done : {r : Runner} {s old : List ℕ} {e : Bool} {x : Ran} → x ≡ ran r 0 0 → length old < 12 → Finished r s e old old x
-idle_done {r} {s} {old} {e} {x} h l =
-    rw h (record { did = worked_none r r s e old 0 (omega arith) (goes_nowhere e r s); stops = λ o room. absurd (none room) })
-  where
-    none : 12 ≤ length old - 0 → ⊥
-    none room = omega arith

@@ -6,7 +6,7 @@
 --     nobody_built               the tables that a run opens with
 --     said_next, said_text     the runner and the text after an answer
 -- Assumes nothing.
-use Rattle.std.specs.Prelude.{None}
+use Rattle.std.specs.Prelude.{Option, Some, None}
 use Prim.Native.Nat.{ℕ, ◌+◌, ◌≤◌, ◌<◌}
 use mathlib.Core.Path.{◌≡◌, refl}
 use mathlib.Core.Bool.{Bool, true, false, cond, ◌||◌, true≢false}
@@ -22,36 +22,35 @@ use Rattle.guard.specs.Tables.{edition1, no_user}
 use Rattle.guard.specs.Sound.{users_in_range, edition_in_range}
 use Rattle.guard.specs.Fresh.{fresh, build}
 use Rattle.guard.specs.Step.{step}
-use Rattle.guard.specs.declared.Tables.{Tables}
 use Rattle.guard.specs.declared.Request.{Request}
 use Rattle.guard.specs.declared.Outcome.{Outcome}
-use Rattle.script.specs.Report.{Answered, unread, with_user, user_in_ranges, answer_line, line_text}
+use Rattle.script.specs.Report.{Bench, Answered, unread, with_user, user_in_ranges, answer_line, line_text}
 use Rattle.script.specs.Private.Slices.{Put}
 use Rattle.script.specs.Run.{bench, bench_of}
-use Rattle.script.specs.Private.Steps.{said_by, after_line, text_of}
+use Rattle.script.specs.Private.Steps.{after_line, text_of}
 use Rattle.script.specs.declared.line.Line.{Line}
+use Rattle.script.specs.declared.line.UserRecord.{UserRecord}
 use Rattle.script.specs.declared.line.Line.TheVariants.{Ask, SetUser}
 use Rattle.script.specs.declared.runner.Runner.{Runner}
-use Rattle.script.specs.declared.reply.Reply.{Reply}
 
-abbrev pub outside : ℕ → ℕ → ℕ → ℕ → Bool
-outside user level cats ceiling = leb 16 user || (ltb 3 level || (ltb all_categories cats || ltb 3 ceiling))
+abbrev pub outside : UserRecord → Bool
+outside u = leb 16 u.user || (ltb 3 u.level || (ltb all_categories u.cats || ltb 3 u.ceiling))
 
-pub record Inside (user level cats ceiling : ℕ) : Type 0 where
-  pub user_in : user < 16
-  pub level_in : level ≤ 3
-  pub cats_in : cats ≤ all_categories
-  pub ceiling_in : ceiling ≤ 3
+pub record Inside (u : UserRecord) : Type 0 where
+  pub user_in : u.user < 16
+  pub level_in : u.level ≤ 3
+  pub cats_in : u.cats ≤ all_categories
+  pub ceiling_in : u.ceiling ≤ 3
 
 abbrev built : ℕ → Outcome
 built n = record { tables = fresh (replicate user_count no_user) edition1; answer = n; role = None }
 
-module _ (user level cats ceiling : ℕ) where
-  pub inside : outside user level cats ceiling ≡ false → Inside user level cats ceiling
-  inside h = go (leb 16 user) refl (ltb 3 level) refl (ltb all_categories cats) refl (ltb 3 ceiling) refl h
+module _ (u : UserRecord) where
+  pub inside : outside u ≡ false → Inside u
+  inside h = go (leb 16 u.user) refl (ltb 3 u.level) refl (ltb all_categories u.cats) refl (ltb 3 u.ceiling) refl h
     where
-      go : (a : Bool) → leb 16 user ≡ a → (b : Bool) → ltb 3 level ≡ b → (c : Bool) → ltb all_categories cats ≡ c → (d : Bool) → ltb 3 ceiling ≡ d
-          → (a || (b || (c || d))) ≡ false → Inside user level cats ceiling
+      go : (a : Bool) → leb 16 u.user ≡ a → (b : Bool) → ltb 3 u.level ≡ b → (c : Bool) → ltb all_categories u.cats ≡ c → (d : Bool) → ltb 3 u.ceiling ≡ d
+          → (a || (b || (c || d))) ≡ false → Inside u
       go false a false b false c false d h =
           record { user_in = leb-false _ _ a; level_in = ltb-false _ _ b; cats_in = ltb-false _ _ c; ceiling_in = ltb-false _ _ d }
       go false a false b false c true d h = absurd (true≢false h)
@@ -59,46 +58,46 @@ module _ (user level cats ceiling : ℕ) where
       go false a true b c z d y h = absurd (true≢false h)
       go true a b x c z d y h = absurd (true≢false h)
 
-  in_ranges_lem : Inside user level cats ceiling → user_in_ranges user level cats ceiling ≡ true
+  in_ranges_lem : Inside u → user_in_ranges u ≡ true
   unfolding user_in_ranges label_in_range_in every
-  in_ranges_lem i = rw (lt-ltb user 16 i.user_in, le-leb level 3 i.level_in, le-leb cats all_categories i.cats_in, le-leb ceiling 3 i.ceiling_in)
+  in_ranges_lem i = rw (lt-ltb u.user 16 i.user_in, le-leb u.level 3 i.level_in, le-leb u.cats all_categories i.cats_in, le-leb u.ceiling 3 i.ceiling_in)
 
-  within_ranges : user_in_ranges user level cats ceiling ≡ true → outside user level cats ceiling ≡ false
+  within_ranges : user_in_ranges u ≡ true → outside u ≡ false
   unfolding user_in_ranges label_in_range_in
   within_ranges h =
-      let t = every_e (ltb user 16 ∷ label_in_range (label level cats) ∷ leb ceiling 3 ∷ []) h in
-      let l = every_e (leb level 3 ∷ leb cats all_categories ∷ []) t.1.0 in
+      let t = every_e (ltb u.user 16 ∷ label_in_range (label u.level u.cats) ∷ leb u.ceiling 3 ∷ []) h in
+      let l = every_e (leb u.level 3 ∷ leb u.cats all_categories ∷ []) t.1.0 in
       rw (
-        lt-leb 16 user (ltb-true user 16 t.0),
-        le-ltb 3 level (leb-true level 3 l.0),
-        le-ltb all_categories cats (leb-true cats all_categories l.1.0),
-        le-ltb 3 ceiling (leb-true ceiling 3 t.1.1.0),
+        lt-leb 16 u.user (ltb-true u.user 16 t.0),
+        le-ltb 3 u.level (leb-true u.level 3 l.0),
+        le-ltb all_categories u.cats (leb-true u.cats all_categories l.1.0),
+        le-ltb 3 u.ceiling (leb-true u.ceiling 3 t.1.1.0),
       )
 
-  module _ (t : Tables) (shut : Bool) where
-    pub set_shut : shut ≡ true → answer_line (bench t shut) (SetUser user level cats ceiling) ≡ unread (bench t shut)
+  module _ (b : Bench) where
+    pub set_shut : b.shut ≡ true → answer_line b (Some (SetUser u)) ≡ unread b
     unfolding answer_line
     set_shut s = rw s
 
-    pub set_outside : shut ≡ false → outside user level cats ceiling ≡ true
-        → answer_line (bench t shut) (SetUser user level cats ceiling) ≡ record { bench = bench t shut; answer = 2 }
+    pub set_outside : b.shut ≡ false → outside u ≡ true
+        → answer_line b (Some (SetUser u)) ≡ record { bench = b; answer = 2 }
     unfolding answer_line
-    set_outside s o = rw (s, is_false (user_in_ranges user level cats ceiling) (λ h. clash _ o (within_ranges h)))
+    set_outside s o = rw (s, is_false (user_in_ranges u) (λ h. clash _ o (within_ranges h)))
 
-    pub set_inside : shut ≡ false → Inside user level cats ceiling
-        → answer_line (bench t shut) (SetUser user level cats ceiling)
-        ≡ record { bench = bench (with_user t user level cats ceiling) shut; answer = 0 }
+    pub set_inside : b.shut ≡ false → Inside u
+        → answer_line b (Some (SetUser u))
+        ≡ record { bench = bench (with_user b.tables u) b.shut; answer = 0 }
     unfolding answer_line
     set_inside s i = rw (s, in_ranges_lem i)
 
-pub ask_said : (t : Tables) (shut : Bool) (q : Request) (o : Outcome) → o ≡ step t q
-    → ◌≡◌ {A = Answered} (record { bench = bench o.tables true; answer = o.answer }) (answer_line (bench t shut) (Ask q))
+pub ask_said : (b : Bench) (q : Request) (o : Outcome) → o ≡ step b.tables q
+    → ◌≡◌ {A = Answered} (record { bench = bench o.tables true; answer = o.answer }) (answer_line b (Some (Ask q)))
 unfolding answer_line step
-ask_said t shut q o h = rw h
+ask_said b q o h = rw h
 
-module _ (r : Runner) (a : Reply) (asked : Line) (h : said_by a ≡ answer_line (bench_of r) asked) where
+module _ (r : Runner) (a : Answered) (asked : Option Line) (h : a ≡ answer_line (bench_of r) asked) where
   pub said_next : ◌≡◌ {A = Runner}
-      (record { tables = a.tables; shut = a.shut; at = r.at; phase = r.phase; done = r.done + 1; skip = r.skip })
+      (record { bench = a.bench; at = r.at; phase = r.phase; done = r.done + 1; skip = r.skip })
       (after_line r asked)
   unfolding after_line
   said_next = rw (← h)

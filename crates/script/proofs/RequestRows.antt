@@ -2,6 +2,7 @@
 --     requests_take        the first rows by themselves
 --     requests_on          what a line adds, stored behind the rows before it
 -- Assumes nothing.
+use Rattle.std.specs.Prelude.{Option, Some, None}
 use Prim.Native.Nat.{ℕ, zero, suc, ◌+◌, ◌*◌, ◌≤◌, ◌<◌}
 use mathlib.Core.Path.{◌≡◌, refl, ap, ap₂, sym, ◌∙◌}
 use mathlib.Core.List.{List, [], ◌∷◌, ◌++◌, append-nil, append_assoc}
@@ -17,13 +18,13 @@ use Rattle.guard.specs.declared.Request.{Request}
 use Rattle.script.specs.Private.Slices.{written}
 use Rattle.script.specs.Private.LineBatch.{is_request, numbers_of, one}
 use Rattle.script.specs.declared.line.Line.{Line}
-use Rattle.script.specs.declared.line.Line.TheVariants.{Ask, SetUser, Bad}
+use Rattle.script.specs.declared.line.Line.TheVariants.{Ask, SetUser}
 
 -- the requests that a line asks
-abbrev pub requests_of : Line → List Request
-requests_of (Ask q) = q ∷ []
-requests_of (SetUser user level cats ceiling) = []
-requests_of Bad = []
+abbrev pub requests_of : Option Line → List Request
+requests_of (Some (Ask q)) = q ∷ []
+requests_of (Some (SetUser u)) = []
+requests_of None = []
 
 -- ---- rows that are the same numbers
 request_same : (a b : List ℕ) (n : ℕ) → ((j : ℕ) → j < row_length → get_or a (row_length * n + j) 0 ≡ get_or b (row_length * n + j) 0) → request_at a n ≡ request_at b n
@@ -81,9 +82,9 @@ module _ (rows : List ℕ) (n : ℕ) (q : Request) (h : row_length * n + row_len
       rw add-one
       (ap₂ (λ (l : List Request) (p : Request). l ++ (p ∷ [])) (requests_same n after_it rows (written_before rows (row_of q) (row_length * n) (omega arith))) stored)
 
-pub requests_on : (rows : List ℕ) (n : ℕ) (l : Line) → row_length * n + row_length ≤ length rows
+pub requests_on : (rows : List ℕ) (n : ℕ) (l : Option Line) → row_length * n + row_length ≤ length rows
     → requests (n + one (is_request l)) (written rows (row_length * n) (numbers_of l)) ≡ requests n rows ++ requests_of l
 unfolding is_request numbers_of written
-requests_on rows n (Ask q) h = requests_more rows n q h
-requests_on rows n (SetUser user level cats ceiling) h = rw (add-zero n, append-nil)
-requests_on rows n Bad h = rw (add-zero n, append-nil)
+requests_on rows n (Some (Ask q)) h = requests_more rows n q h
+requests_on rows n (Some (SetUser u)) h = rw (add-zero n, append-nil)
+requests_on rows n None h = rw (add-zero n, append-nil)

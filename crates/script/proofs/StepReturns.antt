@@ -1,10 +1,10 @@
 -- Each return of a step over one line meets the step's contract.
---     no_room, no_line, over_stops, names_wait, line_waits     why a step that does nothing stops
---     idle_step             .. and what it hands back
+--     no_line, over_stops, line_waits     why a step that does nothing stops
 --     names_step            the names line
 --     found_step, none_step     the rest of a line that has been answered
 --     line_step             a line of values
 -- Assumes nothing.
+use Rattle.std.specs.Prelude.{Option}
 use Prim.Native.Nat.{ℕ, ◌+◌, ◌≤◌, ◌<◌}
 use mathlib.Core.Path.{◌≡◌, refl, ap, sym, ◌∙◌}
 use mathlib.Core.Bool.{Bool, true, false, ◌&&◌, ◌||◌, true≢false}
@@ -24,16 +24,12 @@ use Rattle.script.specs.Private.Steps.{after_line, text_of, Spoken, with_names, 
 use Rattle.script.specs.declared.line.Line.{Line}
 use Rattle.script.specs.declared.runner.Runner.{Runner}
 use Rattle.script.specs.declared.runner.Said.{Said}
-use Rattle.script.specs.declared.runner.Ran.{Ran}
 use Rattle.script.proofs.Texts.{line_length}
 use Rattle.script.proofs.Lines.{found_short}
 use Rattle.script.proofs.Onward.{begun, NamesGo, goes_good, goes_bad, names_whole, names_last, names_long, skip_found, skip_none, whole, last, long, skipping}
-use Rattle.script.proofs.PieceLoop.{ran, worked_none, worked, idled, stepped}
+use Rattle.script.proofs.PieceLoop.{ran, worked_none, worked, stepped}
 
 -- ---- a phase behind the heading
-pub names_later : {p : Phase} → p ≡ Names → p ≡ Heading → ⊥
-names_later e h = let z : ◌≡◌ {A = ℕ} 0 1 = cc in omega arith
-
 pub lines_later : {p : Phase} → p ≡ Lines → p ≡ Heading → ⊥
 lines_later e h = let z : ◌≡◌ {A = ℕ} 0 1 = cc in omega arith
 
@@ -41,12 +37,6 @@ over_later : {p : Phase} → p ≡ Over → p ≡ Heading → ⊥
 over_later e h = let z : ◌≡◌ {A = ℕ} 0 1 = cc in omega arith
 
 -- ---- why a step stops
-pub no_room : (r : Runner) (s : List ℕ) (e : Bool) (n : ℕ) → n < 12 → Stopped r s e n
-no_room r s e n h o l = absurd (short l)
-  where
-    short : 12 ≤ n → ⊥
-    short l = omega arith
-
 closed : (r : Runner) (s : List ℕ) (e : Bool) (n : ℕ) → (Open r s → ⊥) → Stopped r s e n
 closed r s e n h o l = absurd (h o)
 
@@ -64,14 +54,6 @@ over_stops r s e n p = closed r s e n shut
     shut (names_to_come q) = clash _ q (ap before_lines p)
     shut (line_to_come q d l) = let z : ◌≡◌ {A = ℕ} 0 1 = cc in omega arith
 
--- the names line is not whole, and more input is to come
-pub names_wait : (r : Runner) (s : List ℕ) (e : Bool) (n k : ℕ) → r.phase ≡ Names → length s ≤ k → (e || ltb 255 k) ≡ false → Stopped r s e n
-names_wait r s e n k p l h o room = go e h
-  where
-    go : (e : Bool) → (e || ltb 255 k) ≡ false → (e ≡ false) × (length s ≤ 255) × (r.phase ≡ Heading → ⊥)
-    go true h = absurd (true≢false h)
-    go false h = (refl, omega (arith, ltb-false 255 k h), λ q. names_later p q)
-
 -- .. nor is the line of values
 pub line_waits : (r : Runner) (s : List ℕ) (e : Bool) (n k : ℕ) → r.phase ≡ Lines → length s ≤ k → k ≤ 255 → (e && ltb 0 k) ≡ false → Stopped r s e n
 line_waits r s e n k p l m h (names_to_come q) room = absurd (begun p q)
@@ -88,9 +70,6 @@ line_waits r s e n k p l m h (line_to_come q d b) room = go e h
 pub both_e : (e : Bool) (k : ℕ) → (e && ltb 0 k) ≡ true → (e ≡ true) × (0 < k)
 both_e true k h = (refl, ltb-true 0 k h)
 both_e false k h = absurd (true≢false (sym h))
-
-pub idle_step : {r : Runner} {s old : List ℕ} {e : Bool} {x : Ran} → x ≡ ran r 0 0 → (r.phase ≡ Heading → ⊥) → Stopped r s e (length old) → Stepped r s e old old x
-idle_step {r} {s} {old} {e} {x} h b k = rw h (idled r s e old b k)
 
 -- ---- the names line
 used_up : (s : List ℕ) (u : ℕ) → (u ≡ 0 → length s ≤ u) → u ≡ 0 → 0 < length (drop u s) → ⊥
@@ -115,7 +94,7 @@ module _ {e : Bool} {r : Runner} (l s old : List ℕ) (u : ℕ) (p : r.phase ≡
 -- ---- the rest of a line that has been answered
 module _ {e : Bool} {r : Runner} (s old : List ℕ) (k : ℕ) (f : k ≡ length (before 10 s)) (p : r.phase ≡ Lines) (t : r.skip ≡ true) where
   pub found_step : k < length s
-      → Stepped r s e old old (ran (record { tables = r.tables; shut = r.shut; at = r.at; phase = r.phase; done = r.done; skip = false }) (k + 1) 0)
+      → Stepped r s e old old (ran (record { bench = r.bench; at = r.at; phase = r.phase; done = r.done; skip = false }) (k + 1) 0)
   found_step l = stepped (worked_none r _ s e old (k + 1) (omega arith) (skip_found r s e k f p t l)) (λ h. lines_later p h) (omega arith)
 
   pub none_step : length s ≤ k → Stepped r s e old old (ran r k 0)
@@ -127,11 +106,11 @@ module _ {e : Bool} {r : Runner} (s old : List ℕ) (k : ℕ) (f : k ≡ length 
       }
 
 -- ---- a line of values; f is what is done to the runner after it
-line_phase : (r : Runner) (asked : Line) → (after_line r asked).phase ≡ r.phase
+line_phase : (r : Runner) (asked : Option Line) → (after_line r asked).phase ≡ r.phase
 unfolding after_line
 line_phase r asked = refl
 
-text_length : (r : Runner) (asked : Line) → length (text_of r asked) ≤ 12
+text_length : (r : Runner) (asked : Option Line) → length (text_of r asked) ≤ 12
 unfolding text_of
 text_length r asked = line_length (r.done + 1) _
 

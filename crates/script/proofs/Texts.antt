@@ -1,9 +1,9 @@
 -- Laws by which the functions of src/text and src/print meet their contracts: where a byte stands, digits, stores one behind
 -- the other, and decimal numbers.
 -- first_place, before_place: the place of the first byte that passes a test, and of a delimiter.
--- none_other, long_other, one_dash, dash_other: the forms of a value. Read: the loop over its digits, with read_start, read_low,
--- read_high, read_more, read_end.
--- put_nil, put_cons, put_then: stores. place_hit, place_miss: one digit. numbered, line_of: a number with its digits.
+-- none_other, long_other, one_dash, dash_other: the forms of a value. Read: the loop over its digits, with read_low, read_high,
+-- read_more, read_end.
+-- put_part, put_nil, put_cons, put_then: stores. place_hit, place_miss: one digit. line_of: a number with its digits.
 -- line_length, heading_length: how long what is printed is at most.
 -- Assumes nothing.
 use Prim.Native.Nat.{ℕ, suc, ◌+◌, ◌-◌, ◌*◌, ◌/◌, ◌%◌, ◌^◌, ◌≤◌, ◌<◌}
@@ -14,21 +14,21 @@ use Rattle.std.specs.Option.{unwrap_or}
 use Rattle.std.specs.List.{position_or_len}
 use Rattle.std.proofs.lemmas.List.Sums.{prefix_len-le-length}
 use Rattle.std.proofs.lemmas.List.Recursion.{is_position_or_len}
-use mathlib.Core.List.{List, [], ◌∷◌, ◌++◌}
+use mathlib.Core.List.{List, [], ◌∷◌, ◌++◌, append_assoc}
 use native.Mathlib.Numerals.{add-one}
-use native.Mathlib.Nat.{add-zero, add-suc, suc-add, pow-suc, pow-le-pow_right}
+use native.Mathlib.Nat.{add-zero, add-suc, suc-add, pow-suc}
 use native.Mathlib.Omega.{arith}
 use lib.Dec.{leb, eqb}
-use lib.ListN.{length, get_or, set, drop, length-append, drop_of_length-le}
-use lib.Seq.{sets, drop-cons}
+use lib.ListN.{length, get_or, set, take, drop, length-append, drop_of_length-le}
+use lib.Seq.{sets, sets-eq, drop-cons, drop-drop}
+use borrow.Rule.Slice.PartMut.{put_mid}
 use borrow.Author.Tests.{le-leb, lt-leb, ne_eqb, ltb-false}
 use Rattle.bitset.specs.Tests.{every}
 use Rattle.script.specs.declared.line.Value.TheVariants.{Digits, Dash, Other}
 use Rattle.script.specs.Text.{bytes, same, all_digits, number, place, decimal}
 use Rattle.script.specs.Line.{value_of}
 use Rattle.script.specs.Report.{heading, line_text}
-use Rattle.script.specs.Private.Slices.{before, written, Numbered, Put}
-use Rattle.script.specs.declared.print.Numeral.{Numeral}
+use Rattle.script.specs.Private.Slices.{before, written, Put}
 
 -- ---- where a byte stands
 -- the place of the first that passes a test, or the length: what stands before it
@@ -100,15 +100,7 @@ pub record Read (s : List ℕ) (n i : ℕ) : Type 0 where
   pub value : number 0 s ≡ number n (drop i s)
   pub small : n < 10 ^ i
 
-pub read_start : (s : List ℕ) → Read s 0 0
-read_start s = record { within = omega arith; good = refl; value = refl; small = omega arith }
-
 module _ {s : List ℕ} {n i : ℕ} (r : Read s n i) where
-  pub read_small : i < length s → length s ≤ 5 → n < 10000
-  read_small l f =
-      let b : 10 ^ i ≤ 10 ^ 4 = pow-le-pow_right {n = 10} (omega arith) {i = i} {j = 4} (omega arith) in
-      omega (arith, r.small)
-
   pub read_more : i < length s → 48 ≤ get_or s i 0 → get_or s i 0 ≤ 57 → Read s (10 * n + (get_or s i 0 - 48)) (i + 1)
   unfolding all_digits number every
   read_more l lo hi =
@@ -136,6 +128,16 @@ module _ {s : List ℕ} {n i : ℕ} (r : Read s n i) where
         ∙ good_digits s many few first (r.good ∙ (rw (drop_of_length-le s l)))
 
 -- ---- stores
+-- into the part of a slice that is as long as what is stored
+pub put_part : (l vs : List ℕ) (i k : ℕ) → k ≡ length vs → i + length vs ≤ length l → {n : ℕ} → n ≡ i + k → Put l i vs (put_mid i k l vs) n
+unfolding written
+put_part l vs i k e h f =
+    record {
+      holds = ap (λ (v : List ℕ). take i l ++ (vs ++ v)) (drop-drop k i l ∙ ap (λ (n : ℕ). drop (i + n) l) e)
+          ∙ sym (sets-eq vs l i h ∙ append_assoc (take i l) vs (drop (i + length vs) l));
+      next = f ∙ ap (λ (n : ℕ). i + n) e;
+    }
+
 sets_then : (l : List ℕ) (i : ℕ) (vs ws : List ℕ) → sets (sets l i vs) (i + length vs) ws ≡ sets l i (vs ++ ws)
 sets_then l i [] ws = rw add-zero
 sets_then l i (v ∷ vs) ws = rw (add-suc, ← suc-add) (sets_then (set l i v) (suc i) vs ws)
@@ -170,17 +172,6 @@ unfolding place
 place_miss {l} {i} {p} {n} h = rw (lt-leb p n h) put_nil
 
 -- ---- numbers one after the other
-pub numbered : {n : ℕ} {x : Numeral} → Numbered n x → Numbered x.n x
-numbered {n} {x} h =
-    record {
-      whole = refl;
-      fifth = rw h.whole h.fifth;
-      fourth = rw h.whole h.fourth;
-      third = rw h.whole h.third;
-      second = rw h.whole h.second;
-      first = rw h.whole h.first;
-    }
-
 pub line_of : {n k : ℕ} (a : ℕ) {r : ℕ} {l new : List ℕ} → k ≡ n → Put l 0 (line_text k a) new r → Put l 0 (line_text n a) new r
 line_of a e p = rw e at p
 

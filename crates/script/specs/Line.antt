@@ -1,11 +1,11 @@
 -- One line of values.
-use Rattle.std.specs.Prelude.{ℕ, ◌-◌, Bool, true, false, cond, ◌||◌, List, [], ◌∷◌, ◌++◌, map, leb, ltb, eqb, length, get_or}
+use Rattle.std.specs.Prelude.{ℕ, ◌-◌, Bool, true, false, cond, ◌||◌, List, [], ◌∷◌, ◌++◌, Option, Some, None, map, leb, ltb, eqb, length, get_or}
 use Rattle.bitset.specs.Tests.{every}
 use Rattle.guard.specs.Requests.{Field, call, seat, user, role, entity, parent, kind, name, label, rights, shared, junior, unknown, rules}
 use Rattle.script.specs.declared.line.Value.{Value}
 use Rattle.script.specs.declared.line.Value.TheVariants.{Digits, Dash, Other}
 use Rattle.script.specs.declared.line.Line.{Line}
-use Rattle.script.specs.declared.line.Line.TheVariants.{Ask, SetUser, Bad}
+use Rattle.script.specs.declared.line.Line.TheVariants.{Ask, SetUser}
 use Rattle.script.specs.Text.{bytes, same, values, all_digits, number}
 use Rattle.script.specs.Names.{column, under}
 
@@ -112,10 +112,12 @@ take_each [] vs = these []
 take_each (b ∷ bs) [] = unreadable
 take_each (b ∷ bs) (v ∷ vs) = taken b (value_of v) (take_each bs vs)
 
--- what a line asks: a request, or a user's record
-unfoldable pub asks : ℕ → Numbers → Line
+-- what a line asks: a request, or a user's record; nothing where it can't be read
+unfoldable pub asks : ℕ → Numbers → Option Line
 asks word (these ns) =
-    cond (eqb word user_word) (SetUser (get_or ns 1 0) (get_or ns 7 0) (get_or ns 8 0) (get_or ns 10 0))
+    cond (eqb word user_word)
+    (Some (SetUser (record { user = get_or ns 1 0; level = get_or ns 7 0; cats = get_or ns 8 0; ceiling = get_or ns 10 0 })))
+    (Some
     (Ask
     (record {
       call = call_of word;
@@ -131,22 +133,22 @@ asks word (these ns) =
       rights = get_or ns 9 0;
       shared = get_or ns 11 0;
       junior = get_or ns 12 0;
-    }))
-asks word unreadable = Bad
+    })))
+asks word unreadable = None
 
 -- the values in the order of all names: the word, and the others
-unfoldable pub line_of : List (List ℕ) → Line
-line_of [] = Bad
+unfoldable pub line_of : List (List ℕ) → Option Line
+line_of [] = None
 line_of (w ∷ vs) =
     let word = column w words in
-    cond (ltb word (length words)) (asks word (take_each (used word) vs)) Bad
+    cond (ltb word (length words)) (asks word (take_each (used word) vs)) None
 
 abbrev pub longest_line : ℕ
 longest_line = 255
 
 -- Other faults in a line (over 255 bytes before byte 10, empty, wrong number of values, a value of another form, a dash or
 -- number in the wrong place, unknown word, ..) give 17. An empty line has one value, of no form.
-unfoldable pub read_line : List (List ℕ) → List ℕ → Line
+unfoldable pub read_line : List (List ℕ) → List ℕ → Option Line
 read_line header l =
     let vs = values l in
-    cond (every (leb (length l) longest_line ∷ eqb (length vs) (length header) ∷ [])) (line_of (under header vs)) Bad
+    cond (every (leb (length l) longest_line ∷ eqb (length vs) (length header) ∷ [])) (line_of (under header vs)) None

@@ -1,5 +1,5 @@
 -- The report: the bytes of the whole output, from the bytes of a whole input.
-use Rattle.std.specs.Prelude.{ℕ, ◌+◌, Bool, true, false, cond, List, [], ◌∷◌, ◌++◌, leb, ltb, set, take, replicate}
+use Rattle.std.specs.Prelude.{ℕ, ◌+◌, Bool, true, false, cond, List, [], ◌∷◌, ◌++◌, Option, Some, None, leb, ltb, set, take, replicate}
 use Rattle.bitset.specs.Tests.{every}
 use Rattle.guard.specs.Level.{user_count, top_level}
 use Rattle.guard.specs.Label.{label, label_in_range}
@@ -11,17 +11,12 @@ use Rattle.script.specs.Text.{bytes, lines, values, decimal}
 use Rattle.script.specs.Names.{is_names}
 use Rattle.script.specs.Line.{read_line}
 use Rattle.script.specs.declared.line.Line.{Line}
-use Rattle.script.specs.declared.line.Line.TheVariants.{Ask, SetUser, Bad}
+pub use Rattle.script.specs.declared.reply.Bench.{Bench}
+pub use Rattle.script.specs.declared.reply.Answered.{Answered}
+use Rattle.script.specs.declared.line.Line.TheVariants.{Ask, SetUser}
+use Rattle.script.specs.declared.line.UserRecord.{UserRecord}
 
--- ---- the bench between two lines: its tables, and whether a readable line with a word other than `user` has come
-pub record Bench : Type 0 where
-  pub tables : Tables
-  pub shut : Bool
-
-pub record Answered : Type 0 where
-  pub bench : Bench
-  pub answer : ℕ
-
+-- ---- the bench between two lines, and after a line with its answer, are the records Bench and Answered of src/reply.rt
 -- 17 (program only) a line that can't be read; it .. change[s] nothing.
 abbrev pub unread_answer : ℕ
 unread_answer = 17
@@ -30,10 +25,10 @@ abbrev pub unread : Bench → Answered
 unread b = record { bench = b; answer = unread_answer }
 
 -- The word `user` sets a user's clearance and ceiling; .. the last for a user holds, and users not set are 0 throughout.
-unfoldable pub with_user : Tables → ℕ → ℕ → ℕ → ℕ → Tables
-with_user t user level cats ceiling =
+unfoldable pub with_user : Tables → UserRecord → Tables
+with_user t u =
     record {
-      users = set t.users user (record { ceiling = ceiling; clearance = label level cats });
+      users = set t.users u.user (record { ceiling = u.ceiling; clearance = label u.level u.cats });
       sessions = t.sessions;
       roles = t.roles;
       entities = t.entities;
@@ -41,18 +36,18 @@ with_user t user level cats ceiling =
     }
 
 -- Its ranges give 2, with nothing set.
-unfoldable pub user_in_ranges : ℕ → ℕ → ℕ → ℕ → Bool
-user_in_ranges user level cats ceiling = every (ltb user user_count ∷ label_in_range (label level cats) ∷ leb ceiling top_level ∷ [])
+unfoldable pub user_in_ranges : UserRecord → Bool
+user_in_ranges u = every (ltb u.user user_count ∷ label_in_range (label u.level u.cats) ∷ leb u.ceiling top_level ∷ [])
 
 -- it is allowed only before any other word: `user` after a readable line with another word gives 17
-unfoldable pub answer_line : Bench → Line → Answered
-answer_line b (Ask q) = record { bench = record { tables = next b.tables q; shut = true }; answer = answer b.tables q }
-answer_line b (SetUser user level cats ceiling) =
+unfoldable pub answer_line : Bench → Option Line → Answered
+answer_line b (Some (Ask q)) = record { bench = record { tables = next b.tables q; shut = true }; answer = answer b.tables q }
+answer_line b (Some (SetUser u)) =
     cond b.shut (unread b)
-    (cond (user_in_ranges user level cats ceiling)
-    (record { bench = record { tables = with_user b.tables user level cats ceiling; shut = false }; answer = 0 })
+    (cond (user_in_ranges u)
+    (record { bench = record { tables = with_user b.tables u; shut = false }; answer = 0 })
     (record { bench = b; answer = 2 }))
-answer_line b Bad = unread b
+answer_line b None = unread b
 
 -- ---- Output is a line of names, then for each line its number, counting from the names line as 1, and its answer; each
 -- output line, the last too, ends with byte 10.

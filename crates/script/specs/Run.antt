@@ -24,7 +24,7 @@ abbrev pub bench : Tables → Bool → Bench
 bench t shut = record { tables = t; shut = shut }
 
 abbrev pub bench_of : Runner → Bench
-bench_of r = bench r.tables r.shut
+bench_of r = r.bench
 
 -- ---- what is printed, and the bench at the end of it
 pub record Told : Type 0 where
@@ -129,8 +129,7 @@ pub data Session (r : Runner) (s : List ℕ) : List ℕ → Runner → List ℕ 
 abbrev pub unbegun : Runner
 unbegun =
     record {
-      tables = first_bench.tables;
-      shut = false;
+      bench = first_bench;
       at = replicate place_count 0;
       phase = Heading;
       done = 0;

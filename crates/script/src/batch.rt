@@ -29,7 +29,8 @@ pub fn most(done: u32, room: usize) -> usize
     limits::BATCH.min(room / limits::LINE_ROOM).min(left)
 }
 
-// A request as a row of numbers from `at` on.
+// A request as a row of numbers from `at` on, stored one by one: `copy_from_slice` from an array takes 14 instructions a line
+// more, past the two per cent that a line may cost more.
 fn put_row(q: Request, rows: &mut [u32], at: usize) -> usize
     requires { at + row_length ≤ length rows.old }
     ensures { Put rows.old at (row_of q) rows.new result }
@@ -51,28 +52,30 @@ fn put_row(q: Request, rows: &mut [u32], at: usize) -> usize
 }
 
 // What a line asks, behind `count` requests; whether it asks one.
-fn load(l: Line, rows: &mut [u32], count: usize) -> bool
+#[tactic(auto, unfolding(crate::specs::Private::LineBatch::is_request, crate::specs::Private::LineBatch::numbers_of, crate::specs::Private::Slices::written))]
+fn load(l: Option<Line>, rows: &mut [u32], count: usize) -> bool
     requires { row_length * count + row_length ≤ length rows.old }
     ensures { (result ≡ is_request l) × (rows.new ≡ written rows.old (row_length * count) (numbers_of l)) }
 {
     match l {
-        Line::Ask(q) => {
+        Some(Line::Ask(q)) => {
             put_row(q, rows, sizes::ROW * count);
             true
         }
-        Line::SetUser(_, _, _, _) => false,
-        Line::Bad => false,
+        Some(Line::SetUser(_)) => false,
+        None => false,
     }
 }
 
 // Whether a line is a `user` line that is allowed. Such a line sets a record between two batches.
-fn is_allowed(l: Line, shut: bool) -> bool
+#[tactic(auto, unfolding(crate::specs::Private::LineBatch::is_allowed))]
+fn is_allowed(l: Option<Line>, shut: bool) -> bool
     ensures { result ≡ is_allowed shut l }
 {
     match l {
-        Line::Ask(_) => false,
-        Line::SetUser(_, _, _, _) => !shut,
-        Line::Bad => false,
+        Some(Line::Ask(_)) => false,
+        Some(Line::SetUser(_)) => !shut,
+        None => false,
     }
 }
 
@@ -118,6 +121,7 @@ pub fn gather(
 }
 
 // The answer to a line, given the one to its request.
+#[tactic(auto, unfolding(crate::specs::Private::LineBatch::said))]
 fn answer_of(asks: bool, a: u8) -> u8
     ensures { result ≡ said asks a }
 {

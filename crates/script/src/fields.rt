@@ -5,7 +5,7 @@ ghost use Rattle.script.specs.Line.{Numbers, these, used, asks};
 ghost use Rattle.script.specs.Private.Rows.{no_word, field_count, taken_as, take_from, ahead, members};
 
 use crate::limits;
-use crate::line::Line;
+use crate::line::{Line, UserRecord};
 use bitset::Set;
 use guard::Request;
 
@@ -67,7 +67,7 @@ fn field(n: u32, given: u16, uses: u16, i: u32) -> Option<u32>
     Some(n)
 }
 
-// The first six fields, unless one of them has a fault.
+// The first six fields, unless one of them has a fault. By `let .. else` and not by `?`: docs/TRACE.md says it of them.
 pub fn first(vals: &[u32; limits::PLACES], given: u16, uses: u16) -> Option<Six>
     ensures { (rest : Numbers) → take_from uses given vals.now 1 6 rest ≡ ahead result rest }
 {
@@ -99,35 +99,46 @@ pub fn first(vals: &[u32; limits::PLACES], given: u16, uses: u16) -> Option<Six>
     })
 }
 
-// The others, and what the line asks.
-pub fn second(word: u32, six: Six, vals: &[u32; limits::PLACES], given: u16, uses: u16) -> Line
+// The others, and what the line asks, unless one of them has a fault.
+pub fn second(
+    word: u32,
+    six: Six,
+    vals: &[u32; limits::PLACES],
+    given: u16,
+    uses: u16,
+) -> Option<Line>
     ensures { result ≡ asks word (ahead (Some six) (take_from uses given vals.now 7 (field_count - 6) (these []))) }
 {
     let Some(name) = field(vals[7], given, uses, 7) else {
-        return Line::Bad;
+        return None;
     };
     let Some(level) = field(vals[8], given, uses, 8) else {
-        return Line::Bad;
+        return None;
     };
     let Some(cats) = field(vals[9], given, uses, 9) else {
-        return Line::Bad;
+        return None;
     };
     let Some(rights) = field(vals[10], given, uses, 10) else {
-        return Line::Bad;
+        return None;
     };
     let Some(ceiling) = field(vals[11], given, uses, 11) else {
-        return Line::Bad;
+        return None;
     };
     let Some(shared) = field(vals[12], given, uses, 12) else {
-        return Line::Bad;
+        return None;
     };
     let Some(junior) = field(vals[13], given, uses, 13) else {
-        return Line::Bad;
+        return None;
     };
     if word == limits::USER {
-        return Line::SetUser(six.user, level, cats, ceiling);
+        return Some(Line::SetUser(UserRecord {
+            user: six.user,
+            level,
+            cats,
+            ceiling,
+        }));
     }
-    Line::Ask(Request {
+    Some(Line::Ask(Request {
         call: word - 1,
         seat: six.seat,
         user: six.user,
@@ -141,5 +152,5 @@ pub fn second(word: u32, six: Six, vals: &[u32; limits::PLACES], given: u16, use
         rights,
         shared,
         junior,
-    })
+    }))
 }

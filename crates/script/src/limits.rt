@@ -1,7 +1,7 @@
 // The numbers of the request program.
 use guard::{kinds, sizes};
 
-// What is none of the names: the first number behind theirs.
+// What is none of the names: the first number behind theirs. No Option: `Ordered` of specs/Names speaks of numbers.
 pub const NO_NAME: u8 = 14;
 
 // The set of the twelve that every line of names has.
@@ -22,7 +22,8 @@ pub const WORDS: usize = 1 + KINDS;
 
 pub const USER: u32 = 0;
 
-// What stands in a row of numbers where no word does.
+// What stands in a row of numbers where no word does. No Option: the row is one array, and the test that `fields::uses` makes
+// of a word finds it too.
 pub const NO_WORD: u32 = WORDS as u32;
 
 // The keys of texts of at most four bytes are below the first, those of at most five below the second.

@@ -17,22 +17,31 @@ pub enum Value {
     Other,
 }
 
-// What a line asks: a request, a user's record (user, grade, categories, ceiling), or nothing that can be read.
+// A user's record as a line gives it: the grade and the categories of the user's clearance, and the ceiling.
+#[derive(Clone, Copy)]
+pub struct UserRecord {
+    pub user: u32,
+    pub level: u32,
+    pub cats: u32,
+    pub ceiling: u32,
+}
+
+// What a line asks: a request, or that a user's record be set.
 #[derive(Clone, Copy)]
 pub enum Line {
     Ask(Request),
-    SetUser(u32, u32, u32, u32),
-    Bad,
+    SetUser(UserRecord),
 }
 
-// What the first line of some input asks, and its length.
+// What the first line of some input asks, if it can be read, and its length.
 #[derive(Clone, Copy)]
 pub struct Front {
-    pub asked: Line,
+    pub asked: Option<Line>,
     pub len: usize,
 }
 
 // The row of no values: no word, and 0 under each other name.
+#[tactic(auto, unfolding(crate::specs::Private::Rows::blank))]
 fn empty() -> [u32; limits::PLACES]
     ensures { result ≡ blank }
 {
@@ -41,22 +50,22 @@ fn empty() -> [u32; limits::PLACES]
     vals
 }
 
-// What the line of a row asks.
-fn asked(row: Row, vals: &[u32; limits::PLACES]) -> Line
+// What the line of a row asks, if it can be read.
+fn asked(row: Row, vals: &[u32; limits::PLACES]) -> Option<Line>
     ensures { (h : List (List ℕ)) (at l : List ℕ) → Ordered h at → IsRow at l vals.now row → result ≡ read_line h l }
 {
     let Some(given) = row.given else {
-        return Line::Bad;
+        return None;
     };
     if limits::LONGEST < row.len {
-        return Line::Bad;
+        return None;
     }
     let word = vals[0];
     let Some(uses) = fields::uses(word) else {
-        return Line::Bad;
+        return None;
     };
     let Some(six) = fields::first(vals, given, uses) else {
-        return Line::Bad;
+        return None;
     };
     fields::second(word, six, vals, given, uses)
 }

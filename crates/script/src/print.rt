@@ -1,10 +1,11 @@
 // The lines of output.
-ghost use Rattle.std.specs.Prelude.{◌+◌, ◌/◌, ◌%◌, ◌<◌, ◌≤◌, ◌≡◌, [], ◌∷◌, length};
+ghost use Rattle.std.specs.Prelude.{◌+◌, ◌/◌, ◌%◌, ◌<◌, ◌≤◌, ◌≡◌, length};
 ghost use Rattle.script.specs.Text.{place, decimal};
 ghost use Rattle.script.specs.Report.{heading, line_text, line_room, last_line};
 ghost use Rattle.script.specs.Private.Slices.{Numbered, Put};
 
-// A number and its last five digits, the last one in `a`.
+// A number and its last five digits, the last one in `a`. No `write!`: line numbers are counted up by their digits, most of
+// them without a division (docs/PERFORMANCE.md).
 #[derive(Clone, Copy)]
 pub struct Numeral {
     pub n: u32,
@@ -47,26 +48,13 @@ pub fn after(x: Numeral) -> Numeral
     }
 }
 
-// Four bytes from `at` on.
-fn put4(a: u8, b: u8, c: u8, d: u8, out: &mut [u8], at: usize) -> usize
-    requires { at + 4 ≤ length out.old }
-    ensures { Put out.old at (a ∷ b ∷ c ∷ d ∷ []) out.new result }
-{
-    out[at] = a;
-    out[at + 1] = b;
-    out[at + 2] = c;
-    out[at + 3] = d;
-    at + 4
-}
-
 // The heading.
 pub fn put_heading(out: &mut [u8]) -> usize
     requires { 12 ≤ length out.old }
     ensures { Put out.old 0 heading out.new result }
 {
-    let i = put4(b'l', b'i', b'n', b'e', out, 0);
-    let j = put4(b' ', b'a', b'n', b's', out, i);
-    put4(b'w', b'e', b'r', b'\n', out, j)
+    out[..12].copy_from_slice(b"line answer\n");
+    12
 }
 
 // The digit `d` of `n` at the place `p`, unless it is a leading zero.

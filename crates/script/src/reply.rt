@@ -1,76 +1,76 @@
 // The answer to a line of values, and the bench after it.
-ghost use Rattle.std.specs.Prelude.{◌≡◌};
+ghost use Rattle.std.specs.Prelude.{◌≡◌, Some};
 ghost use Rattle.script.specs.Report.{answer_line};
-ghost use Rattle.script.specs.Private.Steps.{said_by};
 
 use crate::limits;
-use crate::line::Line;
+use crate::line::{Line, UserRecord};
 use guard::{Label, Tables, User, sizes};
+
+// The bench between two lines: its tables, and whether a readable line with a word other than `user` has come.
+#[derive(Clone, Copy)]
+pub struct Bench {
+    pub tables: Tables,
+    pub shut: bool,
+}
 
 // The bench after a line, and the line's answer.
 #[derive(Clone, Copy)]
-pub struct Reply {
-    pub tables: Tables,
-    pub shut: bool,
+pub struct Answered {
+    pub bench: Bench,
     pub answer: u8,
 }
 
 // Sets a user's record, in ranges and before any other word.
-fn set_user(mut t: Tables, shut: bool, user: u32, level: u32, cats: u32, ceiling: u32) -> Reply
-    ensures { said_by result ≡ answer_line (record { tables = t; shut = shut }) (Line.SetUser user level cats ceiling) }
+fn set_user(mut b: Bench, u: UserRecord) -> Answered
+    ensures { result ≡ answer_line b (Some (Line.SetUser u)) }
 {
-    if shut {
-        return Reply {
-            tables: t,
-            shut,
+    if b.shut {
+        return Answered {
+            bench: b,
             answer: limits::UNREAD,
         };
     }
-    if (sizes::USER_END <= user)
-        | ((sizes::TOP_GRADE_ASKED < level)
-            | ((sizes::ALL_CATEGORIES < cats) | (sizes::TOP_LEVEL_ASKED < ceiling)))
+    if (sizes::USER_END <= u.user)
+        | ((sizes::TOP_GRADE_ASKED < u.level)
+            | ((sizes::ALL_CATEGORIES < u.cats) | (sizes::TOP_LEVEL_ASKED < u.ceiling)))
     {
-        return Reply {
-            tables: t,
-            shut,
+        return Answered {
+            bench: b,
             answer: 2,
         };
     }
-    let i = user as usize;
+    let i = u.user as usize;
     let clearance = Label {
-        cats: cats as u16,
-        grade: level as u8,
+        cats: u.cats as u16,
+        grade: u.level as u8,
     };
     let set = User {
-        ceiling: ceiling as u8,
+        ceiling: u.ceiling as u8,
         clearance,
     };
-    t.users[i] = set;
-    Reply {
-        tables: t,
-        shut,
+    b.tables.users[i] = set;
+    Answered {
+        bench: b,
         answer: 0,
     }
 }
 
 // Answers what a line asks.
-pub fn answer_line(t: Tables, shut: bool, l: Line) -> Reply
-    ensures { said_by result ≡ answer_line (record { tables = t; shut = shut }) l }
+pub fn answer_line(b: Bench, l: Option<Line>) -> Answered
+    ensures { result ≡ answer_line b l }
 {
     match l {
-        Line::Ask(q) => {
-            let o = t.step(q);
+        Some(Line::Ask(q)) => {
+            let o = b.tables.step(q);
             let tables = o.tables;
-            Reply {
-                tables,
-                shut: true,
+            Answered {
+                bench: Bench { tables, shut: true },
                 answer: o.answer,
             }
         }
-        Line::SetUser(user, level, cats, ceiling) => set_user(t, shut, user, level, cats, ceiling),
-        Line::Bad => Reply {
-            tables: t,
-            shut,
+        Some(Line::SetUser(u)) => set_user(b, u),
+        None => Answered {
+            bench: b,
             answer: limits::UNREAD,
         },
     }

@@ -142,6 +142,7 @@ fn value_at(s: &[u8], from: usize, i: u32) -> Found
 }
 
 // Whether `j` is the last place with a name.
+#[tactic(auto, unfolding(crate::specs::Private::Rows::fills))]
 fn is_last(at: &[u8; limits::PLACES], j: usize) -> bool
     requires { j + 1 < place_count }
     ensures { result ≡ fills at.now (j + 1) }
@@ -159,6 +160,7 @@ pub fn read_row(s: &[u8], at: &[u8; limits::PLACES], vals: &mut [u32; limits::PL
     let mut given = 0u16;
     let mut from = 0;
     let mut j = 0;
+    // No `for j in 0..limits::LAST_PLACE`: with it a line takes 5 to 8 % more instructions.
     loop {
         if from + 2 < s.len() {
             if pair(s, from) == 0x202d {

@@ -8,6 +8,7 @@ ghost use Rattle.script.specs.Run.{unbegun, is_over, Finished};
 ghost use Rattle.script.specs.Private.Steps.{Spoken, Named, Stepped};
 ghost use Rattle.script.specs.declared.runner.Phase.TheVariants.{Heading, Names, Lines};
 
+use crate::reply::Bench;
 use crate::{batch, header, limits, line, print, reply, text};
 use guard::{Label, Tables, User, sizes};
 
@@ -20,13 +21,11 @@ enum Phase {
     Over,
 }
 
-// Where a run stands: the bench (its tables, and whether a readable line with a word other than `user` has come), the
-// order of the names, the phase, how many lines are done, the names line as 1, and whether the line that is begun has been
+// Where a run stands: the bench, the order of the names, the phase, how many lines are done, the names line as 1, and whether the line that is begun has been
 // answered.
 #[derive(Clone, Copy)]
 pub struct Runner {
-    tables: Tables,
-    shut: bool,
+    bench: Bench,
     at: [u8; limits::PLACES],
     phase: Phase,
     done: u32,
@@ -56,13 +55,12 @@ fn answer_values(mut r: Runner, s: &[u8], out: &mut [u8]) -> Said
     let at = r.at;
     let front = line::next(s, &at);
     let asked = front.asked;
-    let t = r.tables;
-    let a = reply::answer_line(t, r.shut, asked);
+    let bench = r.bench;
+    let a = reply::answer_line(bench, asked);
     let n = r.done + 1;
     let wrote = print::put_line(print::numeral_of(n), a.answer, out);
-    let next = a.tables;
-    r.tables = next;
-    r.shut = a.shut;
+    let next = a.bench;
+    r.bench = next;
     r.done = n;
     Said { runner: r, wrote }
 }
@@ -100,8 +98,10 @@ impl Runner {
         let o = Tables::fresh([nobody; sizes::USERS], sizes::EDITION_1);
         let tables = o.tables;
         Runner {
-            tables,
-            shut: false,
+            bench: Bench {
+                tables,
+                shut: false,
+            },
             at: [0u8; limits::PLACES],
             phase: Phase::Heading,
             done: 0,
@@ -110,6 +110,7 @@ impl Runner {
     }
 
     // Whether the run is over: after a bad first line, or with line 65,535. A host need not read on then.
+    #[tactic(auto, unfolding(crate::specs::Run::is_over_in))]
     pub fn is_over(self) -> bool
         ensures { result ≡ is_over self }
     {
@@ -245,17 +246,24 @@ fn one(mut r: Runner, piece: &[u8], end: bool, out: &mut [u8], room: &mut Room) 
     }
     let at = r.at;
     let most = batch::most(r.done, out.len());
-    let g = batch::gather(piece, at, most, r.shut, &mut room.rows, &mut room.marks);
+    let g = batch::gather(
+        piece,
+        at,
+        most,
+        r.bench.shut,
+        &mut room.rows,
+        &mut room.marks,
+    );
     let lines = g.lines;
     if lines == 0 {
         return values_step(r, piece, end, out);
     }
     let n = sizes::ROW * g.count;
-    let t = r.tables;
+    let t = r.bench.tables;
     let next = t.run(&room.rows[..n], &mut room.answers, &mut room.roles);
     let wrote = batch::put_answers(&room.marks, &room.answers, lines, r.done + 1, out);
-    r.tables = next;
-    r.shut = g.shut;
+    r.bench.tables = next;
+    r.bench.shut = g.shut;
     r.done = r.done + lines as u32;
     Ran {
         runner: r,

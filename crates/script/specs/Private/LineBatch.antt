@@ -1,6 +1,6 @@
 -- Lines of values in a batch. The contracts of the batch's private functions are put in these words; the report does not
 -- cite them.
-use Rattle.std.specs.Prelude.{ℕ, ◌+◌, ◌-◌, ◌*◌, ◌≤◌, ◌<◌, ◌≡◌, Bool, true, false, not, List, [], ◌∷◌, ◌++◌, length, take, drop, get_or}
+use Rattle.std.specs.Prelude.{ℕ, ◌+◌, ◌-◌, ◌*◌, ◌≤◌, ◌<◌, ◌≡◌, Bool, true, false, not, List, [], ◌∷◌, ◌++◌, Option, Some, None, length, take, drop, get_or}
 use Rattle.std.specs.Int.{from_bool}
 use Rattle.guard.specs.Step.{run, answers}
 use Rattle.guard.specs.Batch.{row_length, requests}
@@ -10,7 +10,7 @@ use Rattle.script.specs.Report.{unread_answer, line_text, line_room, last_line}
 use Rattle.script.specs.Names.{Ordered}
 use Rattle.script.specs.Run.{bench, told_first, from_line}
 use Rattle.script.specs.declared.line.Line.{Line}
-use Rattle.script.specs.declared.line.Line.TheVariants.{Ask, SetUser, Bad}
+use Rattle.script.specs.declared.line.Line.TheVariants.{Ask, SetUser}
 use Rattle.script.specs.declared.batch.Gathered.{Gathered}
 
 -- how many lines a batch takes
@@ -18,21 +18,21 @@ abbrev pub batch_lines : ℕ
 batch_lines = 256
 
 -- ---- what a line adds to a batch
-unfoldable pub is_request : Line → Bool
-is_request (Ask q) = true
-is_request (SetUser user level cats ceiling) = false
-is_request Bad = false
+unfoldable pub is_request : Option Line → Bool
+is_request (Some (Ask q)) = true
+is_request (Some (SetUser u)) = false
+is_request None = false
 
-unfoldable pub numbers_of : Line → List ℕ
-numbers_of (Ask q) = row_of q
-numbers_of (SetUser user level cats ceiling) = []
-numbers_of Bad = []
+unfoldable pub numbers_of : Option Line → List ℕ
+numbers_of (Some (Ask q)) = row_of q
+numbers_of (Some (SetUser u)) = []
+numbers_of None = []
 
 -- A `user` line that is allowed is in no batch: it sets a record between two requests.
-unfoldable pub is_allowed : Bool → Line → Bool
-is_allowed shut (Ask q) = false
-is_allowed shut (SetUser user level cats ceiling) = not shut
-is_allowed shut Bad = false
+unfoldable pub is_allowed : Bool → Option Line → Bool
+is_allowed shut (Some (Ask q)) = false
+is_allowed shut (Some (SetUser u)) = not shut
+is_allowed shut None = false
 
 -- ---- the output for lines
 -- `marks` tells of each line whether it asks a request; how many do
