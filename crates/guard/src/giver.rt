@@ -39,6 +39,7 @@ fn lowest(roles: &[Role; ROLES], held: u16, right: Right, e: usize) -> Option<u8
     requires { e < entity_count }
     ensures { result ≡ lowest role_count (gives roles.now held right e) }
 {
+    // Which member comes next is the promise of `first`, that no lower one is left.
     let mut left = held;
     while left != 0 {
         let r = first(left);

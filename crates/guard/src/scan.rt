@@ -72,6 +72,7 @@ pub fn gather(roles: &[Role; ROLES], held: u16) -> Rights
     ensures { Gathered roles.now held result }
 {
     let mut rights = Rights::default();
+    // What is left grows on the way, so no iterator over the roles held goes through it.
     let mut left = held;
     while left != 0 {
         let r = left.trailing_zeros();
