@@ -2,7 +2,7 @@
 --     each                              what each request of a log gets: the answers, or the roles told
 --     run_append, each_append           one log after the other
 --     run_snoc, each_snoc, length_each  one request more at the end of a log
---     store_more, same_store            the next byte, stored in its place
+--     store_more                        the next byte, stored in its place
 --     batch_room, batch_space, batch_rows      a batch has room for its answers and its roles, and each of its rows is whole
 --     all_refused                       on unsound tables every answer is 1, no role is told, and the tables stay
 -- Assumes nothing.
@@ -13,7 +13,7 @@ use mathlib.Core.List.{List, [], ◌∷◌, ◌++◌, map}
 use native.Mathlib.Numerals.{add-one}
 use native.Mathlib.Omega.{arith}
 use lib.Dec.{leb}
-use lib.ListN.{length, get_or, set, drop, replicate, length-replicate, replicate-append-replicate}
+use lib.ListN.{length, get_or, set, drop, replicate}
 use lib.Seq.{drop-cons, set_at, append_snoc}
 use borrow.Author.Tests.{leb-true, leb-false}
 use Rattle.guard.specs.Sound.{sound}
@@ -56,14 +56,6 @@ length_each f t (q ∷ log) = ap suc (length_each f (next t q) log)
 pub store_more : (l old : List ℕ) (i v : ℕ) → length l ≡ i → i < length old → set (l ++ drop i old) i v ≡ (l ++ (v ∷ [])) ++ drop (i + 1) old
 store_more l old i v long low =
     rw (add-one, drop-cons old i 0) (set_at l (get_or old i 0) (drop (suc i) old) v i long ∙ sym (append_snoc l v (drop (suc i) old)))
-
-same_more : (old : List ℕ) (i v : ℕ) → i < length old → set {A = ℕ} (replicate i v ++ drop i old) i v ≡ replicate (i + 1) v ++ drop (i + 1) old
-same_more old i v low =
-    store_more (replicate i v) old i v (length-replicate i v) low
-    ∙ ap (λ (l : List ℕ). l ++ drop (i + 1) old) (replicate-append-replicate i 1 v)
-
-pub same_store : (old new : List ℕ) (i v : ℕ) → new ≡ replicate i v ++ drop i old → i < length old → set new i v ≡ replicate (i + 1) v ++ drop (i + 1) old
-same_store old new i v h low = rw h (same_more old i v low)
 
 -- ---- how many requests a batch has
 shorter_l : (a b : ℕ) → shorter a b ≤ a

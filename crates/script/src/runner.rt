@@ -286,6 +286,7 @@ fn work(r: Runner, piece: &[u8], end: bool, out: &mut [u8]) -> Ran
     let mut held = r;
     let mut at = 0;
     let mut wrote = 0;
+    // Step by step until one uses nothing: how many there are, only the steps tell.
     loop {
         let ran = one(held, &piece[at..], end, &mut out[wrote..], &mut room);
         let next = ran.runner;

@@ -76,10 +76,5 @@ fn tie_ok(roles: &[Role; ROLES], live: u16, r: u32) -> bool
 pub fn ties_ok(roles: &[Role; ROLES], live: u16) -> bool
     ensures { result ≡ all role_count (tie_test roles.now live) }
 {
-    for r in 0..ROLE_END {
-        if !tie_ok(roles, live, r) {
-            return false;
-        }
-    }
-    true
+    (0..ROLE_END).all(|r| tie_ok(roles, live, r))
 }
