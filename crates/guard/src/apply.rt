@@ -20,6 +20,7 @@ impl Tables {
         ensures keys { Keys self.new.entities keys.new }
         ensures told { result ≡ role_opening self.old q }
     {
+        // Each `after` asks that the request is in its ranges (`in_ranges`); a struct that holds this would be opened in each again.
         match change::change_of(q.call) {
             Change::Session => {
                 let session = self.sessions[at.seat];

@@ -1,4 +1,6 @@
-// The requests' numbers, in the order in which the papers list the nineteen (specs/Kind).
+// The requests' numbers, in the order in which the papers list the nineteen (specs/Kind). Numbers, and no enum: a host may pass any
+// (`Request.call`) and names them so, and a rule of the project has ONE match over them decide (judge), with a closing range for
+// the numbers of none.
 pub const LOGIN: u32 = 0;
 
 pub const LOGOUT: u32 = 1;

@@ -22,7 +22,8 @@ pub fn in_range(a: Label) -> bool
     a.grade <= TOP_GRADE
 }
 
-// The label asked for, in a host's wider numbers.
+// The label asked for, in a host's wider numbers. That they are in range is asked and no invariant of a type: it is known only of the
+// kinds that use them.
 pub fn made(grade: u32, cats: u32) -> Label
     requires grade_le_top_grade { grade ≤ top_grade }
     requires cats_le_all_categories { cats ≤ all_categories }

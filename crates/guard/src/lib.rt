@@ -117,7 +117,8 @@ pub struct Request {
 }
 
 // What a request hands back: the tables after it; its answer, 0 done, or the number of the refusal; and beside the 0 of openr and
-// openw the lowest-numbered role held that gives the right on the entity. All else tells none.
+// openw the lowest-numbered role held that gives the right on the entity. All else tells none. The answer is a number, no Result: the
+// promise of `step` is of the number, which `run` stores and the isolation rule compares.
 #[derive(Clone, Copy)]
 pub struct Outcome {
     pub tables: Tables,

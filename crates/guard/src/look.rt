@@ -7,6 +7,7 @@ ghost use Rattle.guard.specs.Private.InForce.{in_ranges};
 use crate::{Request, kinds, sizes};
 
 // The places of the records that a request concerns; where a number that its kind does not use is past its range, some other place.
+// Plain indices, each below its end (`Placed`): a type for each would be taken apart wherever it is used as one.
 #[derive(Clone, Copy)]
 pub struct Places {
     pub seat: usize,

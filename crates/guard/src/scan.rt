@@ -54,7 +54,8 @@ impl Role {
 }
 
 impl Rights {
-    // The entities on which they give the right.
+    // The entities on which they give the right. (Not one function with that of a role: what the two records have alike are the names of
+    // four fields, and a trait over both would hold these bodies again.)
     pub(crate) fn on(&self, right: Right) -> u64
         ensures { result ≡ side_of self.now right }
     {

@@ -46,6 +46,8 @@ pub const TOP_NAME: u32 = 65535;
 
 pub const ALL_RIGHTS: u32 = 15;
 
+// The editions, the kinds of entity and its marks stay numbers: a rule of the project puts no enum into the tables, whose fields
+// hold any byte, and `is_sound` tells which of them mean something.
 // The editions of the tables.
 pub const EDITION_1: u8 = 1;
 
@@ -63,7 +65,7 @@ pub const SHARED: u8 = 1;
 
 pub const TOP_MARK: u32 = SHARED as u32;
 
-// What a role may have: one number each, added up.
+// What a role may have: one number each, added up, as a request names them.
 pub const READ: u8 = 1;
 
 pub const WRITE: u8 = 2;

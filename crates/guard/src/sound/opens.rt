@@ -62,6 +62,7 @@ fn equals_each(labels: &[u32; ENTITIES], label: u32, set: u64) -> bool
     Members(set).all(|e| labels[e] == label)
 }
 
+// A level is a number below 4 here and in `rights`, and no type: it is a quotient of the loop's own number, asked once a turn.
 // The entities of at least a level.
 fn from_level(level: u32) -> u64
     requires { level < 4 }
