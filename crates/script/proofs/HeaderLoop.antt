@@ -1,17 +1,19 @@
 -- The order of columns, as a loop over the line of names finds it: the names so far, and the set of those seen.
 --     every_map                                     a test met by each element of a list
 --     stands, name_known_at                         which names have come; a name's place
+--     values_split, numbered_here, numbered_all     the values as `split` and `enumerate` hand them out: one of them, and all
 --     Seen, seen_start, seen_few, seen_more         the loop
---     seen_none, seen_again, seen_end               its ends: one that is none, one that stands twice, and the last
+--     seen_none, seen_again, seen_end               its ends: one that is none, one that stands twice, and after the last
 -- Assumes nothing.
-use Prim.Native.Nat.{ℕ, suc, ◌+◌, ◌-◌, ◌≤◌, ◌<◌}
+use Prim.Native.Nat.{ℕ, zero, suc, ◌+◌, ◌≤◌, ◌<◌}
 use mathlib.Core.Path.{◌≡◌, refl, ap, sym, ◌∙◌}
-use mathlib.Core.Bool.{Bool, true, false, ◌||◌, and-eq-true_iff}
+use mathlib.Core.Bool.{Bool, true, false, cond, ◌||◌, and-eq-true_iff}
 use mathlib.Core.List.{List, [], ◌∷◌, map}
+use native.Mathlib.Nat.{zero-add}
 use native.Mathlib.Decide.{dec_lt}
 use native.Mathlib.Omega.{arith}
 use lib.Dec.{eqb, ltb}
-use lib.ListN.{length, get_or, set, take, drop, replicate, length-set, get_or-replicate, get_or-eq_default}
+use lib.ListN.{length, get_or, set, replicate, length-set, get_or-replicate, get_or-eq_default}
 use lib.Seq.{get_or-set_same, get_or-set_other}
 use borrow.Author.Tests.{eqb-true, eqb-false, eq-eqb, lt-ltb, ltb-true}
 use Rattle.std.specs.Prelude.{Some, None, MatchOption}
@@ -20,12 +22,12 @@ use Rattle.bitset.specs.Sets.{has, with, contains}
 use Rattle.bitset.specs.Sets.Laws.{has_none, has_with_same, has_with_other, has_below, has_contains, contains_has}
 use Rattle.bitset.specs.Tests.{every, all, some}
 use Rattle.bitset.specs.Tests.Laws.{all_e, both, clash, is_false, every_i, some_none, some_more, some_i, some_e, or-true, or-false, none_below}
-use Rattle.script.specs.Text.{values}
+use Rattle.script.specs.Text.{values, onto}
 use Rattle.script.specs.Names.{names, all_names, column, among, is_names, Ordered}
-use Rattle.script.specs.Private.Slices.{before}
 use Rattle.script.specs.Private.ShortTexts.{place_in}
 use Rattle.script.specs.Private.Rows.{name_count}
-use Rattle.script.proofs.ValuesInTurn.{Reached, reached_start, reached_some, reached_here, reached_end, reached_next}
+use Rattle.std.specs.List.{slice_split, enumerate_from, onto_first}
+use Rattle.std.proofs.lemmas.List.FromFn.{length-enumerate_from, get_or-enumerate_from}
 use Rattle.script.proofs.NamePlaces.{column_found, among_found, among_i, twice_i, names_length, no_name, twelve, twelve_at, named_alike, Different, different_few, name_among, name_known, name_apart}
 
 -- the name i stands at one of the first n places
@@ -90,21 +92,54 @@ name_known_at p n e = go (ltb (column p all_names) (length all_names)) refl e
     go true t e = let same : n ≡ column p all_names = cc in (same, omega (arith, ltb-true _ _ t, names_length))
     go false t e = let z : ◌≡◌ {A = ℕ} 0 1 = cc in absurd (omega arith)
 
+-- ---- the values, as `split` hands them out
+pub values_split : (s : List ℕ) → slice_split (λ b. eqb b 32) s ≡ values s
+unfolding values onto
+values_split [] = refl
+values_split (b ∷ s) = rw (values_split s) (go (eqb b 32) (values s))
+  where
+    go : (t : Bool) (ps : List (List ℕ)) → cond t ([] ∷ ps) (onto_first b ps) ≡ cond t ([] ∷ ps) (onto b ps)
+    go true ps = refl
+    go false [] = refl
+    go false (p ∷ ps) = refl
+
+get_or-same_default : (ps : List (List ℕ)) (k : ℕ) (d : List ℕ) → k < length ps → get_or ps k d ≡ get_or ps k []
+get_or-same_default [] k d l = absurd (none_below k l)
+get_or-same_default (p ∷ ps) zero d l = refl
+get_or-same_default (p ∷ ps) (suc k) d l = get_or-same_default ps k d (omega arith)
+
+-- the place and the value that `enumerate` hands out as the k-th
+pub numbered_here : (s : List ℕ) (k j : ℕ) (v : List ℕ)
+    → (k < length (enumerate_from 0 (slice_split (λ b. eqb b 32) s))) × ((j, v) ≡ get_or (enumerate_from 0 (slice_split (λ b. eqb b 32) s)) k (j, v))
+    → (j ≡ k) × ((j < length (values s)) × (v ≡ get_or (values s) j []))
+numbered_here s k j v h = go (slice_split (λ b. eqb b 32) s) (values s) (values_split s) h
+  where
+    go : (qs ps : List (List ℕ)) → qs ≡ ps → (k < length (enumerate_from 0 qs)) × ((j, v) ≡ get_or (enumerate_from 0 qs) k (j, v))
+        → (j ≡ k) × ((j < length ps) × (v ≡ get_or ps j []))
+    go qs ps z h =
+        let l : k < length qs = omega (arith, h.0, length-enumerate_from 0 qs) in
+        let e : (j, v) ≡ (0 + k, get_or qs k v) = h.1 ∙ get_or-enumerate_from 0 qs k (j, v) l in
+        let q : j ≡ k = ap (λ (x : ℕ × List ℕ). x.0) e ∙ zero-add k in
+        let m : j < length qs = rw q l in
+        let w : v ≡ get_or qs j [] = ap (λ (x : ℕ × List ℕ). x.1) e ∙ ap (λ (i : ℕ). get_or qs i v) (sym q) ∙ get_or-same_default qs j v m in
+        (q, (rw (← ap length z) m, w ∙ ap (λ (x : List (List ℕ)). get_or x j []) z))
+
+pub numbered_all : (s : List ℕ) (k : ℕ) → k ≡ length (enumerate_from 0 (slice_split (λ b. eqb b 32) s)) → k ≡ length (values s)
+numbered_all s k h = h ∙ length-enumerate_from 0 (slice_split (λ b. eqb b 32) s) ∙ ap length (values_split s)
+
 -- ---- the loop
 
-pub record Seen (s at : List ℕ) (seen from j : ℕ) : Type 0 where
-  pub reached : Reached s from j
+pub record Seen (s at : List ℕ) (seen j : ℕ) : Type 0 where
   pub long : length at ≡ 16
   pub place : (k : ℕ) → k < j → get_or at k 0 ≡ column (get_or (values s) k []) all_names
   pub none : (k : ℕ) → j ≤ k → k < 16 → get_or at k 0 ≡ name_count
   pub is : (i : ℕ) → i < name_count → has seen i ≡ stands (values s) j i
   pub different : Different (values s) j
 
-pub seen_start : (s : List ℕ) → Seen s (replicate 16 name_count) 0 0 0
+pub seen_start : (s : List ℕ) → Seen s (replicate 16 name_count) 0 0
 unfolding stands
 seen_start s =
     record {
-      reached = reached_start s;
       long = refl;
       place = λ k l. absurd (none_below k l);
       none = λ k l h. get_or-replicate 16 k name_count 0 h;
@@ -112,33 +147,33 @@ seen_start s =
       different = record { known = λ k l. absurd (none_below k l); apart = λ a b l m. absurd (none_below b m) };
     }
 
-pub seen_few : {s at : List ℕ} {seen from j : ℕ} → Seen s at seen from j → j ≤ name_count
-seen_few {s} {at} {seen} {from} {j} p = different_few (values s) j p.different
+pub seen_few : {s at : List ℕ} {seen j : ℕ} → Seen s at seen j → j ≤ name_count
+seen_few {s} {at} {seen} {j} p = different_few (values s) j p.different
 
-module _ {s at : List ℕ} {seen from j e : ℕ} (p : Seen s at seen from j) (f : e ≡ length (before 32 (take (length s - from) (drop from s)))) where
+module _ {s at v : List ℕ} {seen j : ℕ} (p : Seen s at seen j) (f : (j < length (values s)) × (v ≡ get_or (values s) j [])) where
   -- it is none of the names
-  pub seen_none : None ≡ place_in (take e (take (length s - from) (drop from s))) all_names → is_names (values s) ≡ false
+  pub seen_none : None ≡ place_in v all_names → is_names (values s) ≡ false
   unfolding place_in
   seen_none c = is_false (is_names (values s)) (λ g. go (ltb _ _) (known g) c)
     where
-      here : get_or (values s) j [] ≡ take e (take (length s - from) (drop from s))
-      here = sym (reached_here p.reached f)
+      here : get_or (values s) j [] ≡ v
+      here = sym f.1
 
-      known : is_names (values s) ≡ true → ltb (column (take e (take (length s - from) (drop from s))) all_names) (length all_names) ≡ true
+      known : is_names (values s) ≡ true → ltb (column v all_names) (length all_names) ≡ true
       known g =
-          lt-ltb _ _ (omega (arith, names_length, ap (λ (v : List ℕ). column v all_names) here, name_known (values s) g j (reached_some p.reached)))
+          lt-ltb _ _ (omega (arith, names_length, ap (λ (x : List ℕ). column x all_names) here, name_known (values s) g j f.0))
 
-      go : (b : Bool) → b ≡ true → None ≡ then_some b (column (take e (take (length s - from) (drop from s))) all_names) → ⊥
+      go : (b : Bool) → b ≡ true → None ≡ then_some b (column v all_names) → ⊥
       go true t c = let z : ◌≡◌ {A = ℕ} 0 1 = cc in omega arith
       go false t c = clash false t refl
 
-module _ {s at : List ℕ} {seen from j e n : ℕ} (p : Seen s at seen from j) (f : e ≡ length (before 32 (take (length s - from) (drop from s))))
-    (c : Some n ≡ place_in (take e (take (length s - from) (drop from s))) all_names) where
-  found : (n ≡ column (take e (take (length s - from) (drop from s))) all_names) × (n < name_count)
+module _ {s at v : List ℕ} {seen j n : ℕ} (p : Seen s at seen j) (f : (j < length (values s)) × (v ≡ get_or (values s) j []))
+    (c : Some n ≡ place_in v all_names) where
+  found : (n ≡ column v all_names) × (n < name_count)
   found = name_known_at _ n c
 
   name_here : n ≡ column (get_or (values s) j []) all_names
-  name_here = found.0 ∙ ap (λ (v : List ℕ). column v all_names) (reached_here p.reached f)
+  name_here = found.0 ∙ ap (λ (x : List ℕ). column x all_names) f.1
 
   known_here : n < name_count
   known_here = found.1
@@ -151,7 +186,7 @@ module _ {s at : List ℕ} {seen from j e n : ℕ} (p : Seen s at seen from j) (
       twice : is_names (values s) ≡ true → ⊥
       twice g =
           let (k, m, q) = some_e j (λ k. eqb (column (get_or (values s) k []) all_names) n) (sym (p.is n known_here) ∙ h) in
-          name_apart (values s) g k j m (reached_some p.reached) (named_alike _ _ (eqb-true _ _ q ∙ name_here) (rw (← name_here) known_here))
+          name_apart (values s) g k j m f.0 (named_alike _ _ (eqb-true _ _ q ∙ name_here) (rw (← name_here) known_here))
 
   module _ {m : ℕ} (w : m ≡ with seen n) (new : has seen n ≡ false) where
     place_more : (k : ℕ) → k < j + 1 → get_or (set at j n) k 0 ≡ column (get_or (values s) k []) all_names
@@ -200,10 +235,9 @@ module _ {s at : List ℕ} {seen from j e n : ℕ} (p : Seen s at seen from j) (
                 let is_n : column (get_or (values s) a []) all_names ≡ n = same ∙ ap (λ (x : ℕ). column (get_or (values s) x []) all_names) q ∙ sym name_here in
                 clash (has seen n) (p.is n known_here ∙ some_i j (λ x. eqb (column (get_or (values s) x []) all_names) n) a (omega arith) (eq-eqb _ _ is_n)) new
 
-    pub seen_more : e < length (take (length s - from) (drop from s)) → Seen s (set at j n) m (from + e + 1) (j + 1)
-    seen_more h =
+    pub seen_more : Seen s (set at j n) m (j + 1)
+    seen_more =
         record {
-          reached = reached_next p.reached f h;
           long = length-set at j n ∙ p.long;
           place = place_more;
           none = none_more;
@@ -211,18 +245,16 @@ module _ {s at : List ℕ} {seen from j e n : ℕ} (p : Seen s at seen from j) (
           different = different_more;
         }
 
-    pub seen_end : length (take (length s - from) (drop from s)) ≤ e → {g : Bool} → g ≡ contains m 4095
-        → MatchOption (then_some g (set at j n)) (is_names (values s) ≡ false) (λ at. Ordered (values s) at)
-    seen_end h {g} k =
-        let many : length (values s) ≡ j + 1 = reached_end p.reached f h in
-        so g (k ∙ seen_names (values s) (j + 1) m many different_more is_more) many
-      where
-        go : (i : ℕ) → i < 16 → length (values s) ≡ j + 1 → Dec (i < j + 1) → get_or (set at j n) i 0 ≡ column (get_or (values s) i []) all_names
-        go i l many (yes b) = place_more i b
-        go i l many (no b) =
-            none_more i (omega arith) l ∙ sym (ap (λ (v : List ℕ). column v all_names) (get_or-eq_default (values s) [] {n = i} (omega arith)) ∙ no_name)
+module _ {s at : List ℕ} {seen j : ℕ} (p : Seen s at seen j) (many : j ≡ length (values s)) where
+  pub seen_end : {g : Bool} → g ≡ contains seen 4095
+      → MatchOption (then_some g at) (is_names (values s) ≡ false) (λ at. Ordered (values s) at)
+  seen_end {g} k = so g (k ∙ seen_names (values s) j seen (sym many) p.different p.is)
+    where
+      go : (i : ℕ) → i < 16 → Dec (i < j) → get_or at i 0 ≡ column (get_or (values s) i []) all_names
+      go i l (yes b) = p.place i b
+      go i l (no b) =
+          p.none i (omega arith) l ∙ sym (ap (λ (v : List ℕ). column v all_names) (get_or-eq_default (values s) [] {n = i} (omega (arith, many))) ∙ no_name)
 
-        so : (b : Bool) → b ≡ is_names (values s) → length (values s) ≡ j + 1
-            → MatchOption (then_some b (set at j n)) (is_names (values s) ≡ false) (λ at. Ordered (values s) at)
-        so true e many = record { good = sym e; place = λ i l. go i l many (dec_lt i (j + 1)) }
-        so false e many = sym e
+      so : (b : Bool) → b ≡ is_names (values s) → MatchOption (then_some b at) (is_names (values s) ≡ false) (λ at. Ordered (values s) at)
+      so true e = record { good = sym e; place = λ i l. go i l (dec_lt i j) }
+      so false e = sym e

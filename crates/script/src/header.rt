@@ -13,21 +13,13 @@ pub fn header(s: &[u8]) -> Option<[u8; limits::PLACES]>
 {
     let mut at = [limits::NO_NAME; limits::PLACES];
     let mut seen = 0u16;
-    let mut from = 0;
-    let mut j = 0;
-    loop {
-        let rest = &s[from..];
-        let e = text::find(rest, 32);
-        let name = text::name_at(&rest[..e])?;
+    for (j, value) in s.split(|&b| b == b' ').enumerate() {
+        let name = text::name_at(value)?;
         if seen.has(name as u32) {
             return None;
         }
         at[j] = name;
         seen = seen.with(name as u32);
-        j += 1;
-        if rest.len() <= e {
-            return seen.contains(limits::FIXED_NAMES).then_some(at);
-        }
-        from = from + e + 1;
     }
+    seen.contains(limits::FIXED_NAMES).then_some(at)
 }
