@@ -2,7 +2,7 @@
 ghost use Rattle.std.specs.Prelude.{◌+◌, ◌/◌, ◌%◌, ◌<◌, ◌≤◌, ◌≡◌, length};
 ghost use Rattle.script.specs.Text.{place, decimal};
 ghost use Rattle.script.specs.Report.{heading, line_text, line_room, last_line};
-ghost use Rattle.script.specs.Private.Slices.{Numbered, Put};
+ghost use Rattle.script.specs.Private.Slices.{Put};
 
 // A number and its last five digits, the last one in `a`. No `write!`: line numbers are counted up by their digits, most of
 // them without a division (docs/PERFORMANCE.md).
@@ -14,11 +14,16 @@ pub struct Numeral {
     pub c: u32,
     pub b: u32,
     pub a: u32,
+    ghost fifth: { e ≡ n / 10000 % 10 },
+    ghost fourth: { d ≡ n / 1000 % 10 },
+    ghost third: { c ≡ n / 100 % 10 },
+    ghost second: { b ≡ n / 10 % 10 },
+    ghost first: { a ≡ n % 10 },
 }
 
 // The digits of `n`.
 pub fn numeral_of(n: u32) -> Numeral
-    ensures { Numbered n result }
+    ensures { result.n ≡ n }
 {
     Numeral {
         n,
@@ -32,8 +37,8 @@ pub fn numeral_of(n: u32) -> Numeral
 
 // The next number: mostly no digit but the last one changes.
 pub fn after(x: Numeral) -> Numeral
-    requires { Numbered x.n x × (x.n ≤ last_line) }
-    ensures { Numbered (x.n + 1) result }
+    requires { x.n ≤ last_line }
+    ensures { result.n ≡ x.n + 1 }
 {
     if 9 <= x.a {
         return numeral_of(x.n + 1);
@@ -71,7 +76,7 @@ fn put_place(p: u32, n: u32, d: u32, out: &mut [u8], at: usize) -> usize
 
 // A number below 100,000 in decimal.
 fn put_decimal(x: Numeral, out: &mut [u8], at: usize) -> usize
-    requires { Numbered x.n x × (at + 5 ≤ length out.old) }
+    requires { at + 5 ≤ length out.old }
     ensures { Put out.old at (decimal x.n) out.new result × (result ≤ at + 5) }
 {
     let n = x.n;
@@ -85,7 +90,7 @@ fn put_decimal(x: Numeral, out: &mut [u8], at: usize) -> usize
 
 // One line of output: number, space, answer, byte 10.
 pub fn put_line(x: Numeral, a: u8, out: &mut [u8]) -> usize
-    requires { Numbered x.n x × (line_room ≤ length out.old) }
+    requires { line_room ≤ length out.old }
     ensures { Put out.old 0 (line_text x.n a) out.new result }
 {
     let i = put_decimal(x, out, 0);

@@ -1,10 +1,8 @@
 -- Words on slices, in which the contracts of private functions are put.
 --     before, leading     what stands before a byte; the first value of the first line
 --     written, Put        a store into a slice
---     Numbered            a number with its digits, as line numbers are counted up
-use Rattle.std.specs.Prelude.{ℕ, ◌+◌, ◌/◌, ◌%◌, ◌≡◌, cond, List, [], ◌∷◌, eqb, length}
+use Rattle.std.specs.Prelude.{ℕ, ◌+◌, ◌≡◌, cond, List, [], ◌∷◌, eqb, length}
 use Rattle.std.proofs.lemmas.List.Edits.{sets}
-use Rattle.script.specs.declared.print.Numeral.{Numeral}
 
 -- what stands before the first byte d
 unfoldable pub before : ℕ → List ℕ → List ℕ
@@ -22,12 +20,3 @@ written l i vs = sets l i vs
 pub record Put (old : List ℕ) (i : ℕ) (vs : List ℕ) (new : List ℕ) (r : ℕ) : Type 0 where
   pub holds : new ≡ written old i vs
   pub next : r ≡ i + length vs
-
--- x is the number n, with its last five digits
-pub record Numbered (n : ℕ) (x : Numeral) : Type 0 where
-  pub whole : x.n ≡ n
-  pub fifth : x.e ≡ n / 10000 % 10
-  pub fourth : x.d ≡ n / 1000 % 10
-  pub third : x.c ≡ n / 100 % 10
-  pub second : x.b ≡ n / 10 % 10
-  pub first : x.a ≡ n % 10

@@ -30,4 +30,4 @@ loop-asks-preserved c =
     let turn : c.loop-asks.asks-index < c.args.lines = omega (arith, c.loop-asks-test.true, length-take c.args.lines c.args.marks.now) in
     let here = get_or-take c.args.lines c.args.marks.now c.loop-asks.asks-index false turn in
     let few = line_few _ _ c.put_line-wrote.ensures in
-    (rw (along _ _ held.0.whole) c.after-k.ensures, omega arith, search rules, asked_on _ c.args.answers.now _ _ _ held.3 turn (omega arith) (rw here at c.from-j.ensures), texts_more _ _ _ _ _ held.3 turn (omega arith) _ _ _ held.4 (rw here at c.answer_of-a.ensures) held.0.whole (omega arith) (omega arith) c.put_line-wrote.ensures)
+    (rw (along _ _ held.0) c.after-k.ensures, omega arith, search rules, asked_on _ c.args.answers.now _ _ _ held.3 turn (omega arith) (rw here at c.from-j.ensures), texts_more _ _ _ _ _ held.3 turn (omega arith) _ _ _ held.4 (rw here at c.answer_of-a.ensures) held.0 (omega arith) (omega arith) c.put_line-wrote.ensures)

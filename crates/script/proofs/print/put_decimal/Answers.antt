@@ -11,6 +11,6 @@ returns c = (
   put_then c.put_place-i.ensures.0
       (put_then c.put_place-j.ensures.0
       (put_then c.put_place-k.ensures.0
-      (put_then c.put_place-l.ensures.0 (rw (← c.requires.0.first) (put_cons refl put_nil))))),
+      (put_then c.put_place-l.ensures.0 (rw (← c.args.x.first) (put_cons refl put_nil))))),
   omega arith,
 )

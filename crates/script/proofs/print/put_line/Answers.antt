@@ -8,4 +8,4 @@ pub returns : goal.returns
 unfolding line_text
 returns c =
     put_then c.put_decimal-i.ensures.0
-    (put_cons refl (put_then (rw c.numeral_of-answer.ensures.whole at c.put_decimal-j.ensures.0) (put_cons refl put_nil)))
+    (put_cons refl (put_then (rw c.numeral_of-answer.ensures at c.put_decimal-j.ensures.0) (put_cons refl put_nil)))

@@ -11,5 +11,5 @@ returns c =
       asked = c.next-front.result.asked;
       read = λ header o. c.next-front.ensures.1 header o ∙ ap (read_line header) c.requires.2;
       next = said_next _ _ _ c.answer_line-a.ensures;
-      puts = said_text _ _ _ c.answer_line-a.ensures (line_of _ c.numeral_of.ensures.whole c.put_line-wrote.ensures);
+      puts = said_text _ _ _ c.answer_line-a.ensures (line_of _ c.numeral_of.ensures c.put_line-wrote.ensures);
     }
