@@ -1,12 +1,13 @@
 -- The value found at a byte of a line, under a name.
---     dash_one, dash_none                             a dash, by its length and its first byte
+--     dash_equal                             a dash, by its length and its first byte
 --     dash_under, value_later, value_call             a value under a name
 --     word_dash, word_place, word_other               .. under `call`
 --     found_any, found_one, found_two, found_last, found_dash, found_word      what is found, by the bytes there
 -- Assumes nothing.
+use lib.Pointwise.{pointwise}
 use Prim.Native.Nat.{ℕ, ◌+◌, ◌-◌, ◌*◌, ◌≤◌, ◌<◌}
 use mathlib.Core.Path.{◌≡◌, refl, ap, sym, ◌∙◌}
-use mathlib.Core.Bool.{Bool, true, false, cond, ◌&&◌}
+use mathlib.Core.Bool.{Bool, true, false, cond}
 use mathlib.Core.List.{List, [], ◌∷◌}
 use native.Mathlib.Omega.{arith}
 use lib.Dec.{eqb, ltb}
@@ -25,27 +26,17 @@ use Rattle.script.specs.Private.Rows.{word_value, value_under, IsFound}
 use Rattle.script.specs.declared.line.Value.{Value}
 use Rattle.script.specs.declared.line.Value.TheVariants.{Digits, Dash, Other}
 use Rattle.script.proofs.ByKey.{Bytes}
-use Rattle.script.proofs.Texts.{no_dash, good_digits}
+use Rattle.script.proofs.Texts.{good_digits}
 use Rattle.script.proofs.ValuesInTurn.{to_end}
 use Rattle.script.proofs.FirstValue.{lead_take, lead_one, lead_end, lead_two, drop_two, drop_three}
 use Rattle.script.proofs.WordAtFront.{Word, word_known, bytes_drop}
 
 -- ---- a dash
-pub dash_one : (v : List ℕ) → length v ≡ 1 → eqb (get_or v 0 0) 45 ≡ same v (bytes "-")
+pub dash_equal : (v : List ℕ) → pointwise eqb v (45 ∷ []) ≡ same v (bytes "-")
 unfolding same bytes
-dash_one [] h = absurd (omega arith)
-dash_one (a ∷ []) h = go (eqb a 45)
-  where
-    go : (t : Bool) → t ≡ (t && true)
-    go true = refl
-    go false = refl
-dash_one (a ∷ b ∷ v) h = absurd (omega arith)
-
-pub dash_none : (v : List ℕ) → (length v ≡ 1 → ⊥) → false ≡ same v (bytes "-")
-unfolding same bytes
-dash_none [] h = refl
-dash_none (a ∷ []) h = absurd (h refl)
-dash_none (a ∷ b ∷ v) h = sym (no_dash (a ∷ b ∷ v) (omega arith))
+dash_equal [] = refl
+dash_equal (a ∷ []) = refl
+dash_equal (a ∷ b ∷ bs) = refl
 
 -- ---- values
 module _ (v : List ℕ) where

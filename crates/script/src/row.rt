@@ -38,10 +38,7 @@ fn pair(s: &[u8], from: usize) -> u64
 fn is_space(s: &[u8], at: usize) -> bool
     ensures { result ≡ eqb (get_or s.now at 0) 32 }
 {
-    if at < s.len() {
-        return s[at] == 32;
-    }
-    false
+    s.get(at) == Some(&b' ')
 }
 
 fn is_digit(b: u64) -> bool
@@ -54,10 +51,7 @@ fn is_digit(b: u64) -> bool
 fn is_dash(v: &[u8]) -> bool
     ensures { result ≡ same v.now (bytes "-") }
 {
-    if v.len() == 1 {
-        return v[0] == b'-';
-    }
-    false
+    v == b"-".as_slice()
 }
 
 // A value under `call`.

@@ -1,9 +1,6 @@
--- `script::row::is_dash` meets its contract. Assumes nothing.
-use Rattle.script.proofs.FoundValue.{dash_one, dash_none}
+-- `is_dash` compares with a dash. Assumes nothing.
+use Rattle.script.proofs.FoundValue.{dash_equal}
 use Rattle.script.proofs.row.is_dash.Goals as goal
 
-pub returns-then-v-eq1 : goal.returns-then-v-eq1
-returns-then-v-eq1 c = dash_one _ c.if-v-eq1.true
-
 pub returns : goal.returns
-returns c = dash_none _ c.if-v-eq1.false
+returns c = rw (c.eq.ensures, c.as_slice.ensures) (dash_equal c.args.v.now)
