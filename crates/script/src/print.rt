@@ -62,6 +62,8 @@ pub fn put_heading(out: &mut [u8]) -> usize
     12
 }
 
+// Each writer is handed the buffer and a place in it, and says where it stopped: two of them follow one another in a line, and a record
+// of the two would be taken apart by each.
 // The digit `d` of `n` at the place `p`, unless it is a leading zero.
 fn put_place(p: u32, n: u32, d: u32, out: &mut [u8], at: usize) -> usize
     requires { (d ≡ n / p % 10) × (at < length out.old) }
