@@ -6,7 +6,7 @@ use std::io::Read;
 use std::rt::Files;
 
 // Reads until `room` is full, the file ends or a read fails, and says how many bytes came. `read_exact` does not say that of a
-// file that is shorter.
+// file that is shorter, and `read_to_end` wants a Vec where a room is lent.
 fn read_full(file: &mut impl Read, room: &mut [u8]) -> usize
     ensures { result ≤ length room.new }
 {

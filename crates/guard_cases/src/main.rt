@@ -41,7 +41,8 @@ use std::rt::Files;
 fn file(rt: &(impl Print + Files), state: &mut State, name: &[u8]) -> io::Result<()> {
     let mut room = [0; 65536];
     let text = folder::read(rt, name, &mut room);
-    for (above, line) in text.split(|b| *b == b'\n').enumerate() {
+    for (above, line) in text.split_inclusive(|b| *b == b'\n').enumerate() {
+        let line = line.strip_suffix(b"\n").unwrap_or(line);
         match state.run_line(rt, line) {
             Ok(()) => {}
             Err(Failure::Io(e)) => return Err(e),
@@ -58,7 +59,8 @@ fn main(rt: HostRuntime) -> io::Result<()> {
     let mut room = [0; 4096];
     let list = folder::read(&rt, b"list", &mut room);
     let mut state = State::new();
-    for name in list.split(|b| *b == b'\n') {
+    for name in list.split_inclusive(|b| *b == b'\n') {
+        let name = name.strip_suffix(b"\n").unwrap_or(name);
         file(&rt, &mut state, name)?;
     }
     Ok(())

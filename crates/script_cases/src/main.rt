@@ -7,10 +7,9 @@
 
 mod host;
 
+use cases::folder;
 use host::Cut;
 use std::alloc::{AllocError, Global};
-use std::fs::File;
-use std::io::{ErrorKind, Read};
 use std::rt::Files;
 use std::{io, iter};
 
@@ -56,9 +55,9 @@ const PARTS: [Part; 5] = [
 ];
 
 // How many bytes of an input are read, and of the list.
-const MOST: u64 = 65536;
+const MOST: usize = 65536;
 
-const MOST_LISTED: u64 = 4096;
+const MOST_LISTED: usize = 4096;
 
 const WHOLE: Cut = Cut {
     piece: 65536,
@@ -70,18 +69,6 @@ const PIECES: [usize; 3] = [1, 7, 64];
 const LONG_PIECES: [usize; 3] = [64, 300, 1000];
 
 const ROOMS: [usize; 3] = [12, 13, 100];
-
-// The first bytes of the file of that name, at most so many. One that cannot be read has none, but for want of memory.
-fn bytes(rt: &(impl Files + AllocGlobal), name: &[u8], most: u64) -> io::Result<Vec<u8>> {
-    let mut bytes = Vec::new(rt.alloc());
-    if let Ok(file) = File::open(rt, str::from_utf8(name).unwrap_or("")) {
-        match file.take(most).read_to_end(&mut bytes) {
-            Err(error) if error.kind() == ErrorKind::OutOfMemory => return Err(error),
-            _ => {}
-        }
-    }
-    Ok(bytes)
-}
 
 // The text, with the part that comes again, if it is that long.
 fn repeated(alloc: Global, text: &[u8], part: &Part) -> Result<Vec<u8>, AllocError> {
@@ -135,23 +122,29 @@ fn case(
     name: &[u8],
     part: Option<&Part>,
 ) -> io::Result<()> {
-    let text = bytes(rt, name, MOST)?;
+    let mut room = [0; MOST];
+    let text = folder::read(rt, name, &mut room);
     let length = text.len();
     rt.write_all(name)?;
     println!(rt; ": {length}")?;
+    let long;
     let (input, pieces) = match part {
-        Some(part) => (repeated(rt.alloc(), &text, part)?, &LONG_PIECES),
+        Some(part) => {
+            long = repeated(rt.alloc(), text, part)?;
+            (long.as_slice(), &LONG_PIECES)
+        }
         None => (text, &PIECES),
     };
-    let whole = host::printed(rt.alloc(), &input, WHOLE)?;
+    let whole = host::printed(rt.alloc(), input, WHOLE)?;
     show(rt, &whole)?;
-    let same = ways(rt.alloc(), &input, pieces, &whole)?;
+    let same = ways(rt.alloc(), input, pieces, &whole)?;
     println!(rt; "same: {same}")
 }
 
 // The case of each line of the list.
 fn main(rt: HostRuntime) -> io::Result<()> {
-    let list = bytes(&rt, b"list", MOST_LISTED)?;
+    let mut room = [0; MOST_LISTED];
+    let list = folder::read(&rt, b"list", &mut room);
     let lines = list.split_inclusive(|byte| *byte == b'\n');
     for (k, line) in lines.enumerate() {
         let name = line.strip_suffix(b"\n").unwrap_or(line);
