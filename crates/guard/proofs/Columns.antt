@@ -1,22 +1,22 @@
 -- What the scans tell of the tables.
---     Giver, giver-..               the lowest role held that gives a right
+--     Giver, giver_found            the lowest role held that gives a right
 --     way_of                        the climb by keys is "reaches"
 --     name_of, child_of_lem         a name among the children, a child
 -- Assumes nothing.
 use Rattle.std.specs.Prelude.{Option, Some, None}
-use Prim.Native.Nat.{ℕ, ◌+◌, ◌*◌, ◌/◌, ◌%◌, ◌≤◌, ◌<◌}
+use Prim.Native.Nat.{ℕ, ◌+◌, ◌*◌, ◌/◌, ◌%◌, ◌^◌, ◌≤◌, ◌<◌}
 use mathlib.Core.Path.{◌≡◌, refl, sym, ap, ◌∙◌}
 use mathlib.Core.Bool.{Bool, true, false, not}
 use mathlib.Core.List.{List, [], ◌∷◌}
-use native.Mathlib.Decide.{ℕ_discrete}
 use native.Mathlib.Omega.{arith}
 use lib.Dec.{eqb}
 use lib.ListN.{get_or}
 use borrow.Author.Tests.{eqb-true, eq-eqb}
+use Rattle.std.specs.List.{find}
 use Rattle.bitset.specs.Tests.{every, some}
 use Rattle.bitset.specs.Tests.Laws.{both, clash, is_false, not_of_false, of_not_true, every_i, every_at, some_i, some_e}
-use Rattle.bitset.specs.Sets.{has, without}
-use Rattle.bitset.specs.Sets.Laws.{has_none, has_without_other}
+use Rattle.bitset.specs.Sets.{has}
+use Rattle.bitset.specs.Sets.Laws.{has_below}
 use Rattle.guard.specs.Level.{is_root}
 use Rattle.guard.specs.Told.{lowest}
 use Rattle.guard.specs.Tables.{entity_at, execute, has_right, is_child}
@@ -24,38 +24,32 @@ use Rattle.guard.specs.Chain.{reaches}
 use Rattle.guard.specs.Sound.{sound}
 use Rattle.guard.specs.Conditions.{name_taken, has_children}
 use Rattle.guard.specs.Private.Scan.{Keys, has_by, gives, climbs_by, name_by, child_by}
+use Rattle.guard.specs.Private.Tested.{listed}
 use Rattle.guard.specs.declared.Role.{Role}
 use Rattle.guard.specs.declared.scan.Right.{Right}
 use Rattle.guard.specs.declared.Tables.{Tables}
 use Rattle.guard.specs.declared.Request.{Request}
-use Rattle.guard.proofs.Laws.Told.{lowest_at, lowest_none, lowest_cong}
+use Rattle.guard.proofs.Laws.Told.{lowest_at, lowest_none}
 use Rattle.guard.proofs.Laws.Sound.{parent_level}
 use Rattle.guard.proofs.Soundness.Climb.{climbs_cong}
+use Rattle.guard.proofs.Soundness.Listed.{found_in, found_none}
 use Rattle.guard.proofs.Soundness.Keys.{key_live, key_dead, parent_of_key}
 use Rattle.guard.proofs.Soundness.Whole.{numbers}
 
--- the lowest role of those left that gives the right: it is found, or the search goes on without it, or there is none
+-- the lowest role of those held that gives the right is the first of them listed that does
 module _ (roles : List Role) (right : Right) (e : ℕ) where
   abbrev pub Giver : ℕ → Option ℕ
-  Giver left = lowest 16 (gives roles left right e)
+  Giver held = lowest 16 (gives roles held right e)
 
-  pub giver_found : (left r : ℕ) → r < 16 → has left r ≡ true → ((i : ℕ) → i < r → has left i ≡ false) → has_by roles right e r ≡ true
-      → Giver left ≡ Some r
+  pub giver_found : (held : ℕ) → held < 2 ^ 16 → find (has_by roles right e) (listed held) ≡ Giver held
   unfolding every
-  giver_found left r l on none met =
-      lowest_at 16 (gives roles left right e) r l (every_i (has left r ∷ has_by roles right e r ∷ []) (on, (met, tt))) (λ i m. rw (none i m))
-
-  pub giver_next : (left r : ℕ) → has_by roles right e r ≡ false → Giver (without left r) ≡ Giver left
-  giver_next left r lacks = lowest_cong 16 _ _ (λ i l. go i (ℕ_discrete i r))
+  giver_found held small = go (find (has_by roles right e) (listed held)) refl
     where
-      go : (i : ℕ) → Dec (i ≡ r) → gives roles (without left r) right e i ≡ gives roles left right e i
-      go i (yes s) =
-          is_false _ (λ h. clash _ (every_at _ h 1) (rw s lacks)) ∙ sym (is_false (gives roles left right e i) (λ h. clash _ (every_at _ h 1) (rw s lacks)))
-      go i (no s) = rw (has_without_other left r i s)
-
-  pub giver_none : Giver 0 ≡ None
-  unfolding every
-  giver_none = lowest_none 16 _ (λ i l. rw (has_none i))
+      go : (o : Option ℕ) → find (has_by roles right e) (listed held) ≡ o → o ≡ Giver held
+      go None h = sym (lowest_none 16 _ (λ i l. found_none _ held h i (omega (arith, l))))
+      go (Some r) h =
+          let f = found_in _ held r h in
+          sym (lowest_at 16 (gives roles held right e) r (has_below 16 held r small f.is) (every_i (has held r ∷ has_by roles right e r ∷ []) (f.is, (f.met, tt))) (λ i l. f.none i (omega arith) l))
 
 -- ---- the way up, and the children
 module _ (t : Tables) (ok : sound t ≡ true) (keys : List ℕ) (K : Keys t.entities keys) where

@@ -2,20 +2,13 @@
 ghost use Rattle.std.specs.Prelude.{◌<◌, ◌≡◌};
 ghost use Rattle.guard.specs.Level.{role_count, entity_count};
 ghost use Rattle.guard.specs.Told.{lowest, role_byte};
-ghost use Rattle.guard.specs.Private.Scan.{First, has_by, gives, opened_by, read_byte};
+ghost use Rattle.guard.specs.Private.Scan.{has_by, gives, opened_by, read_byte};
 
+use crate::members::Members;
 use crate::scan::Right;
 use crate::sizes::{NO_ROLE, ROLES};
 use crate::{Role, kinds, scan};
 use bitset::Set;
-
-// The lowest member of a set that has one.
-fn first(set: u16) -> u32
-    requires { 0 < set }
-    ensures { First set result }
-{
-    set.trailing_zeros()
-}
 
 // Whether role `r` has the right on the entity, itself or through a role below it.
 #[tactic(auto, unfolding(crate::specs::Private::Scan::has_by, bitset::specs::Tests::either))]
@@ -39,16 +32,9 @@ fn lowest(roles: &[Role; ROLES], held: u16, right: Right, e: usize) -> Option<u8
     requires { e < entity_count }
     ensures { result ≡ lowest role_count (gives roles.now held right e) }
 {
-    // Which member comes next is the promise of `first`, that no lower one is left.
-    let mut left = held;
-    while left != 0 {
-        let r = first(left);
-        if gives(roles, r, right, e) {
-            return Some(r as u8);
-        }
-        left = left.without(r);
-    }
-    None
+    Members(u64::from(held))
+        .find(|&r| gives(roles, r as u32, right, e))
+        .map(|r| r as u8)
 }
 
 // What an accepted request of that kind tells: openr and openw the role for read or write on the entity.

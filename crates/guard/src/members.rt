@@ -1,4 +1,4 @@
-// The members of a set of entities, lowest first.
+// The members of a set, lowest first.
 ghost use Rattle.std.specs.Iterator.{YieldsFirst, item_count};
 ghost use Rattle.guard.specs.Private.Tested.{listed};
 

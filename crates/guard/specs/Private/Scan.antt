@@ -83,12 +83,6 @@ side_of g Write = g.writes
 side_of g Execute = g.executes
 side_of g Own = g.owns
 
--- r is the lowest member of a set of roles
-pub record First (set r : ℕ) : Type 0 where
-  pub none : (i : ℕ) → i < r → has set i ≡ false
-  pub member : has set r ≡ true
-  pub small : r < role_count
-
 -- which one an accepted request of that kind tells
 unfoldable pub opened_by : List Role → ℕ → ℕ → ℕ → Option ℕ
 opened_by roles call held e =
