@@ -10,7 +10,7 @@ ghost use Rattle.script.specs.declared.runner.Phase.TheVariants.{Heading, Names,
 
 use crate::reply::Bench;
 use crate::{batch, header, limits, line, print, reply, text};
-use guard::{Label, Tables, User, sizes};
+use guard::{Tables, User, sizes};
 
 // The phases of a run: the heading is to come, the names are to come, lines of values, over.
 #[derive(Clone, Copy)]
@@ -90,12 +90,7 @@ impl Runner {
     pub fn new() -> Runner
         ensures { result ≡ unbegun }
     {
-        let none = Label { cats: 0, grade: 0 };
-        let nobody = User {
-            ceiling: 0,
-            clearance: none,
-        };
-        let o = Tables::fresh([nobody; sizes::USERS], sizes::EDITION_1);
+        let o = Tables::fresh([User::default(); sizes::USERS], sizes::EDITION_1);
         let tables = o.tables;
         Runner {
             bench: Bench {
