@@ -218,6 +218,7 @@ fn values_step(mut r: Runner, piece: &[u8], end: bool, out: &mut [u8]) -> Ran
 
 // Room for a batch: its requests as rows, of each line whether it asks one, the answers, and the roles told, which are not
 // printed.
+// Answers and roles are two arrays because `Tables::run` fills two, rows and marks because it reads the rows as numbers.
 #[derive(Drop)]
 struct Room {
     rows: [u32; limits::BATCH_NUMBERS],
