@@ -69,7 +69,7 @@ fn field(n: u32, given: u16, uses: u16, i: u32) -> Option<u32>
 
 // Each of the two takes the row as it stands, its numbers, which of them were given and which are used: a record of the three would be
 // made for these two calls alone.
-// The first six fields, unless one of them has a fault. By `let .. else` and not by `?`: docs/TRACE.md says it of them.
+// The first six fields, unless one of them has a fault. A rule of the project: each field's answer is taken apart by `let .. else`.
 pub fn first(vals: &[u32; limits::PLACES], given: u16, uses: u16) -> Option<Six>
     ensures { (rest : Numbers) → take_from uses given vals.now 1 6 rest ≡ ahead result rest }
 {

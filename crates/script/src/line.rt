@@ -54,19 +54,13 @@ fn empty() -> [u32; limits::PLACES]
 fn asked(row: Row, vals: &[u32; limits::PLACES]) -> Option<Line>
     ensures { (h : List (List ℕ)) (at l : List ℕ) → Ordered h at → IsRow at l vals.now row → result ≡ read_line h l }
 {
-    let Some(given) = row.given else {
-        return None;
-    };
+    let given = row.given?;
     if limits::LONGEST < row.len {
         return None;
     }
     let word = vals[0];
-    let Some(uses) = fields::uses(word) else {
-        return None;
-    };
-    let Some(six) = fields::first(vals, given, uses) else {
-        return None;
-    };
+    let uses = fields::uses(word)?;
+    let six = fields::first(vals, given, uses)?;
     fields::second(word, six, vals, given, uses)
 }
 

@@ -173,7 +173,7 @@ pub fn read_row(s: &[u8], at: &[u8; limits::PLACES], vals: &mut [u32; limits::PL
         let i = (at[j] % limits::PLACE_COUNT) as u32;
         let found = value_at(s, from, i);
         let end = found.end;
-        // Two arms go on by themselves: with one way on for both a line takes 5 to 8 % more instructions.
+        // Two arms go on by themselves: with one way on for both a line takes more instructions.
         match found.value {
             Value::Digits(n) => {
                 vals[i as usize] = n;

@@ -10,7 +10,7 @@ ghost use Rattle.script.specs.declared.runner.Phase.TheVariants.{Heading, Names,
 
 use crate::reply::Bench;
 use crate::{batch, header, limits, line, print, reply, text};
-use guard::{Label, Tables, User, sizes};
+use guard::{Tables, User, sizes};
 
 // The phases of a run: the heading is to come, the names are to come, lines of values, over.
 #[derive(Clone, Copy)]
@@ -90,12 +90,7 @@ impl Runner {
     pub fn new() -> Runner
         ensures { result ≡ unbegun }
     {
-        let none = Label { cats: 0, grade: 0 };
-        let nobody = User {
-            ceiling: 0,
-            clearance: none,
-        };
-        let o = Tables::fresh([nobody; sizes::USERS], sizes::EDITION_1);
+        let o = Tables::fresh([User::default(); sizes::USERS], sizes::EDITION_1);
         let tables = o.tables;
         Runner {
             bench: Bench {
@@ -223,6 +218,7 @@ fn values_step(mut r: Runner, piece: &[u8], end: bool, out: &mut [u8]) -> Ran
 
 // Room for a batch: its requests as rows, of each line whether it asks one, the answers, and the roles told, which are not
 // printed.
+// Answers and roles are two arrays because `Tables::run` fills two, rows and marks because it reads the rows as numbers.
 #[derive(Drop)]
 struct Room {
     rows: [u32; limits::BATCH_NUMBERS],

@@ -77,6 +77,7 @@ fn key(s: &[u8]) -> u64
 }
 
 // Which of the names it is, if it is one.
+// The numbers are places in the list of names, since the definitions (`column`) are of places.
 pub fn name_at(s: &[u8]) -> Option<u8>
     ensures { result ≡ place_in s.now all_names }
 {
@@ -101,7 +102,8 @@ pub fn name_at(s: &[u8]) -> Option<u8>
 }
 
 // Which of the words has the key, if one has it: `user`, or one more than the request's number. The words have four to six bytes. A match
-// over all of them would be called by the reader of a row; one for each length is short enough to stand in it.
+// over all of them would be called by the reader of a row; one for each length is short enough to stand in it (docs/DECISIONS D47).
+// The numbers are places in the list of words, since the definitions (`column`, `call_of`) are of places.
 fn word_of_four(k: u64) -> Option<u32>
     requires { k < four_end }
     ensures { result ≡ word_of k }
