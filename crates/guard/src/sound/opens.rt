@@ -16,7 +16,6 @@ use crate::sizes::{
 };
 use crate::{Entity, Label, Role, Session, backing, scan};
 use bitset::Set;
-use std::array;
 
 // How many sets of categories there are, and the last of them; and what stands for the label of what is not live, above all
 // labels.
@@ -41,7 +40,7 @@ fn label_of(n: Entity) -> u32
 pub fn labels(entities: [Entity; ENTITIES]) -> [u32; ENTITIES]
     ensures { (e : ℕ) → e < entity_count → get_or result e 0 ≡ label_number (get_or entities e no_entity) }
 {
-    array::from_fn(|e| label_of(entities[e]))
+    entities.map(label_of)
 }
 
 // Whether `label` dominates the label of each member of `set`.
