@@ -12,7 +12,7 @@ use super::record::session_in_range;
 use crate::members::Members;
 use crate::scan::Rights;
 use crate::sizes::{
-    EDITION_1, ENTITIES, LEVEL_ENTITIES, LEVEL_SEATS, ROLES, SEAT_END, SESSIONS, TOP_LEVEL_ASKED,
+    EDITION_1, ENTITIES, LEVEL_ENTITIES, LEVEL_SEATS, ROLES, SESSIONS, TOP_LEVEL_ASKED,
 };
 use crate::{Entity, Label, Role, Session, backing, scan};
 use bitset::Set;
@@ -137,11 +137,11 @@ pub fn sessions_ok(
 {
     let mut held = 0u16;
     let mut rights = scan::gather(roles, held);
-    for s in 0..SEAT_END {
-        let session = sessions[s as usize];
+    for (s, session) in sessions.iter().enumerate() {
         rights = scan::regather(roles, held, rights, session.roles);
         held = session.roles;
-        if !session_sound(labels, rights, live, edition, s / LEVEL_SEATS, session) {
+        let level = s as u32 / LEVEL_SEATS;
+        if !session_sound(labels, rights, live, edition, level, *session) {
             return false;
         }
     }
