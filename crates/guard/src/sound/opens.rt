@@ -12,11 +12,10 @@ use super::record::session_in_range;
 use crate::members::Members;
 use crate::scan::Rights;
 use crate::sizes::{
-    EDITION_1, ENTITIES, LEVEL_ENTITIES, LEVEL_SEATS, ROLES, SEAT_END, SESSIONS, TOP_LEVEL_ASKED,
+    EDITION_1, ENTITIES, LEVEL_ENTITIES, LEVEL_SEATS, ROLES, SESSIONS, TOP_LEVEL_ASKED,
 };
 use crate::{Entity, Label, Role, Session, backing, scan};
 use bitset::Set;
-use std::array;
 
 // How many sets of categories there are, and the last of them; and what stands for the label of what is not live, above all
 // labels.
@@ -41,7 +40,7 @@ fn label_of(n: Entity) -> u32
 pub fn labels(entities: [Entity; ENTITIES]) -> [u32; ENTITIES]
     ensures { (e : ℕ) → e < entity_count → get_or result e 0 ≡ label_number (get_or entities e no_entity) }
 {
-    array::from_fn(|e| label_of(entities[e]))
+    entities.map(label_of)
 }
 
 // Whether `label` dominates the label of each member of `set`.
@@ -138,11 +137,11 @@ pub fn sessions_ok(
 {
     let mut held = 0u16;
     let mut rights = scan::gather(roles, held);
-    for s in 0..SEAT_END {
-        let session = sessions[s as usize];
+    for (s, session) in sessions.iter().enumerate() {
         rights = scan::regather(roles, held, rights, session.roles);
         held = session.roles;
-        if !session_sound(labels, rights, live, edition, s / LEVEL_SEATS, session) {
+        let level = s as u32 / LEVEL_SEATS;
+        if !session_sound(labels, rights, live, edition, level, *session) {
             return false;
         }
     }

@@ -35,10 +35,10 @@ pub fn roles_ok(roles: &[Role; ROLES], live: u64) -> Option<u16>
     ensures live { IfSome result (λ found. (k : ℕ) → k < role_count → has found k ≡ (get_or roles.now k no_role).live) }
 {
     let mut found = 0u16;
-    for r in 0..ROLE_END {
-        let role = roles[r as usize];
+    for (i, role) in roles.iter().enumerate() {
+        let r = i as u32;
         let set = live & to_level(r / LEVEL_ROLES);
-        if !role_ok(set, r, role) {
+        if !role_ok(set, r, *role) {
             return None;
         }
         if role.live {

@@ -8,7 +8,6 @@ ghost use Rattle.guard.specs.Private.Scan.{Keys};
 
 use crate::Entity;
 use crate::sizes::{BLOCK, ENTITIES, ENTITY_END, LEVEL_ENTITIES};
-use std::array;
 
 // How many names there are: a key is the parent times this, and the name.
 pub const NAMES: u32 = 65536;
@@ -30,7 +29,7 @@ pub fn key(n: Entity) -> u32
 pub fn keys(entities: [Entity; ENTITIES]) -> [u32; ENTITIES]
     ensures { Keys entities result }
 {
-    array::from_fn(|e| key(entities[e]))
+    entities.map(key)
 }
 
 // The entities that are live: of a key, bit 24 alone tells it.

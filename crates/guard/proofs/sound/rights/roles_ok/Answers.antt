@@ -11,21 +11,21 @@ use Rattle.guard.proofs.Soundness.Grants.{role_masked}
 use Rattle.guard.proofs.sound.rights.roles_ok.Goals.{then-role, else-role}
 use Rattle.guard.proofs.sound.rights.roles_ok.Goals as goal
 
-pub loop-r-init : goal.loop-r-init
-loop-r-init c = (all_none _, listed_none 16 _ (omega arith))
+pub loop-i-init : goal.loop-i-init
+loop-i-init c = (all_none _, listed_none 16 _ (omega arith))
 
 pub returns-then-not-role_ok-clause-ok : goal.returns-then-not-role_ok-clause-ok
 returns-then-not-role_ok-clause-ok c =
-    all_miss _ c.loop-r.r _ _ (omega arith)
-    (c.role_ok.ensures ∙ role_masked c.args.live c.to_level.result c.loop-r.r (get_or c.args.roles.now c.loop-r.r no_role) c.to_level.ensures)
+    all_miss _ c.loop-i.i _ _ (omega arith)
+    (c.role_ok.ensures ∙ role_masked c.args.live c.to_level.result c.loop-i.i (get_or c.args.roles.now c.loop-i.i no_role) c.to_level.ensures)
     (not_of_false _ c.if-not-role_ok.true)
 
-pub loop-r-preserved : goal.loop-r-preserved
-loop-r-preserved c =
-    let b = c.loop-r.invariant in (
-      all_next _ _ _ b.0 (c.role_ok.ensures ∙ role_masked c.args.live c.to_level.result c.loop-r.r (get_or c.args.roles.now c.loop-r.r no_role) c.to_level.ensures) (not_of_true _ c.if-not-role_ok.false),
+pub loop-i-preserved : goal.loop-i-preserved
+loop-i-preserved c =
+    let b = c.loop-i.invariant in (
+      all_next _ _ _ b.0 (c.role_ok.ensures ∙ role_masked c.args.live c.to_level.result c.loop-i.i (get_or c.args.roles.now c.loop-i.i no_role) c.to_level.ensures) (not_of_true _ c.if-not-role_ok.false),
       listed_more 16 _ _ _ _ (omega arith) b.1 (elim c.if-role.branch [
-        | then-role w ↦ let l : c.loop-r.r < 16 = omega arith in rw (w.found-is, w.with-found.ensures, mod-eq_of_lt l, w.if-role.true)
+        | then-role w ↦ let l : c.loop-i.i < 16 = omega arith in rw (w.found-is, w.with-found.ensures, mod-eq_of_lt l, w.if-role.true)
         | else-role w ↦ rw (w.found-is, w.if-role.false)
       ]),
     )

@@ -8,6 +8,6 @@ use Rattle.guard.specs.Private.Tested.{grantable_in, role_test}
 use Rattle.guard.proofs.Soundness.Loops.{Listed}
 use Rattle.guard.proofs.sound.rights.roles_ok.Given as goal
 
-abbrev pub invariant-loop-r : goal.invariant-loop-r
-invariant-loop-r l =
-    (all l.r (λ k. role_test (grantable_in l.live k) k (get_or l.roles k no_role)) ≡ true) × Listed 16 (λ k. (get_or l.roles k no_role).live) l.r l.found
+abbrev pub invariant-loop-i : goal.invariant-loop-i
+invariant-loop-i l =
+    (all l.i (λ k. role_test (grantable_in l.live k) k (get_or l.roles k no_role)) ≡ true) × Listed 16 (λ k. (get_or l.roles k no_role).live) l.i l.found

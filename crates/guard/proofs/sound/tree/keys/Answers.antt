@@ -1,15 +1,12 @@
--- `keys` fills its array in turn. Assumes nothing.
+-- `keys` maps each entity. Assumes nothing.
 use borrow.Author.Rules.{rules}
-use lib.ListN.{get_or}
 use Rattle.guard.specs.Tables.{no_entity}
-use Rattle.guard.specs.Private.Tested.{key_of}
-use Rattle.guard.proofs.Filling.{made_at}
 use Rattle.guard.proofs.sound.tree.keys.Goals as goal
 
 pub returns : goal.returns
 returns c =
-    let items = c.from_fn.ensures.items in
+    let items = c.map.ensures.items in
     record {
       long = items.long;
-      at = λ e h. made_at _ (λ k. key_of (get_or c.args.entities k no_entity)) _ _ (λ i y q k. search (rules, k)) 64 items e 0 h;
+      at = λ e h. let (p, q, call) = items.at e no_entity 0 h in search (rules, call);
     }
