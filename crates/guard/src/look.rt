@@ -1,4 +1,4 @@
-// The numbers of a request, looked up once: where its records stand, and whether those that its kind uses are in range.
+// The numbers of a request, looked up once: where its records stand, or nothing where one that its kind uses is past its range.
 ghost use Rattle.std.specs.Prelude.{◌<◌, ◌≡◌, cond, eqb, IfSome, is_some};
 ghost use Rattle.guard.specs.Kind as kind;
 ghost use Rattle.guard.specs.Private.Inside.{Below, Placed, asks_way, asks_name, asks_rights};
