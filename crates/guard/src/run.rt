@@ -23,6 +23,7 @@ impl Tables {
             rows::fill(roles, count, sizes::NO_ROLE);
             return self;
         }
+        // By index: a zip of the two slices' iter_mut was tried, and no proof can say which elements stand in them after it.
         for i in 0..count {
             let q = rows::request(rows, i);
             let Some(at) = look::look_up(q) else {
