@@ -74,6 +74,7 @@ pub trait Set: Copy {
     ghost bits: { (0 < WIDTH) × (WIDTH ≤ 64) };
 }
 
+// Three impls by hand: one that a macro of a repository writes is refused.
 impl Set for u8 {
     ghost WIDTH = { 8 };
 

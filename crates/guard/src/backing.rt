@@ -58,7 +58,7 @@ fn left(roles: &[Role; ROLES], r: u32, lost: u64, unmade: bool, s: Session) -> S
     if unmade { sessions::dropped(r, n) } else { n }
 }
 
-// Every session so.
+// Every session so. (Which role, what it lost and whether it is unmade go together in these two alone, a function and its loop.)
 pub fn sweep(
     sessions: &mut [Session; SESSIONS],
     roles: &[Role; ROLES],

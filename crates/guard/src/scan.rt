@@ -1,5 +1,6 @@
 // What 13, 14, 15 and 22 ask of the tables, scanned over the records of the roles, lent, and over a column of the entities: for each
-// its parent and its name as one number (`keys`, sound/tree). With the entities' records in its place a line of input costs 0.8 % more.
+// its parent and its name as one number (`keys`, sound/tree): what the test of soundness, the way up and the search for a name ask of an
+// entity is computed once. With the records in its place a line of input costs 0.8 % more.
 ghost use Rattle.std.specs.Prelude.{◌*◌, ◌<◌, ◌≡◌};
 ghost use Rattle.guard.specs.Level.{entity_count, role_count};
 ghost use Rattle.guard.specs.Private.Scan.{side, side_of, Gathered, senior_by, tied_by, climbs_by, reached_by, name_by, child_by, kin_by, FoundBy};

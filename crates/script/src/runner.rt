@@ -227,7 +227,8 @@ struct Room {
     roles: [u8; limits::BATCH],
 }
 
-// The names line; or whole lines of values, as many as a batch takes, and where there is none, the one line that is left.
+// The names line; or whole lines of values, as many as a batch takes, and where there is none, the one line that is left. (The piece,
+// whether it is the last and the room for output stay the three that a host hands to `run`.)
 fn one(mut r: Runner, piece: &[u8], end: bool, out: &mut [u8], room: &mut Room) -> Ran
     requires { r.phase ≢ Heading }
     ensures { Stepped r piece.now end out.old out.new result }

@@ -107,7 +107,8 @@ fn session_ok(labels: &[u32; ENTITIES], roles: u16, edition: u8, level: u32, s: 
         && labels_allowed(labels, s)
 }
 
-// Whether it is so, and each of its opens has the right behind it; `rights` are those of its roles.
+// Whether it is so, and each of its opens has the right behind it; `rights` are those of its roles. (Labels, live roles, edition and
+// level go together in these two alone.)
 fn session_sound(
     labels: &[u32; ENTITIES],
     rights: Rights,
