@@ -2,7 +2,7 @@
 use crate::failure::Unread;
 use crate::show::Changes;
 use crate::words::{self, Words};
-use guard::sizes::{NO_ROLE, ROW};
+use guard::sizes::NO_ROLE;
 use guard::{Outcome, Request, Tables, kinds};
 use std::io;
 
@@ -108,14 +108,6 @@ pub fn with(mut q: Request, field: Field, n: u32) -> Request {
         Field::Junior => q.junior = n,
     }
     q
-}
-
-// The request as a row of a batch.
-pub fn row(q: Request) -> [u32; ROW] {
-    [
-        q.call, q.seat, q.user, q.role, q.entity, q.parent, q.kind, q.name, q.grade, q.cats,
-        q.rights, q.shared, q.junior,
-    ]
 }
 
 // A request's word, or a number: also one of none of the nineteen.

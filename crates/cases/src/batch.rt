@@ -1,7 +1,6 @@
 // A batch: requests gathered as rows of numbers, in the order of a request's fields, and run.
 ghost use Rattle.std.specs.Prelude.{◌≤◌, ◌*◌};
 
-use crate::ask;
 use crate::failure::Unread;
 use crate::show::Changes;
 use crate::words::Words;
@@ -59,7 +58,7 @@ impl Batch {
     // So many rows more, as long as there is room.
     pub fn gather(&mut self, q: Request, times: usize) {
         for row in self.rows.iter_mut().skip(self.gathered).take(times) {
-            *row = ask::row(q);
+            *row = q.into();
         }
         self.gathered = self.gathered.saturating_add(times).min(ROWS);
     }

@@ -39,13 +39,22 @@ pub fn request(rows: &[u32], i: usize) -> Request
 }
 
 // A request as a row.
+impl From<Request> for [u32; ROW] {
+    ghost from_gives = { λ q row. row ≡ row_of q };
+
+    fn from(q: Request) -> [u32; ROW] {
+        [
+            q.call, q.seat, q.user, q.role, q.entity, q.parent, q.kind, q.name, q.grade, q.cats,
+            q.rights, q.shared, q.junior,
+        ]
+    }
+}
+
+// The same, by name.
 pub fn row(q: Request) -> [u32; ROW]
     ensures { result ≡ row_of q }
 {
-    [
-        q.call, q.seat, q.user, q.role, q.entity, q.parent, q.kind, q.name, q.grade, q.cats,
-        q.rights, q.shared, q.junior,
-    ]
+    q.into()
 }
 
 // The byte `n` for each request of a batch: what all of them are handed back alike.
