@@ -94,6 +94,7 @@ pub fn gather(
     let mut shut = shut;
     let mut count = 0;
     let mut used = 0;
+    // Tried by `marks[..most].iter_mut().enumerate()`: the proof of the two returns did not close.
     for lines in 0..most {
         let rest = &s[used..];
         let x = line::next(rest, &at);
