@@ -1,6 +1,7 @@
 -- The output of a batch, and the step over it.
 --     along, line_few     what the writer of a line asks and takes
---     asked_none, asked_on, asked_below     how many answers are written
+--     asked_none, asked_below     how many answers are read
+--     first_left, asks_one, asks_none     which answer a line has
 --     texts_none, texts_more     what is written: nothing, one line more
 --     ran_tables, ran_answers     what the guard hands back for a batch
 --     fits_in, batch_done    the step
@@ -12,7 +13,11 @@ use mathlib.Core.List.{List, [], ◌∷◌, ◌++◌, append_assoc}
 use lib.ListN.{length, take, drop, get_or, length-drop, length-take}
 use lib.Seq.{sets, take-suc, drop-drop, sets-eq, length-take-le}
 use native.Mathlib.Numerals.{add-one}
-use native.Mathlib.Nat.{zero-add}
+use native.Mathlib.Nat.{zero-add, add-zero}
+use denote.Bor.{Bor}
+use Rattle.std.specs.Prelude.{Option, Some, None}
+use Rattle.std.specs.Option.{MatchOption, unwrap_or}
+use Rattle.std.proofs.lemmas.List.{drop_more}
 use native.Mathlib.Omega.{arith}
 use lib.Dec.{leb}
 use borrow.Author.Tests.{le-leb}
@@ -71,25 +76,45 @@ asked_none = refl
 pub asked_below : (marks : List Bool) (i : ℕ) {j : ℕ} → j ≡ asked (take i marks) → j ≤ i
 asked_below marks i c = omega (arith, asked_few (take i marks), length-take i marks)
 
--- the answer that is read, where a line asks a request, is the next one
-module _ (marks : List Bool) (given : List ℕ) (i j lines : ℕ) (c : j ≡ asked (take i marks)) (low : i < lines) (free : lines ≤ length marks) where
+-- the first of the answers left
+pub first_left : (given : List ℕ) (j : ℕ) {old new : List ℕ} (over : Type 0) {next : Option (Bor ℕ)} {b : Bor ℕ} (none : Bor ℕ) (r : Option (Bor ℕ)) → next ≡ r → b ≡ unwrap_or next none
+    → old ≡ drop j given → j < length given → MatchOption r ((length old ≡ 0) × over) (λ x. old ≡ x.now ∷ new)
+    → (b.now ≡ get_or given j 0) × (new ≡ drop (j + 1) given)
+first_left given j over none None e q o low m = let l = length-drop j given in absurd (no_less (rw o at m.0) l low)
+  where
+    no_less : {a b c : ℕ} → a ≡ 0 → a ≡ b - c → c < b → ⊥
+    no_less e f h = omega arith
+first_left given j {new = new} over none (Some x) e q o low m =
+    let all : x.now ∷ new ≡ get_or given j 0 ∷ drop (j + 1) given = sym m ∙ o ∙ drop_more given j 0 low in
+    (ap (λ (b : Bor ℕ). b.now) (q ∙ ap (λ (n : Option (Bor ℕ)). unwrap_or n none) e) ∙ ap (λ (l : List ℕ). get_or l 0 0) all, ap (λ (l : List ℕ). drop 1 l) all)
+
+-- the answer to a line, and the answers left behind it
+module _ (marks : List Bool) (given : List ℕ) (i lines : ℕ) (low : i < lines) (free : lines ≤ length marks) where
   one_more : take (i + 1) marks ≡ take i marks ++ (get_or marks i false ∷ [])
   one_more = rw add-one (take-suc marks i false (omega arith))
 
-  asked_more : j + one (get_or marks i false) ≡ asked (take (i + 1) marks)
-  asked_more = rw (one_more, c) (sym (asked_snoc (take i marks) (get_or marks i false)))
+  asked_more : asked (take (i + 1) marks) ≡ asked (take i marks) + one (get_or marks i false)
+  asked_more = rw one_more (asked_snoc (take i marks) (get_or marks i false))
 
-  pub asked_on : {c : ℕ} → c ≡ one (get_or marks i false) → j + c ≡ asked (take (i + 1) marks)
-  asked_on e = ap (λ (k : ℕ). j + k) e ∙ asked_more
+  abbrev pub Answered : ℕ → List ℕ → Type 0
+  Answered a left = (a ≡ said (get_or marks i false) (get_or given (asked (take i marks)) 0)) × (left ≡ drop (asked (take (i + 1) marks)) given)
+
+  pub asks_one : {a : ℕ} {left : List ℕ} → get_or marks i false ≡ true → (a ≡ get_or given (asked (take i marks)) 0) × (left ≡ drop (asked (take i marks) + 1) given) → Answered a left
+  unfolding said
+  asks_one m e = (rw m e.0, rw (asked_more, m) e.1)
+
+  pub asks_none : {a : ℕ} {left : List ℕ} → get_or marks i false ≡ false → a ≡ 17 → left ≡ drop (asked (take i marks)) given → Answered a left
+  unfolding said
+  asks_none m e l = (rw m e, rw (asked_more, m, add-zero) l)
 
   pub texts_more : {old out ys : List ℕ} {w more : ℕ} (n k a : ℕ) → Put old 0 (texts n (take i marks) given) out w
-      → a ≡ said (get_or marks i false) (get_or given j 0) → k ≡ n + i → w ≤ length out → 12 ≤ length out - w
+      → a ≡ said (get_or marks i false) (get_or given (asked (take i marks)) 0) → k ≡ n + i → w ≤ length out → 12 ≤ length out - w
       → Put (take (length out - w) (drop w out)) 0 (line_text k a) ys more
       → Put old 0 (texts n (take (i + 1) marks) given) (put_mid w (length out - w) out ys) (w + more)
   texts_more {w = w} n k a p e z h room q =
       let t : length (take i marks) ≡ i = length-take-le i marks (omega arith) in
       let s : texts n (take (i + 1) marks) given ≡ texts n (take i marks) given ++ line_text k a
-      = rw (one_more, e, z, c) (rw t at (texts_snoc n (take i marks) (get_or marks i false) given)) in
+      = rw (one_more, e, z) (rw t at (texts_snoc n (take i marks) (get_or marks i false) given)) in
       rw s (put_then p (put_end h (omega (arith, line_length k a)) q))
 
 -- ---- what the guard hands back

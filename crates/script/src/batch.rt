@@ -94,6 +94,7 @@ pub fn gather(
     let mut shut = shut;
     let mut count = 0;
     let mut used = 0;
+    // Tried by `marks[..most].iter_mut().enumerate()`: the proof of the two returns did not close.
     for lines in 0..most {
         let rest = &s[used..];
         let x = line::next(rest, &at);
@@ -120,26 +121,18 @@ pub fn gather(
     }
 }
 
-// The answer to a line, given the one to its request.
-#[tactic(auto, unfolding(crate::specs::Private::LineBatch::said))]
-fn answer_of(asks: bool, a: u8) -> u8
-    ensures { result ≡ said asks a }
-{
-    if asks { a } else { limits::UNREAD }
-}
-
 // The answers to the first `lines` lines, the first of which has number `n`.
 pub fn put_answers(marks: &[bool], answers: &[u8], lines: usize, n: u32, out: &mut [u8]) -> usize
     requires { (lines ≤ length marks.now) × (lines ≤ length answers.now) × (line_room * lines ≤ length out.old) × (n + lines ≤ last_line + 1) }
     ensures { Put out.old 0 (texts n (take lines marks.now) answers.now) out.new result }
 {
     let mut wrote = 0;
-    let mut j = 0;
+    let mut left = answers.iter();
     let mut k = print::numeral_of(n);
     for &asks in &marks[..lines] {
-        let a = answer_of(asks, answers[j]);
+        let next = if asks { left.next() } else { None };
+        let a = *next.unwrap_or(&limits::UNREAD);
         wrote += print::put_line(k, a, &mut out[wrote..]);
-        j += usize::from(asks);
         k = print::after(k);
     }
     wrote
