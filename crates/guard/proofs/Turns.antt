@@ -25,8 +25,8 @@ use Rattle.guard.specs.Refusals.{first}
 use Rattle.guard.specs.Requests.{rule_of}
 use Rattle.guard.specs.Step.{in_ranges_in, answer, answer_in, next, next_in, role_opening, role_told, role_told_in, step, run, run_in, each_in, answers, roles_told}
 use Rattle.guard.specs.Kind as kind
-use Rattle.guard.specs.Private.Inside.{row_of, number, Placed}
-use Rattle.guard.specs.Batch.{request_at, requests, shorter, batch_length, batch_count, RunsBatch}
+use Rattle.guard.specs.Private.Inside.{number, Placed}
+use Rattle.guard.specs.Batch.{row_of, request_at, requests, shorter, batch_length, batch_count, RunsBatch}
 use Rattle.guard.specs.Private.Scan.{Keys, opened_by, read_byte}
 use Rattle.guard.specs.Private.InForce.{in_ranges}
 use Rattle.guard.specs.declared.Tables.{Tables}

@@ -1,5 +1,5 @@
 -- A batch: requests handed over as rows of numbers, made one after the other.
-use Rattle.std.specs.Prelude.{ℕ, ◌+◌, ◌*◌, ◌/◌, ◌≡◌, cond, List, ◌++◌, map, leb, length, get_or, drop}
+use Rattle.std.specs.Prelude.{ℕ, ◌+◌, ◌*◌, ◌/◌, ◌≡◌, cond, List, [], ◌∷◌, ◌++◌, map, leb, length, get_or, drop}
 use Rattle.guard.specs.Fresh.{tabulate}
 use Rattle.guard.specs.Told.{role_byte}
 use Rattle.guard.specs.Step.{run, answers, roles_told}
@@ -10,6 +10,11 @@ use Rattle.guard.specs.declared.Request.{Request}
 -- A request is a row of thirteen numbers, in the order of the record's fields.
 abbrev pub row_length : ℕ
 row_length = 13
+
+-- A request as a row.
+abbrev pub row_of : Request → List ℕ
+row_of q =
+    q.call ∷ q.seat ∷ q.user ∷ q.role ∷ q.entity ∷ q.parent ∷ q.kind ∷ q.name ∷ q.grade ∷ q.cats ∷ q.rights ∷ q.shared ∷ q.junior ∷ []
 
 -- the number in column j of row i
 abbrev pub cell : List ℕ → ℕ → ℕ → ℕ

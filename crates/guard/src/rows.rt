@@ -1,7 +1,6 @@
 // Requests as rows of numbers, in the order of the record's fields, and their answers as bytes.
 ghost use Rattle.std.specs.Prelude.{◌+◌, ◌*◌, ◌≤◌, ◌≡◌, ◌++◌, length, drop, replicate};
-ghost use Rattle.guard.specs.Batch.{row_length, request_at, batch_length};
-ghost use Rattle.guard.specs.Private.Inside.{row_of};
+ghost use Rattle.guard.specs.Batch.{row_of, row_length, request_at, batch_length};
 
 use crate::Request;
 use crate::sizes::ROW;

@@ -13,7 +13,7 @@ use native.Mathlib.Numerals.{add-one}
 use native.Mathlib.Omega.{arith}
 use Rattle.guard.specs.Fresh.{tabulate}
 use Rattle.guard.specs.Batch.{row_length, request_at, requests}
-use Rattle.guard.specs.Private.Inside.{row_of}
+use Rattle.guard.specs.Batch.{row_of}
 use Rattle.guard.specs.declared.Request.{Request}
 use Rattle.script.specs.Private.Slices.{written}
 use Rattle.script.specs.Private.LineBatch.{is_request, numbers_of, one}

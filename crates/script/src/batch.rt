@@ -3,8 +3,7 @@
 ghost use Rattle.std.specs.Prelude.{◌+◌, ◌*◌, ◌≤◌, ◌≡◌, length, take};
 ghost use Rattle.script.specs.Report.{line_room, last_line};
 ghost use Rattle.script.specs.Private.Slices.{written, Put};
-ghost use Rattle.guard.specs.Batch.{row_length};
-ghost use Rattle.guard.specs.Private.Inside.{row_of};
+ghost use Rattle.guard.specs.Batch.{row_of, row_length};
 ghost use Rattle.script.specs.Private.LineBatch.{said, texts, is_request, is_allowed, numbers_of, Most, Batched};
 
 use crate::line::Line;

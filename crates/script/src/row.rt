@@ -145,6 +145,8 @@ fn is_last(at: &[u8; limits::PLACES], j: usize) -> bool
         & (at[j + 1] % limits::PLACE_COUNT == limits::NO_NAME)
 }
 
+// The numbers and the set of those that were given stand apart: as one array of Options a line took 4 to 5 % more instructions, built
+// without proof.
 // The row of the line at the front of `s`, in one pass. A dash leaves the row as it is. The numbers that a good line of
 // names puts in `at` are below 16; the remainder keeps any other in the row.
 pub fn read_row(s: &[u8], at: &[u8; limits::PLACES], vals: &mut [u32; limits::PLACES]) -> Row

@@ -1,6 +1,6 @@
 -- The words in which the contracts of private functions are put. No public entry's contract cites them, so a buyer need
 -- not read them.
-use Rattle.std.specs.Prelude.{ℕ, ◌≤◌, ◌<◌, ◌≡◌, Bool, true, false, not, cond, List, [], ◌∷◌, map, ◌⊎◌, leb, eqb, get_or}
+use Rattle.std.specs.Prelude.{ℕ, ◌≤◌, ◌<◌, ◌≡◌, Bool, true, false, not, cond, [], ◌∷◌, map, ◌⊎◌, leb, eqb, get_or}
 use Rattle.bitset.specs.Tests.{every, either}
 use Rattle.bitset.specs.Sets.{has, contains, with, without}
 use Rattle.guard.specs.Level.{user_count, session_count, role_count, entity_count, is_root}
@@ -169,8 +169,3 @@ role_after q p =
 abbrev pub owning : ℕ → Role → Role
 owning e p =
     record { live = p.live; users = p.users; juniors = p.juniors; reads = p.reads; writes = p.writes; executes = p.executes; owns = with p.owns e }
-
--- ---- a request as a row
-abbrev pub row_of : Request → List ℕ
-row_of q =
-    q.call ∷ q.seat ∷ q.user ∷ q.role ∷ q.entity ∷ q.parent ∷ q.kind ∷ q.name ∷ q.grade ∷ q.cats ∷ q.rights ∷ q.shared ∷ q.junior ∷ []

@@ -4,7 +4,7 @@ use Rattle.std.specs.Prelude.{ℕ, ◌+◌, ◌-◌, ◌*◌, ◌≤◌, ◌<◌
 use Rattle.std.specs.Int.{from_bool}
 use Rattle.guard.specs.Step.{run, answers}
 use Rattle.guard.specs.Batch.{row_length, requests}
-use Rattle.guard.specs.Private.Inside.{row_of}
+use Rattle.guard.specs.Batch.{row_of}
 use Rattle.guard.specs.declared.Tables.{Tables}
 use Rattle.script.specs.Report.{unread_answer, line_text, line_room, last_line}
 use Rattle.script.specs.Names.{Ordered}
