@@ -13,7 +13,7 @@ pub fn count(numbers: usize, answers: usize, roles: usize) -> usize
     (numbers / ROW).min(roles.min(answers))
 }
 
-// The request of row `i`.
+// The request of row `i`. (By a pattern of thirteen names it is proved too, and eighteen lines longer.)
 #[tactic(auto, unfolding(crate::specs::Batch::request_at))]
 pub fn request(rows: &[u32], i: usize) -> Request
     requires { row_length * i + row_length ≤ length rows.now }

@@ -117,6 +117,19 @@ impl Runner {
     }
 }
 
+impl Said {
+    // The same of a piece, of which so many bytes were used.
+    fn using(self, used: usize) -> Ran
+        ensures { result ≡ record { runner = self.runner; used = used; wrote = self.wrote } }
+    {
+        Ran {
+            runner: self.runner,
+            used,
+            wrote: self.wrote,
+        }
+    }
+}
+
 // What a call hands back that has done nothing.
 fn idle(runner: Runner) -> Ran
     ensures { result ≡ record { runner = runner; used = 0; wrote = 0 } }
@@ -138,22 +151,10 @@ fn names_step(r: Runner, piece: &[u8], end: bool, out: &mut [u8]) -> Ran
     }
     let e = text::find(piece, 10);
     if e < piece.len() {
-        let said = take_names(r, &piece[..e], out);
-        let next = said.runner;
-        return Ran {
-            runner: next,
-            used: e + 1,
-            wrote: said.wrote,
-        };
+        return take_names(r, &piece[..e], out).using(e + 1);
     }
     if end | (limits::LONGEST < e) {
-        let said = take_names(r, piece, out);
-        let next = said.runner;
-        return Ran {
-            runner: next,
-            used: e,
-            wrote: said.wrote,
-        };
+        return take_names(r, piece, out).using(e);
     }
     idle(r)
 }
@@ -186,32 +187,15 @@ fn values_step(mut r: Runner, piece: &[u8], end: bool, out: &mut [u8]) -> Ran
         return idle(r);
     }
     if e < piece.len() {
-        let said = answer_values(r, &piece[..e], out);
-        let next = said.runner;
-        return Ran {
-            runner: next,
-            used: e + 1,
-            wrote: said.wrote,
-        };
+        return answer_values(r, &piece[..e], out).using(e + 1);
     }
     if limits::LONGEST < e {
-        let said = answer_values(r, piece, out);
-        let mut next = said.runner;
-        next.skip = true;
-        return Ran {
-            runner: next,
-            used: e,
-            wrote: said.wrote,
-        };
+        let mut said = answer_values(r, piece, out);
+        said.runner.skip = true;
+        return said.using(e);
     }
     if end & (0 < e) {
-        let said = answer_values(r, piece, out);
-        let next = said.runner;
-        return Ran {
-            runner: next,
-            used: e,
-            wrote: said.wrote,
-        };
+        return answer_values(r, piece, out).using(e);
     }
     idle(r)
 }
