@@ -1,5 +1,6 @@
 -- The first value of a line, and where it ends.
---     leading_place, ends_low                          where it ends
+--     leading_place                                    where it ends
+--     span_space, span_line, span_more, span_end       the loop that looks for its end
 --     before_drop, before_rest                         what stands before a byte, from some byte on
 --     before_again, before_part, before_all            what holds no such byte
 --     lead_most, lead_take, lead_more, lead_last       the first value of a line; whether a space stands behind it
@@ -9,14 +10,15 @@
 -- Assumes nothing.
 use Prim.Native.Nat.{ℕ, zero, suc, ◌+◌, ◌-◌, ◌≤◌, ◌<◌}
 use mathlib.Core.Path.{◌≡◌, refl, ap, sym, ◌∙◌}
-use mathlib.Core.Bool.{Bool, true, false, not, cond, and-false, ◌&&◌, ◌||◌}
+use mathlib.Core.Bool.{Bool, true, false, not, cond, ◌&&◌, ◌||◌}
 use mathlib.Core.List.{List, [], ◌∷◌, ◌++◌}
 use native.Mathlib.Numerals.{add-one}
+use native.Mathlib.Nat.{add-zero}
 use native.Mathlib.Omega.{arith}
-use lib.Dec.{eqb, leb}
-use lib.ListN.{length, get_or, take, drop, length-drop}
+use lib.Dec.{eqb}
+use lib.ListN.{length, get_or, take, drop, length-drop, drop_of_length-le}
 use lib.Seq.{drop-cons, length-take-le, take_all}
-use borrow.Author.Tests.{eqb-true, ne_eqb, le-leb}
+use borrow.Author.Tests.{eqb-true, ne_eqb}
 use Rattle.bitset.specs.Tests.Laws.{or-true, or-false}
 use Rattle.script.specs.Private.Slices.{before, leading}
 use Rattle.script.proofs.ValuesInTurn.{before_take, before_most, to_end}
@@ -34,14 +36,23 @@ leading_place x xs = go (eqb x 10)
         last true = refl
         last false = omega arith
 
--- neither of them is above a space
-pub ends_low : (b : ℕ) → (leb b 32 && (eqb b 32 || eqb b 10)) ≡ (eqb b 32 || eqb b 10)
-ends_low b = go (eqb b 32) (eqb b 10) refl refl
-  where
-    go : (x y : Bool) → eqb b 32 ≡ x → eqb b 10 ≡ y → (leb b 32 && (x || y)) ≡ (x || y)
-    go true y e f = rw (le-leb b 32 (omega (arith, eqb-true b 32 e)))
-    go false true e f = rw (le-leb b 32 (omega (arith, eqb-true b 10 f)))
-    go false false e f = and-false (leb b 32)
+-- ---- byte by byte, where the first i hold no space and no byte 10
+module _ (s : List ℕ) (i : ℕ) (h : length (leading s) ≡ i + length (leading (drop i s))) where
+  pub span_space : i < length s → get_or s i 0 ≡ 32 → i ≡ length (leading s)
+  unfolding before
+  span_space l e = sym (h ∙ (rw (drop-cons s i 0 l, e, add-zero)))
+
+  pub span_line : i < length s → get_or s i 0 ≡ 10 → i ≡ length (leading s)
+  unfolding before
+  span_line l e = sym (h ∙ (rw (drop-cons s i 0 l, e, add-zero)))
+
+  pub span_more : i < length s → (get_or s i 0 ≡ 32 → ⊥) → (get_or s i 0 ≡ 10 → ⊥) → length (leading s) ≡ (i + 1) + length (leading (drop (i + 1) s))
+  unfolding before
+  span_more l e f = h ∙ (rw (drop-cons s i 0 l, ne_eqb (get_or s i 0) 10 f, ne_eqb (get_or s i 0) 32 e, add-one) (omega arith))
+
+  pub span_end : length s ≤ i → i ≡ length (leading s)
+  unfolding before
+  span_end l = sym (h ∙ (rw (drop_of_length-le s l, add-zero)))
 
 -- ---- what stands before a byte, from byte n on
 pub before_drop : (d n : ℕ) (s : List ℕ) → n ≤ length (before d s) → drop n (before d s) ≡ before d (drop n s)
