@@ -19,8 +19,8 @@ pub fn find(s: &[u8], d: u8) -> usize
 pub fn span(s: &[u8]) -> usize
     ensures { result ≡ length (leading s.now) }
 {
-    // Most bytes are above both, and one comparison tells it. By `position` each byte is compared with the two, and a long value takes half
-    // as much time again.
+    // Most bytes are above both, and one comparison tells it. By `position` each byte is compared with the two, a quarter more instructions
+    // for a long value.
     for (i, &b) in s.iter().enumerate() {
         if b' ' < b {
             continue;
