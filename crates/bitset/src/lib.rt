@@ -1,7 +1,8 @@
 // Sets of small numbers, each held as one unsigned integer: member `i` is bit `i`.
 //
-// Each method equals the operation of the same name in specs/Sets, which is free of the width, for any arguments, and stands once
-// for all widths. A set of w bits has no place for a member past it, so `with` takes a number past the width by its remainder.
+// `has`, `with`, `without`, `contains` and `minus` each equal the operation of the same name in specs/Sets, which is free of the width,
+// for any arguments, and stand once for all widths. A set of w bits has no place for a member past it, so `with` takes a number past
+// the width by its remainder. Nothing is asked of a caller.
 // Assumes nothing.
 #![tactic(auto)]
 
@@ -17,14 +18,13 @@ pub trait Set: Copy {
 
     const WIDTH: u32;
 
-    // The set in 64 bits, and back.
+    // The set in 64 bits; and back, less what the width has no place for.
     fn widened(self) -> u64
         ensures same { result ≡ number self }
         ensures fits { result < 2 ^ WIDTH };
 
     fn narrowed(n: u64) -> Self
-        requires { n < 2 ^ WIDTH }
-        ensures { number result ≡ n };
+        ensures { number result ≡ n % 2 ^ WIDTH };
 
     // Whether `i` is a member; no number past the width is.
     fn has(self, i: u32) -> bool
@@ -89,7 +89,7 @@ impl Set for u8 {
     }
 
     fn narrowed(n: u64) -> u8 {
-        n as u8
+        (n % 256) as u8
     }
 }
 
@@ -103,11 +103,11 @@ impl Set for u16 {
     const WIDTH: u32 = u16::BITS;
 
     fn widened(self) -> u64 {
-        u64::from(self)
+        self.into()
     }
 
     fn narrowed(n: u64) -> u16 {
-        n as u16
+        (n % 65536) as u16
     }
 }
 

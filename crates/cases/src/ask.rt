@@ -1,9 +1,10 @@
 // Requests: read from a statement, and made both by the method of their name and by `step`.
+use crate::call::Call;
 use crate::failure::Unread;
 use crate::show::Changes;
 use crate::words::{self, Words};
 use guard::sizes::NO_ROLE;
-use guard::{Outcome, Request, Tables, kinds};
+use guard::{Outcome, Request, Tables};
 use std::io;
 
 // What the fields hold that a request does not use, and that are not looked at.
@@ -56,16 +57,20 @@ impl Field {
         Field::Junior,
     ];
 
-    // Those that a request uses, in the order in which a statement has their numbers.
-    fn used(call: u32) -> &'static [Field] {
+    // Those that a request uses, in the order in which a statement has their numbers. One of none of the nineteen has a seat.
+    fn used(call: Option<Call>) -> &'static [Field] {
         match call {
-            kinds::LOGIN => &[Field::Seat, Field::User, Field::Grade, Field::Cats],
-            kinds::TAKE | kinds::DROP | kinds::MAKE | kinds::UNMAKE => &[Field::Seat, Field::Role],
-            kinds::OPENR | kinds::OPENW | kinds::CLOSE | kinds::DELETE => &[
+            Some(Call::Login) => &[Field::Seat, Field::User, Field::Grade, Field::Cats],
+            Some(Call::Logout) | None => &[Field::Seat],
+            Some(Call::Take | Call::Drop | Call::Make | Call::Unmake) => &[
+                Field::Seat,
+                Field::Role,
+            ],
+            Some(Call::Openr | Call::Openw | Call::Close | Call::Delete) => &[
                 Field::Seat,
                 Field::Entity,
             ],
-            kinds::CREATE => &[
+            Some(Call::Create) => &[
                 Field::Seat,
                 Field::Entity,
                 Field::Kind,
@@ -75,18 +80,16 @@ impl Field {
                 Field::Cats,
                 Field::Role,
             ],
-            kinds::RENAME => &[Field::Seat, Field::Entity, Field::Name],
-            kinds::GRANT | kinds::REVOKE => &[
+            Some(Call::Rename) => &[Field::Seat, Field::Entity, Field::Name],
+            Some(Call::Grant | Call::Revoke) => &[
                 Field::Seat,
                 Field::Role,
                 Field::Entity,
                 Field::Rights,
             ],
-            kinds::LIST | kinds::UNLIST => &[Field::Seat, Field::Role, Field::User],
-            kinds::SHARE => &[Field::Seat, Field::Entity, Field::Shared],
-            kinds::JOIN | kinds::UNJOIN => &[Field::Seat, Field::Role, Field::Junior],
-            // logout, and a number of none of the nineteen
-            _ => &[Field::Seat],
+            Some(Call::List | Call::Unlist) => &[Field::Seat, Field::Role, Field::User],
+            Some(Call::Share) => &[Field::Seat, Field::Entity, Field::Shared],
+            Some(Call::Join | Call::Unjoin) => &[Field::Seat, Field::Role, Field::Junior],
         }
     }
 }
@@ -110,37 +113,19 @@ pub fn with(mut q: Request, field: Field, n: u32) -> Request {
     q
 }
 
-// A request's word, or a number: also one of none of the nineteen.
-fn call(word: &[u8]) -> Result<u32, Unread> {
-    Ok(match words::name(word) {
-        b"login" => kinds::LOGIN,
-        b"logout" => kinds::LOGOUT,
-        b"take" => kinds::TAKE,
-        b"drop" => kinds::DROP,
-        b"openr" => kinds::OPENR,
-        b"openw" => kinds::OPENW,
-        b"close" => kinds::CLOSE,
-        b"create" => kinds::CREATE,
-        b"delete" => kinds::DELETE,
-        b"rename" => kinds::RENAME,
-        b"grant" => kinds::GRANT,
-        b"revoke" => kinds::REVOKE,
-        b"list" => kinds::LIST,
-        b"unlist" => kinds::UNLIST,
-        b"make" => kinds::MAKE,
-        b"unmake" => kinds::UNMAKE,
-        b"share" => kinds::SHARE,
-        b"join" => kinds::JOIN,
-        b"unjoin" => kinds::UNJOIN,
-        _ => words::number(word)?,
-    })
+// The number of a request's word, or a number that stands there: also one of none of the nineteen.
+fn call_number(word: &[u8]) -> Result<u32, Unread> {
+    match Call::try_from(word) {
+        Ok(call) => Ok(call.number()),
+        Err(Unread) => words::number(word),
+    }
 }
 
 // The request that the words are, to the end of the statement.
 pub fn read(mut words: Words) -> Result<Request, Unread> {
-    let call = call(words.word()?)?;
+    let call = call_number(words.word()?)?;
     let mut q = Request { call, ..UNUSED };
-    for field in Field::used(call) {
+    for field in Field::used(Call::of(call)) {
         q = with(q, *field, words.number()?);
     }
     words.end()?;
@@ -148,29 +133,31 @@ pub fn read(mut words: Words) -> Result<Request, Unread> {
 }
 
 fn by_method(t: &Tables, q: Request) -> Outcome {
-    match q.call {
-        kinds::LOGIN => t.login(q.seat, q.user, q.grade, q.cats),
-        kinds::LOGOUT => t.logout(q.seat),
-        kinds::TAKE => t.take(q.seat, q.role),
-        kinds::DROP => t.drop(q.seat, q.role),
-        kinds::OPENR => t.openr(q.seat, q.entity),
-        kinds::OPENW => t.openw(q.seat, q.entity),
-        kinds::CLOSE => t.close(q.seat, q.entity),
-        kinds::CREATE => t.create(
+    let Some(call) = Call::of(q.call) else {
+        return t.step(q);
+    };
+    match call {
+        Call::Login => t.login(q.seat, q.user, q.grade, q.cats),
+        Call::Logout => t.logout(q.seat),
+        Call::Take => t.take(q.seat, q.role),
+        Call::Drop => t.drop(q.seat, q.role),
+        Call::Openr => t.openr(q.seat, q.entity),
+        Call::Openw => t.openw(q.seat, q.entity),
+        Call::Close => t.close(q.seat, q.entity),
+        Call::Create => t.create(
             q.seat, q.entity, q.kind, q.parent, q.name, q.grade, q.cats, q.role,
         ),
-        kinds::DELETE => t.delete(q.seat, q.entity),
-        kinds::RENAME => t.rename(q.seat, q.entity, q.name),
-        kinds::GRANT => t.grant(q.seat, q.role, q.entity, q.rights),
-        kinds::REVOKE => t.revoke(q.seat, q.role, q.entity, q.rights),
-        kinds::LIST => t.list(q.seat, q.role, q.user),
-        kinds::UNLIST => t.unlist(q.seat, q.role, q.user),
-        kinds::MAKE => t.make(q.seat, q.role),
-        kinds::UNMAKE => t.unmake(q.seat, q.role),
-        kinds::SHARE => t.share(q.seat, q.entity, q.shared),
-        kinds::JOIN => t.join(q.seat, q.role, q.junior),
-        kinds::UNJOIN => t.unjoin(q.seat, q.role, q.junior),
-        _ => t.step(q),
+        Call::Delete => t.delete(q.seat, q.entity),
+        Call::Rename => t.rename(q.seat, q.entity, q.name),
+        Call::Grant => t.grant(q.seat, q.role, q.entity, q.rights),
+        Call::Revoke => t.revoke(q.seat, q.role, q.entity, q.rights),
+        Call::List => t.list(q.seat, q.role, q.user),
+        Call::Unlist => t.unlist(q.seat, q.role, q.user),
+        Call::Make => t.make(q.seat, q.role),
+        Call::Unmake => t.unmake(q.seat, q.role),
+        Call::Share => t.share(q.seat, q.entity, q.shared),
+        Call::Join => t.join(q.seat, q.role, q.junior),
+        Call::Unjoin => t.unjoin(q.seat, q.role, q.junior),
     }
 }
 

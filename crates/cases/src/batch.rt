@@ -43,6 +43,15 @@ impl Extent {
     }
 }
 
+// A request as a row, its fields in the papers' order. It is not made by the guard's own `From`: of rows that the guard made and read
+// itself, no case would see two fields change places.
+fn row(q: Request) -> [u32; ROW] {
+    [
+        q.call, q.seat, q.user, q.role, q.entity, q.parent, q.kind, q.name, q.grade, q.cats,
+        q.rights, q.shared, q.junior,
+    ]
+}
+
 impl Batch {
     pub fn new() -> Batch {
         Batch {
@@ -57,8 +66,8 @@ impl Batch {
 
     // So many rows more, as long as there is room.
     pub fn gather(&mut self, q: Request, times: usize) {
-        for row in self.rows.iter_mut().skip(self.gathered).take(times) {
-            *row = q.into();
+        for place in self.rows.iter_mut().skip(self.gathered).take(times) {
+            *place = row(q);
         }
         self.gathered = self.gathered.saturating_add(times).min(ROWS);
     }

@@ -6,6 +6,7 @@
 
 mod ask;
 mod batch;
+mod call;
 mod edges;
 mod failure;
 mod field;

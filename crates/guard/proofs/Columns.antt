@@ -1,5 +1,6 @@
 -- What the scans tell of the tables.
---     Giver, giver_found            the lowest role held that gives a right
+--     Giver, giver_found            the lowest role held that gives a right is the first listed that does
+--     giver_lowest, giver_next, giver_none     as a search goes from one role to the next
 --     way_of                        the climb by keys is "reaches"
 --     name_of, child_of_lem         a name among the children, a child
 -- Assumes nothing.
@@ -8,6 +9,7 @@ use Prim.Native.Nat.{ℕ, ◌+◌, ◌*◌, ◌/◌, ◌%◌, ◌^◌, ◌≤◌
 use mathlib.Core.Path.{◌≡◌, refl, sym, ap, ◌∙◌}
 use mathlib.Core.Bool.{Bool, true, false, not}
 use mathlib.Core.List.{List, [], ◌∷◌}
+use native.Mathlib.Decide.{ℕ_discrete}
 use native.Mathlib.Omega.{arith}
 use lib.Dec.{eqb}
 use lib.ListN.{get_or}
@@ -15,8 +17,8 @@ use borrow.Author.Tests.{eqb-true, eq-eqb}
 use Rattle.std.specs.List.{find}
 use Rattle.bitset.specs.Tests.{every, some}
 use Rattle.bitset.specs.Tests.Laws.{both, clash, is_false, not_of_false, of_not_true, every_i, every_at, some_i, some_e}
-use Rattle.bitset.specs.Sets.{has}
-use Rattle.bitset.specs.Sets.Laws.{has_below}
+use Rattle.bitset.specs.Sets.{has, without}
+use Rattle.bitset.specs.Sets.Laws.{has_none, has_below, has_without_other}
 use Rattle.guard.specs.Level.{is_root}
 use Rattle.guard.specs.Told.{lowest}
 use Rattle.guard.specs.Tables.{entity_at, execute, has_right, is_child}
@@ -29,7 +31,7 @@ use Rattle.guard.specs.declared.Role.{Role}
 use Rattle.guard.specs.declared.scan.Right.{Right}
 use Rattle.guard.specs.declared.Tables.{Tables}
 use Rattle.guard.specs.declared.Request.{Request}
-use Rattle.guard.proofs.Laws.Told.{lowest_at, lowest_none}
+use Rattle.guard.proofs.Laws.Told.{lowest_at, lowest_none, lowest_cong}
 use Rattle.guard.proofs.Laws.Sound.{parent_level}
 use Rattle.guard.proofs.Soundness.Climb.{climbs_cong}
 use Rattle.guard.proofs.Soundness.Listed.{found_in, found_none}
@@ -50,6 +52,25 @@ module _ (roles : List Role) (right : Right) (e : ℕ) where
       go (Some r) h =
           let f = found_in _ held r h in
           sym (lowest_at 16 (gives roles held right e) r (has_below 16 held r small f.is) (every_i (has held r ∷ has_by roles right e r ∷ []) (f.is, (f.met, tt))) (λ i l. f.none i (omega arith) l))
+
+  -- as a search goes: the lowest one left is it where it gives the right; else the search goes on without it; and of none there is none
+  pub giver_lowest : (left r : ℕ) → r < 16 → has left r ≡ true → ((i : ℕ) → i < r → has left i ≡ false) → has_by roles right e r ≡ true
+      → Giver left ≡ Some r
+  unfolding every
+  giver_lowest left r l on none met =
+      lowest_at 16 (gives roles left right e) r l (every_i (has left r ∷ has_by roles right e r ∷ []) (on, (met, tt))) (λ i m. rw (none i m))
+
+  pub giver_next : (left r : ℕ) → has_by roles right e r ≡ false → Giver (without left r) ≡ Giver left
+  giver_next left r lacks = lowest_cong 16 _ _ (λ i l. go i (ℕ_discrete i r))
+    where
+      go : (i : ℕ) → Dec (i ≡ r) → gives roles (without left r) right e i ≡ gives roles left right e i
+      go i (yes s) =
+          is_false _ (λ h. clash _ (every_at _ h 1) (rw s lacks)) ∙ sym (is_false (gives roles left right e i) (λ h. clash _ (every_at _ h 1) (rw s lacks)))
+      go i (no s) = rw (has_without_other left r i s)
+
+  pub giver_none : Giver 0 ≡ None
+  unfolding every
+  giver_none = lowest_none 16 _ (λ i l. rw (has_none i))
 
 -- ---- the way up, and the children
 module _ (t : Tables) (ok : sound t ≡ true) (keys : List ℕ) (K : Keys t.entities keys) where

@@ -1,17 +1,18 @@
 -- The walk through the roles held and those below them.
 --     Finds, HeldFinds              a role that meets a test itself or by one below it; one of the roles held that does
---     Walked, walk_start, walk_step, walk_less     the walk: the roles gone through and those that are left; it goes on, and ends
+--     Walked, walk_start, walk_step, walk_on, walk_less     the walk: the roles gone through and those that are left; it goes on, and ends
 --     walk_end, walk_roles          at its end some role gone through meets a test exactly if one held meets it, itself or by one below it
 --     Unions, unions_none, unions_more, unions_all      what the roles gone through give of each right
 --     given_one, met_one, untied_by, met_below     one role alone, one without juniors, and the juniors of one
 --     tie_none, tie_away, tie_last  the test of the ties of one role
 -- Assumes nothing.
-use Prim.Native.Nat.{ℕ, ◌^◌, ◌<◌}
+use Prim.Native.Nat.{ℕ, ◌%◌, ◌^◌, ◌<◌}
 use mathlib.Core.Path.{◌≡◌, refl, sym, ap, ◌∙◌}
 use mathlib.Core.Bool.{Bool, true, false, not, ◌&&◌, ◌||◌, and-true}
 use mathlib.Core.List.{List, [], ◌∷◌}
 use mathlib.Core.Logic.{◌⊎◌, inl, inr, ⊎_elim}
 use native.Mathlib.Decide.{ℕ_discrete}
+use native.Mathlib.Nat.{mod-eq_of_lt}
 use native.Mathlib.Omega.{arith}
 use lib.Bits.{bit_and}
 use lib.Dec.{eqb}
@@ -19,7 +20,7 @@ use borrow.Author.Tests.{eqb-true, eq-eqb}
 use Rattle.bitset.specs.Tests.{every, implies, all, some}
 use Rattle.bitset.specs.Tests.Laws.{both, clash, is_false, not_of_false, of_not_true, of_not_false, every_i, every_at, implies_i, all_i, some_i, some_e, or_l, or_r, or_e}
 use Rattle.bitset.specs.Sets.{has, contains, with, without, join, minus}
-use Rattle.bitset.specs.Sets.Laws.{has_none, has_meet, has_join, has_with_same, has_with_other, has_with_old, has_with_lem, has_either, has_minus_e, has_without_same, has_without_other, has_below, sets_ext, join_lt, with_lt, minus_le}
+use Rattle.bitset.specs.Sets.Laws.{has_low, has_none, has_meet, has_join, has_with_same, has_with_other, has_with_old, has_with_lem, has_either, has_minus_e, has_without_same, has_without_other, has_below, sets_ext, join_lt, with_lt, minus_le}
 use Rattle.guard.specs.Level.{role_level}
 use Rattle.guard.specs.Below.{below, or_below}
 use Rattle.guard.specs.Private.Scan.{tie_by, met_by, tie_test, side, has_by, given, side_of, Gathered}
@@ -69,7 +70,7 @@ module _ (roles : List Role) where
     pub little : done < 2 ^ 16
     pub held_met : (j : ℕ) → has held j ≡ true → (has done j ≡ true) ⊎ (has left j ≡ true)
     pub from_held : (j : ℕ) → (has done j ≡ true) ⊎ (has left j ≡ true) → HeldFinds held (eqb j)
-    pub closed : (a b : ℕ) → has done a ≡ true → tie_by roles a b ≡ true → (has done b ≡ true) ⊎ (has left b ≡ true)
+    pub closed : (a b : ℕ) → b < 16 → has done a ≡ true → tie_by roles a b ≡ true → (has done b ≡ true) ⊎ (has left b ≡ true)
     pub apart : (j : ℕ) → has left j ≡ true → has done j ≡ false
 
   pub walk_start : (held : ℕ) → held < 2 ^ 16 → Walked held 0 held
@@ -79,45 +80,59 @@ module _ (roles : List Role) where
         little = omega arith;
         held_met = λ j h. inr h;
         from_held = λ j. ⊎_elim (λ h. absurd (clash _ h (has_none j))) (λ h. (j, has_below 16 held j small h, h, itself (eq-eqb j j refl)));
-        closed = λ a b h. absurd (clash _ h (has_none a));
+        closed = λ a b k h. absurd (clash _ h (has_none a));
         apart = λ j h. has_none j;
       }
 
-  module _ (held done left r : ℕ) (w : Walked held done left) (l : r < 16) (on : has left r ≡ true) (small : (role_in roles r).juniors < 2 ^ 16) where
+  module _ (held done left r : ℕ) (w : Walked held done left) (l : r < 16) (on : has left r ≡ true) where
+    -- its juniors, of the sixteen roles
+    abbrev juniors : ℕ
+    juniors = (role_in roles r).juniors % 2 ^ 16
+
+    sixteen : juniors < 2 ^ 16
+    sixteen = omega arith
+
     abbrev next : ℕ
-    next = join left (role_in roles r).juniors
+    next = join left juniors
 
     -- a member of next is gone through now, or left
     onward : (j : ℕ) → has next j ≡ true → (has (with done r) j ≡ true) ⊎ (has (minus next (with done r)) j ≡ true)
     onward j = has_either next (with done r) j
 
     of_left : (j : ℕ) → has left j ≡ true → has next j ≡ true
-    of_left j h = has_join left (role_in roles r).juniors j ∙ or_l _ _ h
+    of_left j h = has_join left juniors j ∙ or_l _ _ h
 
-    of_tie : (j : ℕ) → tie_by roles r j ≡ true → has next j ≡ true
-    of_tie j h = has_join left (role_in roles r).juniors j ∙ or_r (has left j) _ h
+    of_tie : (j : ℕ) → j < 16 → tie_by roles r j ≡ true → has next j ≡ true
+    of_tie j k h = has_join left juniors j ∙ or_r (has left j) _ (has_low 16 (role_in roles r).juniors j k ∙ h)
 
     kept : (j : ℕ) → (has done j ≡ true) ⊎ (has left j ≡ true) → (has (with done r) j ≡ true) ⊎ (has (minus next (with done r)) j ≡ true)
     kept j = ⊎_elim (λ h. inl (has_with_old done r j h)) (λ h. onward j (of_left j h))
 
-    below_it : (j : ℕ) → tie_by roles r j ≡ true → HeldFinds held (eqb j)
-    below_it j tie = let (a, k, h, f) = w.from_held r (inr on) in (a, k, h, down r j a (has_below 16 _ j (small) tie) tie f)
+    below_it : (j : ℕ) → has juniors j ≡ true → HeldFinds held (eqb j)
+    below_it j is =
+        let b = has_below 16 _ j sixteen is in
+        let (a, k, h, f) = w.from_held r (inr on) in
+        (a, k, h, down r j a b (sym (has_low 16 (role_in roles r).juniors j b) ∙ is) f)
 
     from : (j : ℕ) → (has (with done r) j ≡ true) ⊎ (has (minus next (with done r)) j ≡ true) → HeldFinds held (eqb j)
     from j (inl h) = ⊎_elim (λ is. rw is (w.from_held r (inr on))) (λ was. w.from_held j (inl was)) (has_with_lem done r j h)
     from j (inr h) =
-        ⊎_elim (λ was. w.from_held j (inr was)) (below_it j) (or_e _ _ (sym (has_join left (role_in roles r).juniors j) ∙ (has_minus_e next (with done r) j h).0))
+        ⊎_elim (λ was. w.from_held j (inr was)) (below_it j) (or_e _ _ (sym (has_join left juniors j) ∙ (has_minus_e next (with done r) j h).0))
 
     pub walk_step : Walked held (with done r) (minus next (with done r))
     walk_step =
         record {
-          small = omega (arith, minus_le next (with done r), join_lt 16 left (role_in roles r).juniors w.small (small));
+          small = omega (arith, minus_le next (with done r), join_lt 16 left juniors w.small sixteen);
           little = with_lt 16 done r w.little l;
           held_met = λ j h. kept j (w.held_met j h);
           from_held = from;
-          closed = λ a b h tie. ⊎_elim (λ is. onward b (of_tie b (rw is at tie))) (λ was. kept b (w.closed a b was tie)) (has_with_lem done r a h);
+          closed = λ a b k h tie. ⊎_elim (λ is. onward b (of_tie b k (rw is at tie))) (λ was. kept b (w.closed a b k was tie)) (has_with_lem done r a h);
           apart = λ j h. (has_minus_e next (with done r) j h).1;
         }
+
+    -- .. of which a role's set of two bytes holds all
+    pub walk_on : (role_in roles r).juniors < 2 ^ 16 → Walked held (with done r) (minus (join left (role_in roles r).juniors) (with done r))
+    walk_on small = rw (mod-eq_of_lt small) at walk_step
 
     pub walk_less : done < with done r
     walk_less = with_more done r (w.apart r on)
@@ -130,7 +145,7 @@ module _ (roles : List Role) where
     -- what a role gone through finds, one gone through meets
     inside : (p : ℕ → Bool) (r : ℕ) → has done r ≡ true → Finds p r → (j : ℕ) × (has done j ≡ true) × (p j ≡ true)
     inside p r h (itself met) = (r, h, met)
-    inside p r h (by m k tie f) = inside p m (no_left m (w.closed r m h tie)) f
+    inside p r h (by m k tie f) = inside p m (no_left m (w.closed r m k h tie)) f
 
     pub walk_end : (p : ℕ → Bool) → (b : Bool) → (b ≡ true → (j : ℕ) × (has done j ≡ true) × (p j ≡ true))
         → ((j : ℕ) → has done j ≡ true → p j ≡ true → b ≡ true)

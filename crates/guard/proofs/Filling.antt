@@ -1,7 +1,7 @@
 -- Lists that a function gives, number by number.
 --     length_tabulate, get_d_tabulate       as many as there are numbers; what stands at one
 --     tabulate_is           a list with these elements is it
---     tabulated       an array that `from_fn` makes
+--     made_at, tabulated     what an array that `from_fn` makes has at a place; the array
 --     every_two       a list of two tests, the first of which is met
 -- Assumes nothing.
 use Prim.Native.Nat.{ℕ, zero, suc, ◌+◌, ◌≤◌, ◌<◌}
@@ -55,7 +55,7 @@ module _ {F B : Type 0} (g : Mut F (ℕ × Unit {0}) B) (f : ℕ → B) (s : F) 
       go (yes e) is f = rw e (here.1 d ∙ is)
       go (no e) is f = f (omega (arith, e)) (omega arith)
 
-  made_at : (n : ℕ) → IsFromFnResult g s ys n → (i : ℕ) (d : B) → i < n → get_or ys i d ≡ f i
+  pub made_at : (n : ℕ) → IsFromFnResult g s ys n → (i : ℕ) (d : B) → i < n → get_or ys i d ≡ f i
   made_at n made i d h = made_from n 0 made.each i d (omega arith) (omega arith)
 
   pub tabulated : (n : ℕ) → IsFromFnResult g s ys n → ys ≡ tabulate n f

@@ -1,8 +1,10 @@
 // The numbers of a request, looked up once: where its records stand, or nothing where one that its kind uses is past its range.
-ghost use Rattle.std.specs.Prelude.{◌<◌, ◌≡◌, cond, eqb, IfSome, is_some};
+ghost use Rattle.std.specs.Prelude.{◌<◌, ◌≡◌, cond, eqb, IfSome, is_some, false};
+ghost use Rattle.guard.specs.Requests.{rule_of};
 ghost use Rattle.guard.specs.Kind as kind;
-ghost use Rattle.guard.specs.Private.Inside.{Below, Placed, asks_way, asks_name, asks_rights};
+ghost use Rattle.guard.specs.Private.Inside.{Below, Placed, number, asks_way, asks_name, asks_rights};
 ghost use Rattle.guard.specs.Private.InForce.{in_ranges};
+ghost use Rattle.guard.specs.declared.Tables.{Tables as TablesOf};
 
 use crate::{Request, kinds, sizes};
 
@@ -59,10 +61,12 @@ fn fits(q: Request) -> bool
     }
 }
 
-// None where a number that the request's kind uses is past its range.
+// None where a number that the request's kind uses is past its range: by the rule of its number it is answered 2, whatever the tables
+// hold.
 pub fn look_up(q: Request) -> Option<Places>
     ensures some { IfSome result (Placed q) }
     ensures fits { is_some result ≡ in_ranges q }
+    ensures refused { is_some result ≡ false → (t : TablesOf) → number (rule_of q) t q ≡ 2 }
 {
     if !fits(q) {
         return None;

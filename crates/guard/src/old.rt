@@ -4,6 +4,7 @@ ghost use Rattle.guard.specs.Old.{label_taken, user_taken, session_taken, role_t
 
 use crate::sizes::{EDITION_1, ENTITIES, ROLES, SESSIONS, USERS};
 use crate::{Entity, Label, Role, Session, Tables, User};
+use std::array;
 
 // The records that hold a label, and roles, which had no juniors. All else in them is as in `User`, `Session`, `Role`, `Entity` and
 // `Tables`.
@@ -130,10 +131,10 @@ impl OldTables {
         ensures { result ≡ taken_over self }
     {
         Tables {
-            users: self.users.map(User::from),
-            sessions: self.sessions.map(Session::from),
-            roles: self.roles.map(Role::from),
-            entities: self.entities.map(Entity::from),
+            users: array::from_fn(|i| User::from(self.users[i])),
+            sessions: array::from_fn(|i| Session::from(self.sessions[i])),
+            roles: array::from_fn(|i| Role::from(self.roles[i])),
+            entities: array::from_fn(|i| Entity::from(self.entities[i])),
             edition: EDITION_1,
         }
     }

@@ -1,5 +1,6 @@
 -- The first value of a line, and where it ends.
 --     leading_place                                    where it ends
+--     span_space, span_line, span_more, span_end       the loop that looks for its end
 --     before_drop, before_rest                         what stands before a byte, from some byte on
 --     before_again, before_part, before_all            what holds no such byte
 --     lead_most, lead_take, lead_more, lead_last       the first value of a line; whether a space stands behind it
@@ -12,9 +13,10 @@ use mathlib.Core.Path.{◌≡◌, refl, ap, sym, ◌∙◌}
 use mathlib.Core.Bool.{Bool, true, false, not, cond, ◌&&◌, ◌||◌}
 use mathlib.Core.List.{List, [], ◌∷◌, ◌++◌}
 use native.Mathlib.Numerals.{add-one}
+use native.Mathlib.Nat.{add-zero}
 use native.Mathlib.Omega.{arith}
 use lib.Dec.{eqb}
-use lib.ListN.{length, get_or, take, drop, length-drop}
+use lib.ListN.{length, get_or, take, drop, length-drop, drop_of_length-le}
 use lib.Seq.{drop-cons, length-take-le, take_all}
 use borrow.Author.Tests.{eqb-true, ne_eqb}
 use Rattle.bitset.specs.Tests.Laws.{or-true, or-false}
@@ -33,6 +35,24 @@ leading_place x xs = go (eqb x 10)
         last : (t : Bool) → length (cond t [] (x ∷ before 32 (before 10 xs))) ≡ cond t 0 (1 + length (leading xs))
         last true = refl
         last false = omega arith
+
+-- ---- byte by byte, where the first i hold no space and no byte 10
+module _ (s : List ℕ) (i : ℕ) (h : length (leading s) ≡ i + length (leading (drop i s))) where
+  pub span_space : i < length s → get_or s i 0 ≡ 32 → i ≡ length (leading s)
+  unfolding before
+  span_space l e = sym (h ∙ (rw (drop-cons s i 0 l, e, add-zero)))
+
+  pub span_line : i < length s → get_or s i 0 ≡ 10 → i ≡ length (leading s)
+  unfolding before
+  span_line l e = sym (h ∙ (rw (drop-cons s i 0 l, e, add-zero)))
+
+  pub span_more : i < length s → (get_or s i 0 ≡ 32 → ⊥) → (get_or s i 0 ≡ 10 → ⊥) → length (leading s) ≡ (i + 1) + length (leading (drop (i + 1) s))
+  unfolding before
+  span_more l e f = h ∙ (rw (drop-cons s i 0 l, ne_eqb (get_or s i 0) 10 f, ne_eqb (get_or s i 0) 32 e, add-one) (omega arith))
+
+  pub span_end : length s ≤ i → i ≡ length (leading s)
+  unfolding before
+  span_end l = sym (h ∙ (rw (drop_of_length-le s l, add-zero)))
 
 -- ---- what stands before a byte, from byte n on
 pub before_drop : (d n : ℕ) (s : List ℕ) → n ≤ length (before d s) → drop n (before d s) ≡ before d (drop n s)

@@ -19,9 +19,20 @@ pub fn find(s: &[u8], d: u8) -> usize
 pub fn span(s: &[u8]) -> usize
     ensures { result ≡ length (leading s.now) }
 {
-    s.iter()
-        .position(|&b| b == b' ' || b == b'\n')
-        .unwrap_or(s.len())
+    // Most bytes are above both, and one comparison tells it. By `position` each byte is compared with the two, a quarter more instructions
+    // for a long value.
+    for (i, &b) in s.iter().enumerate() {
+        if b' ' < b {
+            continue;
+        }
+        if b == b' ' {
+            return i;
+        }
+        if b == b'\n' {
+            return i;
+        }
+    }
+    s.len()
 }
 
 // Where the line ends that goes on at `from`.

@@ -8,10 +8,10 @@
 mod host;
 
 use cases::folder;
-use host::Cut;
+use host::{Again, Cut, Input};
 use std::alloc::{AllocError, Global};
+use std::io;
 use std::rt::Files;
-use std::{io, iter};
 
 // The part of a long input, from `from` up to `to`, that comes `again` more times. It makes a long input of a short file.
 #[derive(Clone, Copy)]
@@ -59,6 +59,9 @@ const MOST: usize = 65536;
 
 const MOST_LISTED: usize = 4096;
 
+// Room for the longest output: 65,534 lines.
+const MOST_PRINTED: usize = 600000;
+
 const WHOLE: Cut = Cut {
     piece: 65536,
     room: 65536,
@@ -71,27 +74,24 @@ const LONG_PIECES: [usize; 3] = [64, 300, 1000];
 const ROOMS: [usize; 3] = [12, 13, 100];
 
 // The text, with the part that comes again, if it is that long.
-fn repeated(alloc: Global, text: &[u8], part: &Part) -> Result<Vec<u8>, AllocError> {
+fn repeated<'a>(text: &'a [u8], part: &Part) -> Input<'a> {
     let (front, end) = text.split_at(part.to.min(text.len()));
     let again = text.get(part.from..part.to).unwrap_or(&[]);
-    front
-        .iter()
-        .chain(iter::repeat_n(again, part.again).flatten())
-        .chain(end)
-        .copied()
-        .collect(alloc)
+    Input::new(front, again, part.again, end)
 }
 
 // How many ways of cutting the input print the same, up to the first that does not.
 fn ways(
     alloc: Global,
-    input: &[u8],
+    input: Input,
     pieces: &[usize; 3],
     whole: &[u8],
 ) -> Result<usize, AllocError> {
     let cuts = pieces.iter().flat_map(|&piece| ROOMS.iter().map(move |&room| Cut { piece, room }));
     for (same, cut) in cuts.enumerate() {
-        if host::printed(alloc, input, cut)?.as_slice() != whole {
+        let mut again = Again::new(whole);
+        host::run(alloc, input, cut, &mut again)?;
+        if !again.is_same() {
             return Ok(same);
         }
     }
@@ -127,15 +127,12 @@ fn case(
     let length = text.len();
     rt.write_all(name)?;
     println!(rt; ": {length}")?;
-    let long;
     let (input, pieces) = match part {
-        Some(part) => {
-            long = repeated(rt.alloc(), text, part)?;
-            (long.as_slice(), &LONG_PIECES)
-        }
-        None => (text, &PIECES),
+        Some(part) => (repeated(text, part), &LONG_PIECES),
+        None => (Input::new(text, &[], 0, &[]), &PIECES),
     };
-    let whole = host::printed(rt.alloc(), input, WHOLE)?;
+    let mut whole = Vec::with_capacity(rt.alloc(), MOST_PRINTED)?;
+    host::run(rt.alloc(), input, WHOLE, &mut whole)?;
     show(rt, &whole)?;
     let same = ways(rt.alloc(), input, pieces, &whole)?;
     println!(rt; "same: {same}")

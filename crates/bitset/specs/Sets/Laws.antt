@@ -5,22 +5,22 @@
 --     has_with_same, has_with_other, has_with_old, has_with_lem     s and one member
 --     has_without_same, has_without_other, has_without          s less one member
 --     has_either, has_minus_e                                   a member of s and what is left of s without another set
---     has_past, has_below                                       a set of w bits has members below w
+--     has_past, has_below, has_low                              a set of w bits has members below w; cut to w bits, those that it had
 --     join_lt, with_lt, minus_add_meet, minus_le, without_le    sizes
 --     join_none, minus_all, minus_zero_l, without_none          against 0
 --     contains_has, has_contains, contains_all                  containment by mask is containment of sets
 --     contains_refl, contains_trans, contains_antisym, contains_le, contains_zero, contains_in_zero
 -- The laws of `from` are in Shift, those of `keeping` in Keeping. Assumes nothing.
-use Rattle.std.specs.Prelude.{ℕ, zero, suc, ◌+◌, ◌/◌, ◌%◌, ◌^◌, ◌≤◌, ◌<◌, Bool, true, false, not, ◌&&◌, ◌||◌, cond, ◌≡◌, refl, ◌⊎◌, eqb}
+use Rattle.std.specs.Prelude.{ℕ, zero, suc, ◌+◌, ◌-◌, ◌/◌, ◌%◌, ◌^◌, ◌≤◌, ◌<◌, Bool, true, false, not, ◌&&◌, ◌||◌, cond, ◌≡◌, refl, ◌⊎◌, eqb}
 use Rattle.std.proofs.Math.Bool.{and-true, and-false, or-true, or-false, and-not_self, and_self_left, and-eq-true_iff}
 use Rattle.std.proofs.Common.{sym, ap, ◌∙◌, inl, inr, ⊎_elim, div-one, lt_of_lt_of_le, pow-suc, one-add, arith, pow_mono, shr-shr, eqb-true, eq-eqb, ne_eqb}
 use Rattle.std.proofs.Math.Decide.{dec_lt, ℕ_discrete}
-use Rattle.std.proofs.Math.Nat.{zero-div, div-eq_of_lt, mul-mod_left}
+use Rattle.std.proofs.Math.Nat.{zero-div, div-eq_of_lt, mul-mod_left, mod-lt}
 use Rattle.std.proofs.Math.Arith.{half_le}
 use Rattle.std.specs.Int.Bits.{bit_and, bit_or, xor_add_and}
-use Rattle.std.proofs.lemmas.Nat.{and_shr, or_shr, xor_shr, and_mod, or_mod, xor_mod, or_lt, and_le_l}
+use Rattle.std.proofs.lemmas.Nat.{pow_pos, mod-pow-add, div-mul-add, and_shr, or_shr, xor_shr, and_mod, or_mod, xor_mod, or_lt, and_le_l}
 use Rattle.std.proofs.Math.Dec.{eqb-zero-suc, eqb-suc-zero, eqb-suc-suc}
-use Rattle.std.proofs.Math.Pow.{pow-lt}
+use Rattle.std.proofs.Math.Pow.{pow-lt, mod-mod-pow}
 use Rattle.bitset.specs.Sets.{has, join, minus, contains, with, without}
 use Rattle.bitset.specs.Tests.{all, implies}
 use Rattle.bitset.specs.Tests.Laws.{decide, both, clash, all_i, all_e, implies_i, implies_e}
@@ -179,6 +179,26 @@ has_below w s i h e = go (dec_lt i w)
     go : Dec (i < w) → i < w
     go (yes l) = l
     go (no l) = absurd (clash (has s i) e (has_past w s i h (omega arith)))
+
+-- a set cut to w bits keeps its members below w
+pub has_low : (w s i : ℕ) → i < w → has (s % 2 ^ w) i ≡ has s i
+has_low w s i l = has_digit (s % 2 ^ w) i ∙ ap (λ d. eqb d 1) same ∙ sym (has_digit s i)
+  where
+    -- how many bits stand above i
+    above : ℕ
+    above = w - i - 1
+
+    split : w ≡ (above + 1) + i
+    split = omega arith
+
+    quotient : s % 2 ^ w / 2 ^ i ≡ s / 2 ^ i % 2 ^ (above + 1)
+    quotient =
+        ap (λ n. s % 2 ^ n / 2 ^ i) split
+        ∙ ap (λ n. n / 2 ^ i) (mod-pow-add s (above + 1) i)
+        ∙ div-mul-add (s / 2 ^ i % 2 ^ (above + 1)) (2 ^ i) (s % 2 ^ i) (mod-lt s (pow_pos i))
+
+    same : s % 2 ^ w / 2 ^ i % 2 ≡ s / 2 ^ i % 2
+    same = ap (λ n. n % 2) quotient ∙ mod-mod-pow (s / 2 ^ i) above 1
 
 pub join_lt : (w a b : ℕ) → a < 2 ^ w → b < 2 ^ w → join a b < 2 ^ w
 unfolding join

@@ -16,6 +16,7 @@ use crate::sizes::{
 };
 use crate::{Entity, Label, Role, Session, backing, scan};
 use bitset::Set;
+use std::array;
 
 // How many sets of categories there are, and the last of them; and what stands for the label of what is not live, above all
 // labels.
@@ -40,7 +41,7 @@ fn label_of(n: Entity) -> u32
 pub fn labels(entities: [Entity; ENTITIES]) -> [u32; ENTITIES]
     ensures { (e : ℕ) → e < entity_count → get_or result e 0 ≡ label_number (get_or entities e no_entity) }
 {
-    entities.map(label_of)
+    array::from_fn(|e| label_of(entities[e]))
 }
 
 // Whether `label` dominates the label of each member of `set`.

@@ -8,6 +8,7 @@ ghost use Rattle.guard.specs.Private.Scan.{Keys};
 
 use crate::Entity;
 use crate::sizes::{BLOCK, ENTITIES, ENTITY_END, LEVEL_ENTITIES};
+use std::array;
 
 // How many names there are: a key is the parent times this, and the name.
 pub const NAMES: u32 = 65536;
@@ -29,7 +30,7 @@ pub fn key(n: Entity) -> u32
 pub fn keys(entities: [Entity; ENTITIES]) -> [u32; ENTITIES]
     ensures { Keys entities result }
 {
-    entities.map(key)
+    array::from_fn(|e| key(entities[e]))
 }
 
 // The entities that are live: of a key, bit 24 alone tells it.

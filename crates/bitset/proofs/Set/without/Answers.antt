@@ -2,6 +2,7 @@
 use Rattle.std.proofs.Common.{arith, sym, ap, ◌∙◌}
 use Rattle.bitset.specs.Sets.{without}
 use Rattle.bitset.proofs.Words.{without_word, without_past}
+use native.Mathlib.Nat.{mod-eq_of_lt}
 use Rattle.bitset.proofs.Set.without.Goals as goal
 
 pub returns-then-WIDTH-i : goal.returns-then-WIDTH-i
@@ -10,8 +11,5 @@ returns-then-WIDTH-i g c =
     ∙ without_past g.Self.Set.WIDTH _ _ c.widened-set.ensures.fits (omega (arith, c.WIDTH.ensures, c.if-WIDTH-i.true))
     ∙ c.widened-set.ensures.same)
 
-pub narrowed-requires : goal.narrowed-requires
-narrowed-requires g c = (without_word _ _ _ _ c.widened-set.ensures.same c.widened-set.ensures.fits c.widened-set.type_inv (omega (arith, c.WIDTH.ensures, c.if-WIDTH-i.false, g.met.Self.Set.bits.1))).0
-
 pub returns : goal.returns
-returns g c = c.narrowed.ensures ∙ (without_word _ _ _ _ c.widened-set.ensures.same c.widened-set.ensures.fits c.widened-set.type_inv (omega (arith, c.WIDTH.ensures, c.if-WIDTH-i.false, g.met.Self.Set.bits.1))).1
+returns g c = let of = without_word _ _ _ _ c.widened-set.ensures.same c.widened-set.ensures.fits c.widened-set.type_inv (omega (arith, c.WIDTH.ensures, c.if-WIDTH-i.false, g.met.Self.Set.bits.1)) in c.narrowed.ensures ∙ mod-eq_of_lt of.0 ∙ of.1

@@ -1,6 +1,5 @@
 -- `run` is the log of its rows: each turn of the loop looks up what a request concerns, decides it and stores what it does. Assumes nothing.
 use Rattle.std.specs.Prelude.{Option, Some, IfSome}
-use Rattle.guard.proofs.Answers.{out_of_range}
 use Prim.Native.Nat.{ℕ, ◌+◌, ◌<◌}
 use mathlib.Core.Path.{◌≡◌, refl, sym, ap, subst, ◌∙◌}
 use mathlib.Core.Bool.{cond}
@@ -120,7 +119,7 @@ pub loop-i-preserved-in_default : goal.loop-i-preserved-in_default
 loop-i-preserved-in_default c =
     let held = c.loop-i.invariant.1 in
     turned held c.loop-i-test.true c.loop-i.invariant.0 c.request-q.ensures _ _
-    (refuses _ _ _ held.is_sound (out_of_range _ _ (sym c.in_default.ensures.fits)) (λ e. omega arith) _ c.byte.ensures) _ held.by_keys
+    (refuses _ _ _ held.is_sound (sym (c.in_default.ensures.refused refl _)) (λ e. omega arith) _ c.byte.ensures) _ held.by_keys
 
 pub apply-told-requires : goal.apply-told-requires
 apply-told-requires c =

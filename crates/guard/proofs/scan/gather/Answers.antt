@@ -4,7 +4,7 @@ use native.Mathlib.Omega.{arith}
 use Rattle.bitset.specs.Sets.{join}
 use Rattle.bitset.specs.Sets.Laws.{with_lt}
 use Rattle.guard.proofs.Soundness.Members.{lowest}
-use Rattle.guard.proofs.Descent.{walk_start, walk_step, walk_less, unions_none, unions_more, unions_all}
+use Rattle.guard.proofs.Descent.{walk_start, walk_on, walk_less, unions_none, unions_more, unions_all}
 use Rattle.guard.proofs.scan.gather.Goals as goal
 
 pub loop-left-init : goal.loop-left-init
@@ -17,7 +17,7 @@ loop-left-smaller c =
     let (l, on) = lowest 16 c.loop-left.left (omega arith) c.loop-left.invariant.0.small in
     let at = c.loop-left in
     rw (c.with.ensures, mod-eq_of_lt l)
-    (omega (arith, walk_less c.args.roles.now _ at.rights.roles at.left _ at.invariant.0 l on (omega arith), at.invariant.0.little, with_lt 16 at.rights.roles _ at.invariant.0.little l))
+    (omega (arith, walk_less c.args.roles.now _ at.rights.roles at.left _ at.invariant.0 l on, at.invariant.0.little, with_lt 16 at.rights.roles _ at.invariant.0.little l))
 
 pub loop-left-preserved : goal.loop-left-preserved
 unfolding join
@@ -25,7 +25,7 @@ loop-left-preserved c =
     let (l, on) = lowest 16 c.loop-left.left (omega arith) c.loop-left.invariant.0.small in
     let at = c.loop-left in
     rw (c.minus-left.ensures, c.with.ensures, mod-eq_of_lt l)
-    (walk_step c.args.roles.now _ at.rights.roles at.left _ at.invariant.0 l on (omega arith), unions_more _ at.rights _ l at.invariant.1)
+    (walk_on c.args.roles.now _ at.rights.roles at.left _ at.invariant.0 l on (omega arith), unions_more _ at.rights _ l at.invariant.1)
 
 pub returns : goal.returns
 returns c = let at = c.loop-left in unions_all _ _ _ _ at.invariant.0 c.loop-left-test.false at.invariant.1

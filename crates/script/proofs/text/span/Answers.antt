@@ -1,16 +1,20 @@
 -- `script::text::span` looks for the end of the first value. Assumes nothing.
-use mathlib.Core.Path.{refl}
-use Rattle.std.proofs.Common.{ℕ, List, length, eqb, ◌||◌, rules, tests}
-use Rattle.std.proofs.lemmas.Iterator.{YieldsList-from_slice}
-use Rattle.std.proofs.lemmas.Iterator.Search.{position_from_yields_List}
-use Rattle.script.specs.Private.Slices.{before, leading}
-use Rattle.script.proofs.Texts.{first_place}
-use Rattle.script.proofs.FirstValue.{leading_place}
+use mathlib.Core.Path.{◌∙◌}
+use native.Mathlib.Omega.{arith}
+use Rattle.script.proofs.FirstValue.{span_space, span_line, span_more, span_end}
 use Rattle.script.proofs.text.span.Goals as goal
 
+pub loop-i-preserved-then-b-gt32 : goal.loop-i-preserved-then-b-gt32
+loop-i-preserved-then-b-gt32 c = span_more _ _ c.loop-i.invariant (omega arith) (λ e. omega arith) (λ e. omega arith)
+
+pub returns-then-b-eq32 : goal.returns-then-b-eq32
+returns-then-b-eq32 c = span_space _ _ c.loop-i.invariant (omega arith) c.if-b-eq32.true
+
+pub returns-then-b-eq10 : goal.returns-then-b-eq10
+returns-then-b-eq10 c = span_line _ _ c.loop-i.invariant (omega arith) c.if-b-eq10.true
+
+pub loop-i-preserved : goal.loop-i-preserved
+loop-i-preserved c = span_more _ _ c.loop-i.invariant (omega arith) c.if-b-eq32.false c.if-b-eq10.false
+
 pub returns : goal.returns
-unfolding before
-returns c =
-    first_place (λ (s : List ℕ). length (leading s)) (λ b. eqb b 32 || eqb b 10) refl leading_place c.args.s.now
-    (position_from_yields_List (λ b. eqb b 32 || eqb b 10) _ _ _ c.position.ensures.ran (YieldsList-from_slice c.args.s.now cc) (λ x b q k. search (rules, tests)))
-    c.unwrap_or.ensures
+returns c = omega arith ∙ span_end _ _ c.loop-i.invariant (omega arith)
