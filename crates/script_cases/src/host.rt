@@ -1,5 +1,5 @@
-// A host that hands an input over in pieces and lends little room for output. Neither is held whole: the input's bytes come from
-// the file's text as a piece is filled, and what is printed is handed on as it comes.
+// A host that hands an input over in pieces and lends little room for output. A long input and what is printed are not held whole: the
+// input's bytes come from the file's text as a piece is filled, and what is printed is handed on as it comes.
 ghost use Rattle.std.specs.Prelude.{◌≤◌, length};
 
 use script::runner::Runner;
